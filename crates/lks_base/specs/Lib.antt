@@ -1,0 +1,4 @@
+pub mod Checking
+pub mod Counted
+pub mod Kinds
+pub mod Sizes

@@ -1,0 +1,243 @@
+//! Whether a plan is good, and if not, which rule it breaks first.
+
+ghost use Rattle.std.specs.Prelude.{◌≡◌, ◌+◌, ◌<◌, IfSome, IfNone, nat_le, []};
+ghost use Rattle.lks_base.specs.Checking.{fault_of, unless, each, is_within, are_bounded, are_ordered, has_au, au_fault, has_peer, has_member, member_fault, has_counted, has_copy, are_short, copy_fault, is_bare, is_fit, peer_fault, bytes_of_blocks, bytes_of_copies, bytes_of_peers, plan_fault};
+
+use crate::lists::Bytes;
+use crate::plans::{AuPlan, Holding, PeerPlan, Plan, PlanFault, Rules};
+
+/// The most bytes that all copies of a plan have together.
+const MOST_BYTES: usize = 134_217_728;
+
+/// The most bytes that a block has.
+const MOST_BLOCK_BYTES: usize = 16_384;
+
+fn rule(test: bool, fault: PlanFault) -> Result<(), PlanFault>
+    ensures { fault_of result ≡ unless test fault }
+{
+    if test { Ok(()) } else { Err(fault) }
+}
+
+fn within(low: usize, high: usize, n: usize) -> bool
+    ensures { result ≡ is_within low high n }
+{
+    low <= n && n <= high
+}
+
+#[tactic(auto, unfolding(crate::specs::Checking::are_bounded))]
+fn bounded(rules: &Rules) -> bool
+    ensures { result ≡ are_bounded rules.now }
+{
+    within(1, 16, rules.inner as usize)
+        && 1 <= rules.quorum
+        && rules.outer <= 16
+        && rules.repairs <= 512
+        && rules.pace <= 1_000_000
+        && rules.refractory <= 1_000_000
+        && rules.overdue <= 1_000_000
+        && rules.unknown_pct <= 100
+        && rules.debt_pct <= 100
+        && rules.churn <= 16
+}
+
+#[tactic(auto, unfolding(crate::specs::Checking::are_ordered))]
+fn ordered(rules: &Rules) -> bool
+    ensures { result ≡ are_ordered rules.now }
+{
+    2 * u32::from(rules.minority) < u32::from(rules.quorum) && rules.quorum <= rules.inner
+}
+
+#[tactic(auto, unfolding(crate::specs::Checking::has_au))]
+fn knows_au(aus: &[AuPlan], id: u16) -> bool
+    ensures { result ≡ has_au aus.now id }
+{
+    aus.iter().any(|a| a.id == id)
+}
+
+#[tactic(auto, unfolding(crate::specs::Checking::au_fault))]
+fn check_au(before: &[AuPlan], au: &AuPlan) -> Result<(), PlanFault>
+    ensures { fault_of result ≡ au_fault before.now au.now }
+{
+    rule(within(1, 512, au.count as usize), PlanFault::Bounds)?;
+    rule(!knows_au(before, au.id), PlanFault::Repeat)
+}
+
+fn check_aus(aus: &[AuPlan]) -> Result<(), PlanFault>
+    ensures { fault_of result ≡ each au_fault [] aus.now }
+{
+    for (i, au) in aus.iter().enumerate() {
+        check_au(&aus[..i], au)?;
+    }
+    Ok(())
+}
+
+#[tactic(auto, unfolding(crate::specs::Checking::has_peer))]
+fn knows_peer(peers: &[PeerPlan], id: u16) -> bool
+    ensures { result ≡ has_peer peers.now id }
+{
+    peers.iter().any(|p| p.id == id)
+}
+
+#[tactic(auto, unfolding(crate::specs::Checking::has_member))]
+fn lists(ids: &[u16], id: u16) -> bool
+    ensures { result ≡ has_member ids.now id }
+{
+    ids.iter().any(|i| *i == id)
+}
+
+#[tactic(auto, unfolding(crate::specs::Checking::member_fault))]
+fn check_member(peers: &[PeerPlan], own: u16, before: &[u16], id: u16) -> Result<(), PlanFault>
+    ensures { fault_of result ≡ member_fault peers.now own before.now id }
+{
+    rule(id != own, PlanFault::SelfListed)?;
+    rule(knows_peer(peers, id), PlanFault::UnknownPeer)?;
+    rule(!lists(before, id), PlanFault::Repeat)
+}
+
+fn check_members(peers: &[PeerPlan], own: u16, ids: &[u16]) -> Result<(), PlanFault>
+    ensures { fault_of result ≡ each (member_fault peers.now own) [] ids.now }
+{
+    for (i, id) in ids.iter().enumerate() {
+        check_member(peers, own, &ids[..i], *id)?;
+    }
+    Ok(())
+}
+
+#[tactic(auto, unfolding(crate::specs::Checking::has_counted))]
+fn counts(aus: &[AuPlan], au: u16, count: usize) -> bool
+    ensures { result ≡ has_counted aus.now au count }
+{
+    aus.iter().any(|a| a.id == au && a.count as usize == count)
+}
+
+#[tactic(auto, unfolding(crate::specs::Checking::has_copy))]
+fn copied(copies: &[Holding], au: u16) -> bool
+    ensures { result ≡ has_copy copies.now au }
+{
+    copies.iter().any(|c| c.au == au)
+}
+
+#[tactic(auto, unfolding(crate::specs::Checking::are_short))]
+fn short(blocks: &[Bytes]) -> bool
+    ensures { result ≡ are_short blocks.now }
+{
+    blocks
+        .iter()
+        .all(|b| b.as_slice().len() <= MOST_BLOCK_BYTES)
+}
+
+#[tactic(auto, unfolding(crate::specs::Checking::copy_fault))]
+fn check_copy(aus: &[AuPlan], before: &[Holding], copy: &Holding) -> Result<(), PlanFault>
+    ensures { fault_of result ≡ copy_fault aus.now before.now copy.now }
+{
+    let blocks = copy.blocks.as_slice();
+    rule(counts(aus, copy.au, blocks.len()), PlanFault::BlockCount)?;
+    rule(!copied(before, copy.au), PlanFault::Repeat)?;
+    rule(short(blocks), PlanFault::Bounds)
+}
+
+fn check_copies(aus: &[AuPlan], copies: &[Holding]) -> Result<(), PlanFault>
+    ensures { fault_of result ≡ each (copy_fault aus.now) [] copies.now }
+{
+    for (i, copy) in copies.iter().enumerate() {
+        check_copy(aus, &copies[..i], copy)?;
+    }
+    Ok(())
+}
+
+#[tactic(auto, unfolding(crate::specs::Checking::is_bare))]
+fn bare(peer: &PeerPlan) -> bool
+    ensures { result ≡ is_bare peer.now }
+{
+    peer.refs.as_slice().len() == 0
+        && peer.friends.as_slice().len() == 0
+        && peer.copies.as_slice().len() == 0
+}
+
+#[tactic(auto, unfolding(crate::specs::Checking::is_fit))]
+fn fit(peer: &PeerPlan) -> bool
+    ensures { result ≡ is_fit peer.now }
+{
+    peer.proof.as_slice().len() <= 64 && (!peer.corrupt || bare(peer))
+}
+
+#[tactic(auto, unfolding(crate::specs::Checking::peer_fault))]
+fn check_peer(
+    aus: &[AuPlan],
+    peers: &[PeerPlan],
+    before: &[PeerPlan],
+    peer: &PeerPlan,
+) -> Result<(), PlanFault>
+    ensures { fault_of result ≡ peer_fault aus.now peers.now before.now peer.now }
+{
+    rule(fit(peer), PlanFault::Bounds)?;
+    rule(!knows_peer(before, peer.id), PlanFault::Repeat)?;
+    check_members(peers, peer.id, peer.refs.as_slice())?;
+    check_members(peers, peer.id, peer.friends.as_slice())?;
+    check_copies(aus, peer.copies.as_slice())
+}
+
+fn check_peers(aus: &[AuPlan], peers: &[PeerPlan]) -> Result<(), PlanFault>
+    ensures { fault_of result ≡ each (peer_fault aus.now peers.now) [] peers.now }
+{
+    for (i, peer) in peers.iter().enumerate() {
+        check_peer(aus, peers, &peers[..i], peer)?;
+    }
+    Ok(())
+}
+
+// What is left of `room` after these blocks, if they go into it.
+fn room_after_blocks(mut room: usize, blocks: &[Bytes]) -> Option<usize>
+    ensures enough { IfSome result (λ left. left + bytes_of_blocks blocks.now ≡ room) }
+    ensures wanting { IfNone result (room < bytes_of_blocks blocks.now) }
+{
+    for block in blocks {
+        room = room.checked_sub(block.as_slice().len())?;
+    }
+    Some(room)
+}
+
+fn room_after_copies(mut room: usize, copies: &[Holding]) -> Option<usize>
+    ensures enough { IfSome result (λ left. left + bytes_of_copies copies.now ≡ room) }
+    ensures wanting { IfNone result (room < bytes_of_copies copies.now) }
+{
+    for copy in copies {
+        room = room_after_blocks(room, copy.blocks.as_slice())?;
+    }
+    Some(room)
+}
+
+fn room_after_peers(mut room: usize, peers: &[PeerPlan]) -> Option<usize>
+    ensures enough { IfSome result (λ left. left + bytes_of_peers peers.now ≡ room) }
+    ensures wanting { IfNone result (room < bytes_of_peers peers.now) }
+{
+    for peer in peers {
+        room = room_after_copies(room, peer.copies.as_slice())?;
+    }
+    Some(room)
+}
+
+fn few_bytes(peers: &[PeerPlan]) -> bool
+    ensures { result ≡ nat_le (bytes_of_peers peers.now) 134217728 }
+{
+    room_after_peers(MOST_BYTES, peers).is_some()
+}
+
+impl Plan {
+    /// Whether the plan is good: if not, the first rule that it breaks.
+    #[tactic(auto, unfolding(crate::specs::Checking::plan_fault))]
+    pub fn check(&self) -> Result<(), PlanFault>
+        ensures { fault_of result ≡ plan_fault self.now }
+    {
+        let aus = self.aus.as_slice();
+        let peers = self.peers.as_slice();
+        rule(bounded(&self.rules), PlanFault::Bounds)?;
+        rule(ordered(&self.rules), PlanFault::RulesOrder)?;
+        rule(self.turns <= 4096, PlanFault::Bounds)?;
+        rule(within(1, 4, aus.len()), PlanFault::Bounds)?;
+        check_aus(aus)?;
+        rule(within(1, 32, peers.len()), PlanFault::Bounds)?;
+        check_peers(aus, peers)?;
+        rule(few_bytes(peers), PlanFault::Bounds)
+    }
+}

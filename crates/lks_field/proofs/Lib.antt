@@ -1,0 +1,3 @@
+pub mod Takes
+pub mod Numbers
+pub mod Counted

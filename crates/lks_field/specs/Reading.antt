@@ -1,0 +1,55 @@
+-- Reading fields from the left: a field's value and the bytes after it, or the fault.
+use Rattle.std.specs.Prelude.{◌≡◌, ℕ, zero, suc, List, [], ◌∷◌, length, take, drop, Result, Ok, Err, nat_lt, if◌then◌else◌}
+use Rattle.std.specs.Int.{Width, byte_len, from_be_bytes}
+use Rattle.lks_field.specs.declared.fault.FieldFault.{FieldFault}
+use Rattle.lks_field.specs.declared.fault.FieldFault.TheVariants.{Short, Value, Long}
+
+infixl 10 ◌>>=◌
+abbrev pub ◌>>=◌ : {A B E : Type 0} → Result A E → (A → Result B E) → Result B E
+(Ok x) >>= f = f x
+(Err e) >>= f = Err e
+
+abbrev pub byte_at : List ℕ → Result (ℕ × List ℕ) FieldFault
+byte_at [] = Err Short
+byte_at (b ∷ rest) = Ok (b, rest)
+
+abbrev pub bytes_at : ℕ → List ℕ → Result (List ℕ × List ℕ) FieldFault
+bytes_at n bytes = if nat_lt (length bytes) n then Err Short else Ok (take n bytes, drop n bytes)
+
+-- the 32 bytes of a hash or a nonce
+unfoldable pub hash_at : List ℕ → Result (List ℕ × List ℕ) FieldFault
+hash_at bytes = bytes_at 32 bytes
+
+abbrev pub number_at : Width → List ℕ → Result (ℕ × List ℕ) FieldFault
+number_at w bytes = if nat_lt (length bytes) (byte_len w) then Err Short else Ok (from_be_bytes w (take (byte_len w) bytes), drop (byte_len w) bytes)
+
+-- a number that is at most this
+unfoldable pub upto_at : ℕ → (List ℕ → Result (ℕ × List ℕ) FieldFault) → List ℕ → Result (ℕ × List ℕ) FieldFault
+upto_at most reader bytes = do
+  n ← reader bytes
+  if nat_lt most n.0 then Err Value else Ok n
+
+-- this many values, one after another
+unfoldable pub many_at : {X E : Type 0} → (List ℕ → Result (X × List ℕ) E) → ℕ → List ℕ → Result (List X × List ℕ) E
+many_at reader zero bytes = Ok ([], bytes)
+many_at reader (suc n) bytes = do
+  first ← reader bytes
+  others ← many_at reader n first.1
+  Ok (first.0 ∷ others.0, others.1)
+
+abbrev pub end_of : List ℕ → Result (Unit {0}) FieldFault
+end_of [] = Ok tt
+end_of (b ∷ rest) = Err Long
+
+-- the same with its fault told as another
+abbrev pub told : {X D E : Type 0} → (D → E) → Result X D → Result X E
+told f (Ok x) = Ok x
+told f (Err d) = Err (f d)
+
+-- What a getter answers and leaves is what reading says.
+abbrev pub ReadsBy : {X Y E : Type 0} → (X → Y) → Result X E → List ℕ → Result (Y × List ℕ) E → Type 0
+ReadsBy view (Ok x) left read = read ≡ Ok (view x, left)
+ReadsBy view (Err e) left read = read ≡ Err e
+
+abbrev pub Reads : {X E : Type 0} → Result X E → List ℕ → Result (X × List ℕ) E → Type 0
+Reads result left read = ReadsBy (λ x. x) result left read

@@ -1,0 +1,15 @@
+//! Fields of bytes: big-endian numbers and runs of bytes, written one after another and read from left to right.
+#![tactic(auto)]
+
+mod fault;
+mod memory;
+mod reading;
+mod writing;
+
+pub use fault::FieldFault;
+pub use memory::OutOfMemory;
+pub use reading::Fields;
+pub use writing::{put_be16, put_be32, put_bytes, put_u8};
+
+#[cfg(test)]
+mod tests;

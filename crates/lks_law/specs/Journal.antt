@@ -1,0 +1,162 @@
+-- What a journal, the list of a peer's records, says of its AUs and polls. Here alone stand matches on records.
+use Rattle.std.specs.Prelude.{ℕ, Bool, true, false, ◌==◌, ◌-◌, ◌&&◌, nat_lt, not, if◌then◌else◌, Option, Some, None, is_some, unwrap_or, List, [], ◌∷◌, slice_set, take, count_by}
+use Rattle.std.specs.List.{list_any, filter_map}
+use Rattle.lks_base.specs.declared.names.HashKind.{HashKind}
+use Rattle.lks_base.specs.declared.names.Limits.{Limits}
+use Rattle.lks_base.specs.declared.records.Record.{Record}
+use Rattle.lks_base.specs.declared.records.Record.TheVariants.{Deposit, PollOpened, OuterOpened, VoteIn, Shut, Asked, RepairBad, Replaced, Closed, Tuned}
+use Rattle.lks_tally.specs.declared.ballots.Vote.{Vote}
+
+-- what a poll keeps from its opening
+pub record Opening : Type 0 where
+  pub au : ℕ
+  pub nonce : List ℕ
+  pub inner : List ℕ
+  pub limits : Option Limits
+  pub kind : HashKind
+
+-- a block's number and its new bytes
+pub record Replacement : Type 0 where
+  pub block : ℕ
+  pub bytes : List ℕ
+
+-- the block and the voter of a request for a repair
+pub record Request : Type 0 where
+  pub block : ℕ
+  pub voter : ℕ
+
+-- Matches on one record.
+
+abbrev pub deposit_in : ℕ → Record → Option (List (List ℕ))
+deposit_in au (Deposit a blocks) = if a == au then Some blocks else None
+deposit_in au _ = None
+
+abbrev pub replacement_in : ℕ → Record → Option Replacement
+replacement_in au (Replaced number a block bytes) = if a == au then Some (record { block = block; bytes = bytes }) else None
+replacement_in au _ = None
+
+abbrev pub opening_in : ℕ → Record → Option Opening
+opening_in n (PollOpened number au nonce inner tick limits kind) =
+    if number == n then Some (record { au = au; nonce = nonce; inner = inner; limits = limits; kind = kind }) else None
+opening_in n _ = None
+
+abbrev pub is_opening : Record → Bool
+is_opening (PollOpened number au nonce inner tick limits kind) = true
+is_opening _ = false
+
+abbrev pub outer_in : ℕ → Record → Option (List ℕ)
+outer_in n (OuterOpened number outer) = if number == n then Some outer else None
+outer_in n _ = None
+
+abbrev pub vote_in : ℕ → Record → Option Vote
+vote_in n (VoteIn number voter hashes) = if number == n then Some (record { voter = voter; hashes = hashes }) else None
+vote_in n _ = None
+
+abbrev pub is_vote_of : ℕ → ℕ → Record → Bool
+is_vote_of n v (VoteIn number voter hashes) = number == n && voter == v
+is_vote_of n v _ = false
+
+abbrev pub shuts : ℕ → Record → Bool
+shuts n (Shut number) = number == n
+shuts n _ = false
+
+abbrev pub closes : ℕ → Record → Bool
+closes n (Closed number outcome tick) = number == n
+closes n _ = false
+
+abbrev pub asks : ℕ → ℕ → ℕ → Record → Bool
+asks n b v (Asked number block voter) = number == n && (block == b && voter == v)
+asks n b v _ = false
+
+-- the request of poll n that is unanswered after a record, given the one before it
+abbrev pub unanswered_after : ℕ → Option Request → Record → Option Request
+unanswered_after n before (Asked number block voter) = if number == n then Some (record { block = block; voter = voter }) else before
+unanswered_after n before (RepairBad number block voter) = if number == n then None else before
+unanswered_after n before (Replaced number au block bytes) = if number == n then None else before
+unanswered_after n before _ = before
+
+abbrev pub limits_after : Limits → Record → Limits
+limits_after before (Tuned quorum minority repairs) = record { quorum = quorum; minority = minority }
+limits_after before _ = before
+
+-- AUs and their contents.
+
+-- the blocks with which the peer began
+unfoldable pub deposit_of : ℕ → List Record → Option (List (List ℕ))
+deposit_of au [] = None
+deposit_of au (r ∷ rs) = if is_some (deposit_in au r) then deposit_in au r else deposit_of au rs
+
+abbrev pub replacements : ℕ → List Record → List Replacement
+replacements au journal = filter_map (replacement_in au) journal
+
+abbrev pub replaced_by : List (List ℕ) → List Replacement → List (List ℕ)
+replaced_by blocks [] = blocks
+replaced_by blocks (r ∷ rs) = replaced_by (slice_set blocks r.block r.bytes) rs
+
+-- the contents of an AU at a version: its deposit with so many replacements made, in order
+unfoldable pub contents_at : ℕ → ℕ → List Record → List (List ℕ)
+contents_at au version journal = replaced_by (unwrap_or (deposit_of au journal) []) (take version (replacements au journal))
+
+-- its contents with all replacements made
+unfoldable pub contents_of : ℕ → List Record → List (List ℕ)
+contents_of au journal = replaced_by (unwrap_or (deposit_of au journal) []) (replacements au journal)
+
+-- Polls.
+
+-- the peer's own poll n as it was opened
+unfoldable pub opening_of : ℕ → List Record → Option Opening
+opening_of n [] = None
+opening_of n (r ∷ rs) = if is_some (opening_in n r) then opening_in n r else opening_of n rs
+
+unfoldable pub openings : List Record → ℕ
+openings journal = count_by is_opening journal
+
+unfoldable pub is_shut : ℕ → List Record → Bool
+is_shut n journal = list_any (shuts n) journal
+
+unfoldable pub is_closed : ℕ → List Record → Bool
+is_closed n journal = list_any (closes n) journal
+
+unfoldable pub is_running : ℕ → List Record → Bool
+is_running n journal = is_some (opening_of n journal) && not (is_closed n journal)
+
+unfoldable pub is_voting : ℕ → List Record → Bool
+is_voting n journal = is_running n journal && not (is_shut n journal)
+
+-- the outer circle
+unfoldable pub outer_of : ℕ → List Record → List ℕ
+outer_of n [] = []
+outer_of n (r ∷ rs) = if is_some (outer_in n r) then unwrap_or (outer_in n r) [] else outer_of n rs
+
+unfoldable pub has_voted : ℕ → ℕ → List Record → Bool
+has_voted n v journal = list_any (is_vote_of n v) journal
+
+unfoldable pub was_asked : ℕ → ℕ → ℕ → List Record → Bool
+was_asked n b v journal = list_any (asks n b v) journal
+
+abbrev pub unanswered_from : ℕ → Option Request → List Record → Option Request
+unanswered_from n before [] = before
+unanswered_from n before (r ∷ rs) = unanswered_from n (unanswered_after n before r) rs
+
+-- the request for a repair that poll n waits for
+unfoldable pub unanswered : ℕ → List Record → Option Request
+unanswered n journal = unanswered_from n None journal
+
+abbrev pub limits_from : Limits → List Record → Limits
+limits_from before [] = before
+limits_from before (r ∷ rs) = limits_from (limits_after before r) rs
+
+-- whether the record opens a poll on the AU that isn't closed
+unfoldable pub opens_running : ℕ → List Record → Record → Bool
+opens_running au journal (PollOpened number a nonce inner tick limits kind) = a == au && not (is_closed number journal)
+opens_running au journal _ = false
+
+-- whether the record opens a poll that isn't closed
+unfoldable pub opens_open : List Record → Record → Bool
+opens_open journal (PollOpened number au nonce inner tick limits kind) = not (is_closed number journal)
+opens_open journal _ = false
+
+-- whether the record opens a poll on the AU less than `pace` ticks ago
+unfoldable pub opens_lately : ℕ → ℕ → ℕ → Record → Bool
+opens_lately au now pace (PollOpened number a nonce inner tick limits kind) = a == au && nat_lt (now - tick) pace
+opens_lately au now pace _ = false

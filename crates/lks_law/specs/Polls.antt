@@ -1,0 +1,64 @@
+-- The votes of a peer's own polls, and their verdicts.
+use Rattle.std.specs.Prelude.{ℕ, Bool, ◌||◌, Option, unwrap_or, List, length, filter, find, not}
+use Rattle.std.specs.List.{filter_map}
+use Rattle.lks_base.specs.Checking.{has_member}
+use Rattle.lks_base.specs.declared.names.HashKind.{HashKind}
+use Rattle.lks_base.specs.declared.names.Limits.{Limits}
+use Rattle.lks_base.specs.declared.plans.AuPlan.{AuPlan}
+use Rattle.lks_base.specs.declared.plans.Rules.{Rules}
+use Rattle.lks_base.specs.declared.records.Record.{Record}
+use Rattle.lks_law.specs.Journal.{Opening, vote_in, outer_of, contents_of, was_asked, limits_from}
+use Rattle.lks_tally.specs.declared.ballots.Ballot.{Ballot}
+use Rattle.lks_tally.specs.declared.ballots.Verdict.{Verdict}
+use Rattle.lks_tally.specs.declared.ballots.Vote.{Vote}
+use Rattle.lks_tally.specs.Counting.{verdict_on, voters_against}
+
+-- what a peer goes by: the rules, the AUs in the plan's order, and its own part of the plan
+pub record Station : Type 0 where
+  pub rules : Rules
+  pub aus : List AuPlan
+  pub id : ℕ
+  pub seed : List ℕ
+  pub proof : List ℕ
+  pub refs : List ℕ
+  pub friends : List ℕ
+  pub hash : HashKind
+
+-- the numbers with which a poll begins: the rules', or those of the last tuning
+unfoldable pub limits_in_force : Rules → List Record → Limits
+limits_in_force rules journal = limits_from (record { quorum = rules.quorum; minority = rules.minority }) journal
+
+-- the numbers that a poll keeps, or the rules' where it keeps none
+abbrev pub limits_of : Rules → Opening → Limits
+limits_of rules opening = unwrap_or opening.limits (record { quorum = rules.quorum; minority = rules.minority })
+
+-- all votes of poll n, in order
+unfoldable pub votes : ℕ → List Record → List Vote
+votes n journal = filter_map (vote_in n) journal
+
+-- the votes of poll n by members of its inner circle: these alone decide
+unfoldable pub inner_votes : ℕ → List ℕ → List Record → List Vote
+inner_votes n inner journal = filter (λ v. has_member inner v.voter) (votes n journal)
+
+-- whether the peer was invited to poll n: the inner circle, then the outer one
+unfoldable pub is_invited : ℕ → ℕ → List ℕ → List Record → Bool
+is_invited v n inner journal = has_member inner v || has_member (outer_of n journal) v
+
+-- what the votes of poll n are about
+abbrev pub ballot_of : Station → ℕ → Opening → ℕ → Ballot
+ballot_of own n opening count =
+    record { poll = record { poller = own.id; number = n }; au = opening.au; kind = opening.kind; nonce = opening.nonce; count = count }
+
+-- the verdict of the inner votes of poll n on the peer's copy as it is now
+unfoldable pub verdict_in : Station → ℕ → Opening → List Record → Verdict
+verdict_in own n opening journal =
+    let copy = contents_of opening.au journal in
+    let limits = limits_of own.rules opening in
+    verdict_on limits.quorum limits.minority (ballot_of own n opening (length copy)) (inner_votes n opening.inner journal) copy
+
+-- the first of the inner voters against the copy at b, in order of their votes, that wasn't asked for it yet
+unfoldable pub candidate : Station → ℕ → Opening → ℕ → List Record → Option ℕ
+candidate own n opening b journal =
+    let copy = contents_of opening.au journal in
+    find (λ v. not (was_asked n b v journal))
+    (voters_against (ballot_of own n opening (length copy)) (inner_votes n opening.inner journal) copy b)

@@ -1,0 +1,130 @@
+-- What a peer adds to its journal and sends, one definition for each thing that it does or receives. Where a condition
+-- doesn't hold, nothing is added and nothing sent.
+use Rattle.std.specs.Prelude.{ℕ, Bool, true, false, not, ◌&&◌, ◌==◌, ◌+◌, nat_lt, if◌then◌else◌, Option, Some, None, is_some, List, [], ◌∷◌, length, map, count_by}
+use Rattle.std.specs.List.{list_any}
+use Rattle.lks_base.specs.declared.messages.Message.{Message}
+use Rattle.lks_base.specs.declared.messages.Message.TheVariants as message
+use Rattle.lks_base.specs.declared.names.Judged.{Judged}
+use Rattle.lks_base.specs.declared.names.Judged.TheVariants.{Accepted}
+use Rattle.lks_base.specs.declared.names.Outcome.{Outcome}
+use Rattle.lks_base.specs.declared.names.Outcome.TheVariants as outcome
+use Rattle.lks_base.specs.declared.reactions.Input.{Input}
+use Rattle.lks_base.specs.declared.reactions.Input.TheVariants as input
+use Rattle.lks_base.specs.declared.reactions.Outgoing.{Outgoing}
+use Rattle.lks_base.specs.declared.reactions.Reaction.{Reaction}
+use Rattle.lks_base.specs.declared.records.Record.{Record}
+use Rattle.lks_base.specs.declared.records.Record.TheVariants as records
+use Rattle.lks_hash.specs.Hashes.{nonce_from}
+use Rattle.lks_law.specs.Journal.{Opening, deposit_of, contents_of, opening_of, openings, opens_running, opens_open, opens_lately, is_voting, is_running, is_shut, has_voted, unanswered}
+use Rattle.lks_law.specs.Polls.{Station, limits_in_force, limits_of, votes, inner_votes, is_invited, verdict_in, candidate}
+use Rattle.lks_message.specs.Spelling.{spelling}
+use Rattle.lks_tally.specs.declared.ballots.Verdict.{Verdict}
+use Rattle.lks_tally.specs.declared.ballots.Verdict.TheVariants as verdict
+
+abbrev pub nothing : Reaction
+nothing = record { records = []; sends = [] }
+
+-- a message to a peer
+abbrev pub letter : Message → ℕ → Outgoing
+letter m to = record { to = to; bytes = spelling m }
+
+-- A poll is opened on a held AU with no running poll on it, while fewer than 8 polls run, and not within `pace` ticks of
+-- the last one. Its inner circle is the whole reference list, each member of which is invited.
+
+unfoldable pub may_open : Station → List Record → ℕ → ℕ → Bool
+may_open own journal tick au =
+    is_some (deposit_of au journal) && not (list_any (opens_running au journal) journal)
+    && nat_lt (count_by (opens_open journal) journal) 8 && not (list_any (opens_lately au tick own.rules.pace) journal)
+
+abbrev pub opened : Station → List Record → ℕ → ℕ → ℕ → Reaction
+opened own journal tick au n =
+    record {
+      records = records.PollOpened n au (nonce_from own.seed n) own.refs tick (Some (limits_in_force own.rules journal)) own.hash ∷ [];
+      sends = map (letter (message.Poll n au)) own.refs;
+    }
+
+unfoldable pub on_open : Station → List Record → ℕ → ℕ → Reaction
+on_open own journal tick au = if may_open own journal tick au then opened own journal tick au (openings journal + 1) else nothing
+
+-- the poll ends: each voter gets a receipt, in order of their votes
+unfoldable pub receipts : ℕ → List Record → List Outgoing
+receipts n journal = map (λ v. letter (message.Receipt n) v.voter) (votes n journal)
+
+-- Voting ends. A poll with fewer inner votes than its quorum is closed at once.
+
+unfoldable pub is_inquorate : Station → ℕ → Opening → List Record → Bool
+is_inquorate own n opening journal = nat_lt (length (inner_votes n opening.inner journal)) (limits_of own.rules opening).quorum
+
+abbrev pub shut_inquorate : List Record → ℕ → ℕ → Reaction
+shut_inquorate journal tick n =
+    record { records = records.Shut n ∷ records.Closed n outcome.Inquorate tick ∷ []; sends = receipts n journal }
+
+abbrev pub shut : Station → List Record → ℕ → ℕ → Opening → Reaction
+shut own journal tick n opening =
+    if is_inquorate own n opening journal
+    then shut_inquorate journal tick n
+    else record { records = records.Shut n ∷ []; sends = [] }
+
+abbrev pub for_opening : Option Opening → (Opening → Reaction) → Reaction
+for_opening None f = nothing
+for_opening (Some opening) f = f opening
+
+unfoldable pub on_shut : Station → List Record → ℕ → ℕ → Reaction
+on_shut own journal tick n =
+    if is_voting n journal then for_opening (opening_of n journal) (shut own journal tick n) else nothing
+
+-- The votes of a shut poll are counted, unless it waits for a repair. The first block that isn't a win decides: a split
+-- closes the poll; at a loss the first candidate is asked for the block, and without one the poll is closed.
+
+unfoldable pub may_tally : ℕ → List Record → Bool
+may_tally n journal = is_running n journal && is_shut n journal && not (is_some (unanswered n journal))
+
+unfoldable pub closed : List Record → ℕ → ℕ → Outcome → Reaction
+closed journal tick n how = record { records = records.Closed n how tick ∷ []; sends = receipts n journal }
+
+abbrev pub asked : List Record → ℕ → ℕ → ℕ → Option ℕ → Reaction
+asked journal tick n b None = closed journal tick n (outcome.NoSupplier b)
+asked journal tick n b (Some v) =
+    record { records = records.Asked n b v ∷ []; sends = letter (message.RepairRequest n b) v ∷ [] }
+
+abbrev pub tallied : Station → List Record → ℕ → ℕ → Opening → Verdict → Reaction
+tallied own journal tick n opening verdict.Inquorate = nothing
+tallied own journal tick n opening verdict.Agreed = closed journal tick n outcome.Agreed
+tallied own journal tick n opening (verdict.Split b) = closed journal tick n (outcome.Split b)
+tallied own journal tick n opening (verdict.Loss b) = asked journal tick n b (candidate own n opening b journal)
+
+unfoldable pub on_tally : Station → List Record → ℕ → ℕ → Reaction
+on_tally own journal tick n =
+    if may_tally n journal
+    then for_opening (opening_of n journal) (λ opening. tallied own journal tick n opening (verdict_in own n opening journal))
+    else nothing
+
+-- A vote counts once for each invited peer, while votes are open, if its proof is accepted and it has a hash for each block.
+
+abbrev pub is_accepted : Judged → Bool
+is_accepted Accepted = true
+is_accepted _ = false
+
+unfoldable pub may_vote : List Record → ℕ → ℕ → ℕ → Opening → Bool
+may_vote journal from n hashes opening =
+    is_invited from n opening.inner journal && not (has_voted n from journal) && (hashes == length (contents_of opening.au journal))
+
+abbrev pub counted : List Record → ℕ → ℕ → List (List ℕ) → Opening → Reaction
+counted journal from n hashes opening =
+    if may_vote journal from n (length hashes) opening then record { records = records.VoteIn n from hashes ∷ []; sends = [] } else nothing
+
+unfoldable pub on_vote : List Record → ℕ → ℕ → List (List ℕ) → Judged → Reaction
+on_vote journal from n hashes judged =
+    if is_accepted judged && is_voting n journal then for_opening (opening_of n journal) (counted journal from n hashes) else nothing
+
+abbrev pub on_message : List Record → ℕ → Message → Judged → Reaction
+on_message journal from (message.Vote n hashes proof) judged = on_vote journal from n hashes judged
+on_message journal from _ judged = nothing
+
+-- what a peer with this journal adds and sends at this tick
+unfoldable pub reaction : Station → List Record → ℕ → Input → Reaction
+reaction own journal tick (input.OpenPoll au) = on_open own journal tick au
+reaction own journal tick (input.Shut n) = on_shut own journal tick n
+reaction own journal tick (input.Tally n) = on_tally own journal tick n
+reaction own journal tick (input.Got from m judged) = on_message journal from m judged
+reaction own journal tick _ = nothing

@@ -1,0 +1,10 @@
+//! What peers, worlds and histories are, and laws that hold of every one of them.
+//!
+//! The definitions stand in `specs/`: what a journal says of its AUs and polls, the verdict of a poll, what a peer
+//! adds and sends, the world after a history of events, what is due in it, and the entry of each event. Each law is
+//! the contract of a function with no parameters and no body.
+#![tactic(auto)]
+
+mod laws;
+
+pub use laws::every_event_has_its_entry;

@@ -1,0 +1,151 @@
+-- Reading a message from left to right, with the first fault that is met.
+use Rattle.std.specs.Prelude.{◌≡◌, ◌==◌, ℕ, List, Result, Ok, Err, if◌then◌else◌}
+use Rattle.std.specs.Int.{w16, w32}
+use Rattle.lks_base.specs.declared.messages.Message.{Message}
+use Rattle.lks_base.specs.declared.messages.Message.TheVariants as messages
+use Rattle.lks_base.specs.declared.names.HashKind.{HashKind}
+use Rattle.lks_base.specs.declared.names.HashKind.TheVariants.{Sha256, Sha512_256}
+use Rattle.lks_field.specs.Reading.{◌>>=◌, byte_at, bytes_at, hash_at, number_at, upto_at, many_at, end_of}
+use Rattle.lks_message.specs.declared.fault.MsgFault.{MsgFault}
+use Rattle.lks_message.specs.declared.fault.MsgFault.TheVariants.{Version, Tag, Limit, Memory}
+use Rattle.lks_message.specs.declared.heading.Heading.{Heading}
+use Rattle.lks_message.specs.declared.heading.Heading.TheVariants.{Poll, PollChallenge, PollProof, Nominate, Vote, RepairRequest, Repair, Receipt}
+use Rattle.lks_message.specs.Faults.{field}
+
+-- ---- version and tag
+
+unfoldable pub first_heading : ℕ → Result Heading MsgFault
+first_heading tag =
+    if tag == 1 then Ok Poll
+    else if tag == 2 then Ok PollChallenge
+    else if tag == 3 then Ok (PollProof Sha256)
+    else if tag == 4 then Ok Nominate
+    else if tag == 5 then Ok Vote
+    else if tag == 6 then Ok RepairRequest
+    else if tag == 7 then Ok Repair
+    else if tag == 8 then Ok Receipt
+    else Err Tag
+
+unfoldable pub second_heading : ℕ → Result Heading MsgFault
+second_heading tag = if tag == 3 then Ok (PollProof Sha512_256) else Err Tag
+
+-- the tag decides under its version
+abbrev pub tagged : (ℕ → Result Heading MsgFault) → List ℕ → Result (Heading × List ℕ) MsgFault
+tagged heading_of bytes = do
+  tag ← field (byte_at bytes)
+  heading ← heading_of tag.0
+  Ok (heading, tag.1)
+
+unfoldable pub heading_at : List ℕ → Result (Heading × List ℕ) MsgFault
+heading_at bytes = do
+  version ← field (byte_at bytes)
+  if version.0 == 1 then tagged first_heading version.1
+      else if version.0 == 2 then tagged second_heading version.1
+      else Err Version
+
+-- ---- fields
+
+unfoldable pub kind_at : HashKind → List ℕ → Result (Unit {0} × List ℕ) MsgFault
+kind_at Sha256 bytes = Ok (tt, bytes)
+kind_at Sha512_256 bytes = do
+  kind ← field (byte_at bytes)
+  if kind.0 == 2 then Ok (tt, kind.1) else Err Limit
+
+unfoldable pub proof_at : List ℕ → Result (List ℕ × List ℕ) MsgFault
+proof_at bytes = do
+  n ← field (upto_at 64 byte_at bytes)
+  field (bytes_at n.0 n.1)
+
+unfoldable pub nominees_at : List ℕ → Result (List ℕ × List ℕ) MsgFault
+nominees_at bytes = do
+  n ← field (upto_at 8 byte_at bytes)
+  field (many_at (number_at w16) n.0 n.1)
+
+unfoldable pub hashes_at : List ℕ → Result (List (List ℕ) × List ℕ) MsgFault
+hashes_at bytes = do
+  n ← field (upto_at 512 (number_at w16) bytes)
+  field (many_at hash_at n.0 n.1)
+
+unfoldable pub block_at : List ℕ → Result (ℕ × List ℕ) MsgFault
+block_at bytes = field (upto_at 511 (number_at w16) bytes)
+
+unfoldable pub content_at : List ℕ → Result (List ℕ × List ℕ) MsgFault
+content_at bytes = do
+  n ← field (upto_at 16384 (number_at w16) bytes)
+  field (bytes_at n.0 n.1)
+
+-- ---- messages, behind their number
+
+unfoldable pub poll_at : ℕ → List ℕ → Result (Message × List ℕ) MsgFault
+poll_at number bytes = do
+  au ← field (number_at w16 bytes)
+  Ok (messages.Poll number au.0, au.1)
+
+unfoldable pub challenge_at : ℕ → List ℕ → Result (Message × List ℕ) MsgFault
+challenge_at number bytes = do
+  joins ← field (upto_at 1 byte_at bytes)
+  Ok (messages.PollChallenge number (joins.0 == 1), joins.1)
+
+unfoldable pub poll_proof_at : HashKind → ℕ → List ℕ → Result (Message × List ℕ) MsgFault
+poll_proof_at kind number bytes = do
+  nonce ← field (hash_at bytes)
+  known ← kind_at kind nonce.1
+  proof ← proof_at known.1
+  Ok (messages.PollProof number nonce.0 kind proof.0, proof.1)
+
+unfoldable pub nominate_at : ℕ → List ℕ → Result (Message × List ℕ) MsgFault
+nominate_at number bytes = do
+  nominees ← nominees_at bytes
+  Ok (messages.Nominate number nominees.0, nominees.1)
+
+unfoldable pub vote_at : ℕ → List ℕ → Result (Message × List ℕ) MsgFault
+vote_at number bytes = do
+  hashes ← hashes_at bytes
+  proof ← proof_at hashes.1
+  Ok (messages.Vote number hashes.0 proof.0, proof.1)
+
+unfoldable pub request_at : ℕ → List ℕ → Result (Message × List ℕ) MsgFault
+request_at number bytes = do
+  block ← block_at bytes
+  Ok (messages.RepairRequest number block.0, block.1)
+
+unfoldable pub repair_at : ℕ → List ℕ → Result (Message × List ℕ) MsgFault
+repair_at number bytes = do
+  block ← block_at bytes
+  content ← content_at block.1
+  Ok (messages.Repair number block.0 content.0, content.1)
+
+abbrev pub message_at : Heading → ℕ → List ℕ → Result (Message × List ℕ) MsgFault
+message_at Poll number bytes = poll_at number bytes
+message_at PollChallenge number bytes = challenge_at number bytes
+message_at (PollProof kind) number bytes = poll_proof_at kind number bytes
+message_at Nominate number bytes = nominate_at number bytes
+message_at Vote number bytes = vote_at number bytes
+message_at RepairRequest number bytes = request_at number bytes
+message_at Repair number bytes = repair_at number bytes
+message_at Receipt number bytes = Ok (messages.Receipt number, bytes)
+
+unfoldable pub decode_of : List ℕ → Result Message MsgFault
+decode_of bytes = do
+  heading ← heading_at bytes
+  number ← field (number_at w32 heading.1)
+  message ← message_at heading.0 number.0 number.1
+  ended ← field (end_of message.1)
+  Ok message.0
+
+-- ---- what the code answers
+
+-- The fault is the one of reading, or memory ran out.
+abbrev pub Fails : {X : Type 0} → MsgFault → Result X MsgFault → Type 0
+Fails Memory read = Unit {0}
+Fails fault read = read ≡ Err fault
+
+-- The answer is that of reading, unless memory ran out.
+abbrev pub Gives : {X : Type 0} → Result X MsgFault → Result X MsgFault → Type 0
+Gives (Ok x) read = read ≡ Ok x
+Gives (Err fault) read = Fails fault read
+
+-- The same where bytes are left.
+abbrev pub Reads : {X : Type 0} → Result X MsgFault → List ℕ → Result (X × List ℕ) MsgFault → Type 0
+Reads (Ok x) left read = read ≡ Ok (x, left)
+Reads (Err fault) left read = Fails fault read

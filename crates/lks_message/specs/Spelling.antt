@@ -1,0 +1,71 @@
+-- The one spelling of each message.
+use Rattle.std.specs.Prelude.{◌≡◌, ℕ, ◌<◌, ◌≤◌, ◌^◌, Bool, true, false, List, [], ◌∷◌, ◌++◌, length, All}
+use Rattle.std.specs.List.{flat_map}
+use Rattle.std.specs.Int.{w16, w32, to_be_bytes}
+use Rattle.lks_base.specs.declared.messages.Message.{Message}
+use Rattle.lks_base.specs.declared.messages.Message.TheVariants.{Poll, PollChallenge, PollProof, Nominate, Vote, RepairRequest, Repair, Receipt}
+use Rattle.lks_base.specs.declared.names.HashKind.{HashKind}
+use Rattle.lks_base.specs.declared.names.HashKind.TheVariants.{Sha256, Sha512_256}
+
+abbrev pub start : ℕ → ℕ → ℕ → List ℕ
+start version tag number = version ∷ tag ∷ to_be_bytes w32 number
+
+abbrev pub flag : Bool → ℕ
+flag false = 0
+flag true = 1
+
+-- the version that spells proofs of this kind
+abbrev pub version_of : HashKind → ℕ
+version_of Sha256 = 1
+version_of Sha512_256 = 2
+
+abbrev pub kind_bytes : HashKind → List ℕ
+kind_bytes Sha256 = []
+kind_bytes Sha512_256 = 2 ∷ []
+
+abbrev pub proof_bytes : List ℕ → List ℕ
+proof_bytes proof = length proof ∷ proof
+
+abbrev pub nominee_bytes : List ℕ → List ℕ
+nominee_bytes nominees = length nominees ∷ flat_map (to_be_bytes w16) nominees
+
+abbrev pub hash_bytes : List (List ℕ) → List ℕ
+hash_bytes hashes = to_be_bytes w16 (length hashes) ++ flat_map (λ h. h) hashes
+
+abbrev pub content_bytes : List ℕ → List ℕ
+content_bytes bytes = to_be_bytes w16 (length bytes) ++ bytes
+
+unfoldable pub spelling : Message → List ℕ
+spelling (Poll number au) = start 1 1 number ++ to_be_bytes w16 au
+spelling (PollChallenge number joins) = start 1 2 number ++ flag joins ∷ []
+spelling (PollProof number nonce kind proof) = start (version_of kind) 3 number ++ nonce ++ kind_bytes kind ++ proof_bytes proof
+spelling (Nominate number nominees) = start 1 4 number ++ nominee_bytes nominees
+spelling (Vote number hashes proof) = start 1 5 number ++ hash_bytes hashes ++ proof_bytes proof
+spelling (RepairRequest number block) = start 1 6 number ++ to_be_bytes w16 block
+spelling (Repair number block bytes) = start 1 7 number ++ to_be_bytes w16 block ++ content_bytes bytes
+spelling (Receipt number) = start 1 8 number
+
+-- nothing is above its limit
+abbrev pub IsWithin : Message → Type 0
+IsWithin (Poll number au) = Unit {0}
+IsWithin (PollChallenge number joins) = Unit {0}
+IsWithin (PollProof number nonce kind proof) = length proof ≤ 64
+IsWithin (Nominate number nominees) = length nominees ≤ 8
+IsWithin (Vote number hashes proof) = (length hashes ≤ 512) × (length proof ≤ 64)
+IsWithin (RepairRequest number block) = block ≤ 511
+IsWithin (Repair number block bytes) = (block ≤ 511) × (length bytes ≤ 16384)
+IsWithin (Receipt number) = Unit {0}
+
+-- numbers, nonces and hashes have the sizes of their types
+abbrev pub IsSized : Message → Type 0
+IsSized (Poll number au) = (number < 2 ^ 32) × (au < 2 ^ 16)
+IsSized (PollChallenge number joins) = number < 2 ^ 32
+IsSized (PollProof number nonce kind proof) = (number < 2 ^ 32) × (length nonce ≡ 32)
+IsSized (Nominate number nominees) = (number < 2 ^ 32) × All (λ n. n < 2 ^ 16) nominees
+IsSized (Vote number hashes proof) = (number < 2 ^ 32) × All (λ h. length h ≡ 32) hashes
+IsSized (RepairRequest number block) = number < 2 ^ 32
+IsSized (Repair number block bytes) = number < 2 ^ 32
+IsSized (Receipt number) = number < 2 ^ 32
+
+abbrev pub IsInLimits : Message → Type 0
+IsInLimits m = IsWithin m × IsSized m

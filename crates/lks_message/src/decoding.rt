@@ -1,0 +1,236 @@
+//! Bytes to messages.
+
+ghost use Rattle.std.specs.Prelude.{◌≡◌, IfOk};
+ghost use Rattle.std.specs.Int.{w16};
+ghost use Rattle.lks_field.specs.Reading.{byte_at, upto_at, many_at, hash_at, number_at};
+ghost use Rattle.lks_message.specs.Faults.{field};
+ghost use Rattle.lks_message.specs.Spelling.{spelling, IsInLimits};
+ghost use Rattle.lks_message.specs.Reading.{Reads, Gives, kind_at, proof_at, nominees_at, hashes_at, block_at, content_at, poll_at, challenge_at, poll_proof_at, nominate_at, vote_at, request_at, repair_at, message_at, decode_of};
+
+use crate::fault::MsgFault;
+use crate::heading::{Heading, heading_of};
+use lks_base::{Bytes, HashKind, Hashes, Ids, Message};
+use lks_field::Fields;
+use std::alloc::Global;
+
+const MOST_NOMINEES: u8 = 8;
+
+const MOST_HASHES: u16 = 512;
+
+const MOST_PROOF: u8 = 64;
+
+const LAST_BLOCK: u16 = 511;
+
+const MOST_CONTENT: u16 = 16_384;
+
+#[tactic(auto, unfolding(lks_field::specs::Reading::upto_at))]
+fn byte_upto(most: u8, fields: &mut Fields<'_>) -> Result<u8, MsgFault>
+    ensures { Reads result fields.new (field (upto_at most byte_at fields.old)) }
+{
+    let byte = fields.get_u8()?;
+    if byte > most {
+        return Err(MsgFault::Limit);
+    }
+    Ok(byte)
+}
+
+#[tactic(auto, unfolding(crate::specs::Reading::kind_at))]
+fn kind_of(kind: HashKind, fields: &mut Fields<'_>) -> Result<(), MsgFault>
+    ensures { Reads result fields.new (kind_at kind fields.old) }
+{
+    if !kind.second() {
+        return Ok(());
+    }
+    if fields.get_u8()? != 2 {
+        return Err(MsgFault::Limit);
+    }
+    Ok(())
+}
+
+#[tactic(auto, unfolding(crate::specs::Reading::proof_at))]
+fn proof_of(alloc: Global, fields: &mut Fields<'_>) -> Result<Bytes, MsgFault>
+    ensures { Reads result fields.new (proof_at fields.old) }
+{
+    let length = byte_upto(MOST_PROOF, fields)?;
+    let proof = fields.get_bytes(length as usize)?;
+    Ok(Bytes::from_vec(Vec::from_slice(alloc, proof)?))
+}
+
+fn many_numbers(alloc: Global, count: u8, fields: &mut Fields<'_>) -> Result<Ids, MsgFault>
+    ensures { Reads result fields.new (field (many_at (number_at w16) count fields.old)) }
+{
+    let mut numbers = Vec::new(alloc);
+    for _ in 0..count {
+        let number = fields.get_be16()?;
+        numbers.push(number)?;
+    }
+    Ok(Ids::from_vec(numbers))
+}
+
+#[tactic(auto, unfolding(crate::specs::Reading::nominees_at))]
+fn nominees_of(alloc: Global, fields: &mut Fields<'_>) -> Result<Ids, MsgFault>
+    ensures { Reads result fields.new (nominees_at fields.old) }
+{
+    let count = byte_upto(MOST_NOMINEES, fields)?;
+    many_numbers(alloc, count, fields)
+}
+
+fn many_hashes(alloc: Global, count: u16, fields: &mut Fields<'_>) -> Result<Hashes, MsgFault>
+    ensures { Reads result fields.new (field (many_at hash_at count fields.old)) }
+{
+    let mut hashes = Vec::new(alloc);
+    for _ in 0..count {
+        let hash = fields.get_hash()?;
+        hashes.push(hash)?;
+    }
+    Ok(Hashes::from_vec(hashes))
+}
+
+#[tactic(auto, unfolding(crate::specs::Reading::hashes_at))]
+fn hashes_of(alloc: Global, fields: &mut Fields<'_>) -> Result<Hashes, MsgFault>
+    ensures { Reads result fields.new (hashes_at fields.old) }
+{
+    let count = fields.get_upto(MOST_HASHES)?;
+    many_hashes(alloc, count, fields)
+}
+
+#[tactic(auto, unfolding(crate::specs::Reading::block_at))]
+fn block_of(fields: &mut Fields<'_>) -> Result<u16, MsgFault>
+    ensures { Reads result fields.new (block_at fields.old) }
+{
+    Ok(fields.get_upto(LAST_BLOCK)?)
+}
+
+#[tactic(auto, unfolding(crate::specs::Reading::content_at))]
+fn content_of(alloc: Global, fields: &mut Fields<'_>) -> Result<Bytes, MsgFault>
+    ensures { Reads result fields.new (content_at fields.old) }
+{
+    let length = fields.get_upto(MOST_CONTENT)?;
+    let content = fields.get_bytes(length as usize)?;
+    Ok(Bytes::from_vec(Vec::from_slice(alloc, content)?))
+}
+
+#[tactic(auto, unfolding(crate::specs::Reading::poll_at))]
+fn poll_of(number: u32, fields: &mut Fields<'_>) -> Result<Message, MsgFault>
+    ensures { Reads result fields.new (poll_at number fields.old) }
+{
+    let au = fields.get_be16()?;
+    Ok(Message::Poll { number, au })
+}
+
+#[tactic(auto, unfolding(crate::specs::Reading::challenge_at))]
+fn challenge_of(number: u32, fields: &mut Fields<'_>) -> Result<Message, MsgFault>
+    ensures { Reads result fields.new (challenge_at number fields.old) }
+{
+    let yes = byte_upto(1, fields)?;
+    Ok(Message::PollChallenge {
+        number,
+        yes: yes == 1,
+    })
+}
+
+#[tactic(auto, unfolding(crate::specs::Reading::poll_proof_at))]
+fn poll_proof_of(
+    alloc: Global,
+    kind: HashKind,
+    number: u32,
+    fields: &mut Fields<'_>,
+) -> Result<Message, MsgFault>
+    ensures { Reads result fields.new (poll_proof_at kind number fields.old) }
+{
+    let nonce = fields.get_hash()?;
+    kind_of(kind, fields)?;
+    let proof = proof_of(alloc, fields)?;
+    Ok(Message::PollProof {
+        number,
+        nonce,
+        kind,
+        proof,
+    })
+}
+
+#[tactic(auto, unfolding(crate::specs::Reading::nominate_at))]
+fn nominate_of(alloc: Global, number: u32, fields: &mut Fields<'_>) -> Result<Message, MsgFault>
+    ensures { Reads result fields.new (nominate_at number fields.old) }
+{
+    let nominees = nominees_of(alloc, fields)?;
+    Ok(Message::Nominate { number, nominees })
+}
+
+#[tactic(auto, unfolding(crate::specs::Reading::vote_at))]
+fn vote_of(alloc: Global, number: u32, fields: &mut Fields<'_>) -> Result<Message, MsgFault>
+    ensures { Reads result fields.new (vote_at number fields.old) }
+{
+    let hashes = hashes_of(alloc, fields)?;
+    let proof = proof_of(alloc, fields)?;
+    Ok(Message::Vote {
+        number,
+        hashes,
+        proof,
+    })
+}
+
+#[tactic(auto, unfolding(crate::specs::Reading::request_at))]
+fn request_of(number: u32, fields: &mut Fields<'_>) -> Result<Message, MsgFault>
+    ensures { Reads result fields.new (request_at number fields.old) }
+{
+    let block = block_of(fields)?;
+    Ok(Message::RepairRequest { number, block })
+}
+
+#[tactic(auto, unfolding(crate::specs::Reading::repair_at))]
+fn repair_of(alloc: Global, number: u32, fields: &mut Fields<'_>) -> Result<Message, MsgFault>
+    ensures { Reads result fields.new (repair_at number fields.old) }
+{
+    let block = block_of(fields)?;
+    let bytes = content_of(alloc, fields)?;
+    Ok(Message::Repair {
+        number,
+        block,
+        bytes,
+    })
+}
+
+fn message_of(
+    alloc: Global,
+    heading: Heading,
+    number: u32,
+    fields: &mut Fields<'_>,
+) -> Result<Message, MsgFault>
+    ensures { Reads result fields.new (message_at heading number fields.old) }
+{
+    match heading {
+        Heading::Poll => poll_of(number, fields),
+        Heading::PollChallenge => challenge_of(number, fields),
+        Heading::PollProof(kind) => poll_proof_of(alloc, kind, number, fields),
+        Heading::Nominate => nominate_of(alloc, number, fields),
+        Heading::Vote => vote_of(alloc, number, fields),
+        Heading::RepairRequest => request_of(number, fields),
+        Heading::Repair => repair_of(alloc, number, fields),
+        Heading::Receipt => Ok(Message::Receipt { number }),
+    }
+}
+
+#[tactic(auto, unfolding(crate::specs::Reading::decode_of))]
+fn whole(alloc: Global, bytes: &[u8]) -> Result<Message, MsgFault>
+    ensures { Gives result (decode_of bytes.now) }
+{
+    let mut fields = Fields::new(bytes);
+    let heading = heading_of(&mut fields)?;
+    let number = fields.get_be32()?;
+    let message = message_of(alloc, heading, number, &mut fields)?;
+    fields.finish()?;
+    Ok(message)
+}
+
+/// The message that the bytes spell, all of them, or the first fault from left to right.
+pub fn decode(alloc: Global, bytes: &[u8]) -> Result<Message, MsgFault>
+    // Which message or fault it is.
+    ensures exact { Gives result (decode_of bytes.now) }
+    // What is read is spelled so.
+    ensures found { IfOk result (λ m. IsInLimits m × (bytes.now ≡ spelling m)) }
+    // What is spelled so is read, unless memory runs out.
+    ensures only { (m : Message) → IsInLimits m → bytes.now ≡ spelling m → Gives result (Ok m) }
+{
+    whole(alloc, bytes)
+}

@@ -1,0 +1,14 @@
+//! Messages between peers as bytes, both ways.
+#![tactic(auto)]
+
+mod decoding;
+mod encoding;
+mod fault;
+mod heading;
+
+pub use decoding::decode;
+pub use encoding::encode;
+pub use fault::MsgFault;
+
+#[cfg(test)]
+mod tests;

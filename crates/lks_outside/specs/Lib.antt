@@ -1,0 +1,4 @@
+pub mod Counts
+pub mod Fakes
+pub mod Streams
+pub mod Turns

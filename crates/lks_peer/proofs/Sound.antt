@@ -1,0 +1,70 @@
+-- No reaction adds a copy to a journal.
+use Rattle.std.proofs.Common.{◌≡◌, ℕ, Bool, true, false, cond, List, [], ◌∷◌, ◌++◌, ◌+◌, length, refl, ◌∙◌, ap}
+use Rattle.std.specs.Prelude.{Option, Some, None, ◌&&◌}
+use Rattle.std.proofs.lemmas.Bool.{and_parts}
+use Rattle.lks_base.specs.declared.messages.Message.{Message}
+use Rattle.lks_base.specs.declared.messages.Message.TheVariants as message
+use Rattle.lks_base.specs.declared.names.Judged.{Judged}
+use Rattle.lks_base.specs.declared.reactions.Input.{Input}
+use Rattle.lks_base.specs.declared.reactions.Input.TheVariants as input
+use Rattle.lks_base.specs.declared.reactions.Reaction.{Reaction}
+use Rattle.lks_base.specs.declared.records.Record.{Record}
+use Rattle.lks_base.specs.declared.records.Record.TheVariants as records
+use Rattle.lks_law.specs.Journal.{Opening, opening_of, openings, is_voting}
+use Rattle.lks_law.specs.Polls.{Station, verdict_in, candidate}
+use Rattle.lks_law.specs.Reaction.{reaction, nothing, may_open, opened, on_open, is_inquorate, shut, shut_inquorate, for_opening, on_shut, may_tally, closed, asked, tallied, on_tally, is_accepted, may_vote, counted, on_vote, on_message}
+use Rattle.lks_peer.specs.Small.{is_small, are_small}
+use Rattle.lks_tally.specs.declared.ballots.Verdict.{Verdict}
+use Rattle.lks_tally.specs.declared.ballots.Verdict.TheVariants as verdict
+
+pub small-append : (xs ys : List Record) → are_small xs ≡ true → are_small ys ≡ true → are_small (xs ++ ys) ≡ true
+small-append [] ys p q = q
+small-append (x ∷ xs) ys p q =
+    let parts = and_parts (is_small x) (are_small xs) p in
+    ap (λ b. b && are_small (xs ++ ys)) parts.0 ∙ small-append xs ys parts.1 q
+
+if_small : (b : Bool) (r s : Reaction) → are_small r.records ≡ true → are_small s.records ≡ true → are_small (cond b r s).records ≡ true
+if_small true r s p q = p
+if_small false r s p q = q
+
+at_opening : (o : Option Opening) (f : Opening → Reaction) → ((opening : Opening) → are_small (f opening).records ≡ true) → are_small (for_opening o f).records ≡ true
+at_opening None f p = refl
+at_opening (Some opening) f p = p opening
+
+asked_small : (journal : List Record) (tick n b : ℕ) (v : Option ℕ) → are_small (asked journal tick n b v).records ≡ true
+unfolding closed
+asked_small journal tick n b None = refl
+asked_small journal tick n b (Some v) = refl
+
+tallied_small : (own : Station) (journal : List Record) (tick n : ℕ) (opening : Opening) (v : Verdict) → are_small (tallied own journal tick n opening v).records ≡ true
+unfolding closed
+tallied_small own journal tick n opening verdict.Inquorate = refl
+tallied_small own journal tick n opening verdict.Agreed = refl
+tallied_small own journal tick n opening (verdict.Split b) = refl
+tallied_small own journal tick n opening (verdict.Loss b) = asked_small journal tick n b (candidate own n opening b journal)
+
+vote_small : (journal : List Record) (from n : ℕ) (hashes : List (List ℕ)) (judged : Judged) → are_small (on_vote journal from n hashes judged).records ≡ true
+unfolding on_vote
+vote_small journal from n hashes judged =
+    if_small (is_accepted judged && is_voting n journal) (for_opening (opening_of n journal) (counted journal from n hashes)) nothing
+    (at_opening (opening_of n journal) (counted journal from n hashes) (λ opening.
+    elim (may_vote journal from n (length hashes) opening) as (λ b. are_small (cond b (record { records = records.VoteIn n from hashes ∷ []; sends = [] }) nothing).records ≡ true) [ true ↦ refl | false ↦ refl ]))
+    refl
+
+message_small : (journal : List Record) (from : ℕ) (m : Message) (judged : Judged) → are_small (on_message journal from m judged).records ≡ true
+message_small journal from (message.Vote n hashes proof) judged = vote_small journal from n hashes judged
+message_small journal from m judged = refl
+
+pub reaction_small : (own : Station) (journal : List Record) (tick : ℕ) (i : Input) → are_small (reaction own journal tick i).records ≡ true
+unfolding reaction on_open on_shut on_tally
+reaction_small own journal tick (input.OpenPoll au) = if_small (may_open own journal tick au) (opened own journal tick au (openings journal + 1)) nothing refl refl
+reaction_small own journal tick (input.Shut n) =
+    if_small (is_voting n journal) (for_opening (opening_of n journal) (shut own journal tick n)) nothing
+    (at_opening (opening_of n journal) (shut own journal tick n) (λ opening. if_small (is_inquorate own n opening journal) (shut_inquorate journal tick n) _ refl refl))
+    refl
+reaction_small own journal tick (input.Tally n) =
+    if_small (may_tally n journal) (for_opening (opening_of n journal) (λ opening. tallied own journal tick n opening (verdict_in own n opening journal))) nothing
+    (at_opening (opening_of n journal) _ (λ opening. tallied_small own journal tick n opening (verdict_in own n opening journal)))
+    refl
+reaction_small own journal tick (input.Got from m judged) = message_small journal from m judged
+reaction_small own journal tick i = refl

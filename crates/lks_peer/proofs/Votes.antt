@@ -1,0 +1,33 @@
+-- The votes of a poll, one record at a time.
+use Rattle.std.proofs.Common.{◌≡◌, ℕ, ◌∙◌, ap, true, false, cond, List, [], ◌∷◌, refl}
+use Rattle.std.specs.Prelude.{Option, Some, None, filter, map, option_map}
+use Rattle.std.specs.List.{filter_map, cons_option}
+use Rattle.lks_base.specs.Checking.{has_member}
+use Rattle.lks_base.specs.declared.messages.Message.{Message}
+use Rattle.lks_base.specs.declared.records.Record.{Record}
+use Rattle.lks_law.specs.Journal.{vote_in}
+use Rattle.lks_law.specs.Reaction.{letter}
+use Rattle.lks_peer.specs.Inner.{inner_if, inner_vote_in, voter_in}
+use Rattle.lks_tally.specs.declared.ballots.Vote.{Vote}
+
+kept_first : (inner : List ℕ) (v : Option Vote) (vs : List Vote) → filter (λ v. has_member inner v.voter) (cons_option v vs) ≡ cons_option (inner_if inner v) (filter (λ v. has_member inner v.voter) vs)
+kept_first inner None vs = refl
+kept_first inner (Some v) vs =
+    let rest = filter (λ v. has_member inner v.voter) vs in
+    elim (has_member inner v.voter) as (λ b. cond b (v ∷ rest) rest ≡ cons_option (cond b (Some v) None) rest) [ true ↦ refl | false ↦ refl ]
+
+pub inner_by_record : (n : ℕ) (inner : List ℕ) (journal : List Record) → filter (λ v. has_member inner v.voter) (filter_map (vote_in n) journal) ≡ filter_map (inner_vote_in n inner) journal
+inner_by_record n inner [] = refl
+inner_by_record n inner (r ∷ rs) = kept_first inner (vote_in n r) (filter_map (vote_in n) rs) ∙ ap (cons_option (inner_vote_in n inner r)) (inner_by_record n inner rs)
+
+mapped_first : (v : Option Vote) (vs : List Vote) → map (λ v. v.voter) (cons_option v vs) ≡ cons_option (option_map (λ v. v.voter) v) (map (λ v. v.voter) vs)
+mapped_first None vs = refl
+mapped_first (Some v) vs = refl
+
+pub voters_by_record : (n : ℕ) (journal : List Record) → map (λ v. v.voter) (filter_map (vote_in n) journal) ≡ filter_map (voter_in n) journal
+voters_by_record n [] = refl
+voters_by_record n (r ∷ rs) = mapped_first (vote_in n r) (filter_map (vote_in n) rs) ∙ ap (cons_option (voter_in n r)) (voters_by_record n rs)
+
+pub letters_by_vote : (m : Message) (vs : List Vote) → map (letter m) (map (λ v. v.voter) vs) ≡ map (λ v. letter m v.voter) vs
+letters_by_vote m [] = refl
+letters_by_vote m (v ∷ vs) = ap (λ ls. letter m v.voter ∷ ls) (letters_by_vote m vs)

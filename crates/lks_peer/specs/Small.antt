@@ -1,0 +1,21 @@
+-- Journals whose copies have no more blocks than an AU.
+use Rattle.std.specs.Prelude.{◌≡◌, ◌≤◌, ℕ, Bool, true, nat_le, List, length}
+use Rattle.std.specs.List.{list_all}
+use Rattle.lks_base.specs.declared.records.Record.{Record}
+use Rattle.lks_base.specs.declared.records.Record.TheVariants.{Deposit}
+
+abbrev pub is_small : Record → Bool
+is_small (Deposit au blocks) = nat_le (length blocks) 512
+is_small _ = true
+
+abbrev pub are_small : List Record → Bool
+are_small journal = list_all is_small journal
+
+-- the most records of a journal
+abbrev pub most_records : ℕ
+most_records = 1000000000
+
+-- a journal of a peer: no copy is larger than an AU, and there aren't too many records
+pub record IsSound (journal : List Record) : Type 0 where
+  pub small : are_small journal ≡ true
+  pub few : length journal ≤ most_records

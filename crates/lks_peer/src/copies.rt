@@ -1,0 +1,49 @@
+//! A peer's copy of an AU as its journal leaves it.
+
+ghost use Rattle.std.specs.Prelude.{◌≡◌, IfOk, OnOk, slice_set};
+ghost use Rattle.lks_law.specs.Journal.{replacement_in, replaced_by, contents_of};
+ghost use Rattle.lks_peer.specs.Replacing.{replaced_if};
+
+use crate::journals::find_deposit;
+use lks_base::{AuId, Blocks, Bytes, OutOfMemory, Record, Seq};
+use std::alloc::Global;
+
+/// Makes the replacement that a record names, if it is of the AU.
+fn replace(blocks: &mut Vec<Bytes>, r: &Record, au: AuId) -> Result<(), OutOfMemory>
+    ensures { OnOk result (blocks.new.items ≡ replaced_if blocks.old.items (replacement_in au r.now)) }
+{
+    if let Record::Replaced {
+        au: a,
+        block,
+        bytes,
+        ..
+    } = r
+    {
+        if *a == au && (*block as usize) < blocks.len() {
+            blocks[*block as usize] = bytes.clone()?;
+        }
+    }
+    Ok(())
+}
+
+fn clone_all(alloc: Global, blocks: &[Bytes]) -> Result<Vec<Bytes>, OutOfMemory>
+    ensures { IfOk result (λ v. v.items ≡ blocks.now) }
+{
+    let mut copy = Vec::new(alloc);
+    for block in blocks {
+        copy.push(block.clone()?)?;
+    }
+    Ok(copy)
+}
+
+/// The contents of an AU: its deposit with all replacements made. An AU that isn't held has no blocks.
+#[tactic(auto, unfolding(lks_law::specs::Journal::contents_of))]
+pub fn copy_of(alloc: Global, journal: &[Record], au: AuId) -> Result<Blocks, OutOfMemory>
+    ensures { IfOk result (λ copy. copy ≡ contents_of au journal.now) }
+{
+    let mut blocks = clone_all(alloc, find_deposit(journal, au).unwrap_or(&[]))?;
+    for r in journal {
+        replace(&mut blocks, r, au)?;
+    }
+    Ok(Seq::from_vec(blocks))
+}

@@ -1,0 +1,304 @@
+//! What a journal says of its AUs and polls.
+
+ghost use Rattle.std.specs.Prelude.{◌≡◌, ◌≤◌, length, option_map, count_by};
+ghost use Rattle.std.specs.List.{list_any};
+ghost use Rattle.lks_peer.specs.Requests.{asked_for};
+ghost use Rattle.lks_law.specs.Journal.{deposit_in, deposit_of, opening_in, opening_of, is_opening, openings, shuts, is_shut, closes, is_closed, is_running, is_voting, outer_in, outer_of, is_vote_of, has_voted, asks, was_asked, unanswered_after, unanswered, limits_after, opens_running, opens_open, opens_lately};
+ghost use Rattle.lks_law.specs.Polls.{limits_in_force, limits_of, is_invited};
+ghost use Rattle.lks_base.specs.Checking.{has_member};
+
+use lks_base::{AuId, Bytes, HashKind, Limits, PeerId, Record, Rules};
+use std::marker::Model;
+
+/// What a poll keeps from its opening.
+#[derive(Drop)]
+pub struct Opening<'a> {
+    pub au: AuId,
+    pub nonce: &'a [u8; 32],
+    pub inner: &'a [u16],
+    pub limits: Option<Limits>,
+    pub kind: HashKind,
+}
+
+impl<'a> Model for Opening<'a> {
+    ghost use Rattle.lks_law.specs.Journal.{Opening as Kept};
+
+    ghost Value = { Kept };
+
+    ghost view = { λ a. record { au = a.au; nonce = a.nonce.now; inner = a.inner.now; limits = a.limits; kind = a.kind } };
+}
+
+/// A request for a repair: a block and a voter.
+#[derive(Clone, Copy)]
+pub struct Request {
+    pub block: u16,
+    pub voter: PeerId,
+}
+
+fn as_deposit(r: &Record, au: AuId) -> Option<&[Bytes]>
+    ensures { option_map (λ b. b.now) result ≡ deposit_in au r.now }
+{
+    match r {
+        Record::Deposit { au: a, blocks } if *a == au => Some(blocks.as_slice()),
+        _ => None,
+    }
+}
+
+#[tactic(auto, unfolding(lks_law::specs::Journal::deposit_of))]
+pub fn find_deposit(journal: &[Record], au: AuId) -> Option<&[Bytes]>
+    ensures { option_map (λ b. b.now) result ≡ deposit_of au journal.now }
+{
+    for r in journal {
+        if let Some(blocks) = as_deposit(r, au) {
+            return Some(blocks);
+        }
+    }
+    None
+}
+
+fn as_opening(r: &Record, n: u32) -> Option<Opening<'_>>
+    ensures { result ≡ opening_in n r.now }
+{
+    match r {
+        Record::PollOpened {
+            number,
+            au,
+            nonce,
+            inner,
+            tick: _,
+            limits,
+            kind,
+        } if *number == n => Some(Opening {
+            au: *au,
+            nonce,
+            inner: inner.as_slice(),
+            limits: *limits,
+            kind: *kind,
+        }),
+        _ => None,
+    }
+}
+
+#[tactic(auto, unfolding(lks_law::specs::Journal::opening_of))]
+pub fn find_opening(journal: &[Record], n: u32) -> Option<Opening<'_>>
+    ensures { result ≡ opening_of n journal.now }
+{
+    for r in journal {
+        if let Some(found) = as_opening(r, n) {
+            return Some(found);
+        }
+    }
+    None
+}
+
+#[tactic(auto, unfolding(lks_law::specs::Journal::openings))]
+pub fn count_openings(journal: &[Record]) -> usize
+    ensures exact { result ≡ openings journal.now }
+    ensures few { result ≤ length journal.now }
+{
+    journal
+        .iter()
+        .filter(|r| matches!(r, Record::PollOpened { .. }))
+        .count()
+}
+
+#[tactic(auto, unfolding(lks_law::specs::Journal::is_shut))]
+pub fn shut_already(journal: &[Record], n: u32) -> bool
+    ensures { result ≡ is_shut n journal.now }
+{
+    journal
+        .iter()
+        .any(|r| matches!(r, Record::Shut { number } if *number == n))
+}
+
+#[tactic(auto, unfolding(lks_law::specs::Journal::is_closed))]
+pub fn closed_already(journal: &[Record], n: u32) -> bool
+    ensures { result ≡ is_closed n journal.now }
+{
+    journal.iter().any(|r| matches!(r, Record::Closed { number, .. } if *number == n))
+}
+
+#[tactic(auto, unfolding(lks_law::specs::Journal::is_running))]
+pub fn runs(journal: &[Record], n: u32) -> bool
+    ensures { result ≡ is_running n journal.now }
+{
+    find_opening(journal, n).is_some() && !closed_already(journal, n)
+}
+
+#[tactic(auto, unfolding(lks_law::specs::Journal::is_voting))]
+pub fn takes_votes(journal: &[Record], n: u32) -> bool
+    ensures { result ≡ is_voting n journal.now }
+{
+    runs(journal, n) && !shut_already(journal, n)
+}
+
+fn as_outer(r: &Record, n: u32) -> Option<&[u16]>
+    ensures { option_map (λ b. b.now) result ≡ outer_in n r.now }
+{
+    match r {
+        Record::OuterOpened { number, outer } if *number == n => Some(outer.as_slice()),
+        _ => None,
+    }
+}
+
+#[tactic(auto, unfolding(lks_law::specs::Journal::outer_of))]
+fn find_outer(journal: &[Record], n: u32) -> &[u16]
+    ensures { result.now ≡ outer_of n journal.now }
+{
+    for r in journal {
+        if let Some(found) = as_outer(r, n) {
+            return found;
+        }
+    }
+    &[]
+}
+
+#[tactic(auto, unfolding(lks_base::specs::Checking::has_member))]
+pub fn lists(ids: &[u16], id: PeerId) -> bool
+    ensures { result ≡ has_member ids.now id }
+{
+    ids.iter().any(|i| *i == id)
+}
+
+#[tactic(auto, unfolding(lks_law::specs::Polls::is_invited))]
+pub fn invites(journal: &[Record], n: u32, inner: &[u16], v: PeerId) -> bool
+    ensures { result ≡ is_invited v n inner.now journal.now }
+{
+    lists(inner, v) || lists(find_outer(journal, n), v)
+}
+
+#[tactic(auto, unfolding(lks_law::specs::Journal::has_voted))]
+pub fn voted_already(journal: &[Record], n: u32, v: PeerId) -> bool
+    ensures { result ≡ has_voted n v journal.now }
+{
+    journal.iter().any(
+        |r| matches!(r, Record::VoteIn { number, voter, .. } if *number == n && *voter == v),
+    )
+}
+
+#[tactic(auto, unfolding(lks_law::specs::Journal::was_asked))]
+pub fn asked_already(journal: &[Record], n: u32, b: u16, v: PeerId) -> bool
+    ensures { result ≡ was_asked n b v journal.now }
+{
+    journal.iter().any(|r| {
+        matches!(r, Record::Asked { number, block, voter }
+            if *number == n && (*block == b && *voter == v))
+    })
+}
+
+fn request_after(before: Option<Request>, r: &Record, n: u32) -> Option<Request>
+    ensures { option_map asked_for result ≡ unanswered_after n (option_map asked_for before) r.now }
+{
+    match r {
+        Record::Asked {
+            number,
+            block,
+            voter,
+        } if *number == n => Some(Request {
+            block: *block,
+            voter: *voter,
+        }),
+        Record::RepairBad { number, .. } if *number == n => None,
+        Record::Replaced { number, .. } if *number == n => None,
+        _ => before,
+    }
+}
+
+#[tactic(auto, unfolding(lks_law::specs::Journal::unanswered))]
+pub fn find_unanswered(journal: &[Record], n: u32) -> Option<Request>
+    ensures { option_map asked_for result ≡ unanswered n journal.now }
+{
+    let mut request = None;
+    for r in journal {
+        request = request_after(request, r, n);
+    }
+    request
+}
+
+fn tuned(before: Limits, r: &Record) -> Limits
+    ensures { result ≡ limits_after before r.now }
+{
+    match r {
+        Record::Tuned {
+            quorum,
+            minority,
+            ..
+        } => Limits {
+            quorum: *quorum,
+            minority: *minority,
+        },
+        _ => before,
+    }
+}
+
+#[tactic(auto, unfolding(lks_law::specs::Polls::limits_in_force))]
+pub fn current_limits(rules: &Rules, journal: &[Record]) -> Limits
+    ensures { result ≡ limits_in_force rules.now journal.now }
+{
+    let mut limits = Limits {
+        quorum: rules.quorum,
+        minority: rules.minority,
+    };
+    for r in journal {
+        limits = tuned(limits, r);
+    }
+    limits
+}
+
+/// The numbers that decide a poll with this opening.
+pub fn poll_limits(rules: &Rules, opening: &Opening<'_>) -> Limits
+    ensures { result ≡ limits_of rules.now opening.now }
+{
+    opening.limits.unwrap_or(Limits {
+        quorum: rules.quorum,
+        minority: rules.minority,
+    })
+}
+
+#[tactic(auto, unfolding(lks_law::specs::Journal::opens_running))]
+fn opened_running(journal: &[Record], au: AuId, r: &Record) -> bool
+    ensures { result ≡ opens_running au journal.now r.now }
+{
+    match r {
+        Record::PollOpened { number, au: a, .. } => *a == au && !closed_already(journal, *number),
+        _ => false,
+    }
+}
+
+pub fn audits(journal: &[Record], au: AuId) -> bool
+    ensures { result ≡ list_any (opens_running au journal.now) journal.now }
+{
+    journal.iter().any(|r| opened_running(journal, au, r))
+}
+
+#[tactic(auto, unfolding(lks_law::specs::Journal::opens_open))]
+fn opened_open(journal: &[Record], r: &Record) -> bool
+    ensures { result ≡ opens_open journal.now r.now }
+{
+    match r {
+        Record::PollOpened { number, .. } => !closed_already(journal, *number),
+        _ => false,
+    }
+}
+
+pub fn count_running(journal: &[Record]) -> usize
+    ensures { result ≡ count_by (opens_open journal.now) journal.now }
+{
+    journal.iter().filter(|r| opened_open(journal, r)).count()
+}
+
+#[tactic(auto, unfolding(lks_law::specs::Journal::opens_lately))]
+fn opened_lately(r: &Record, au: AuId, now: u32, pace: u32) -> bool
+    ensures { result ≡ opens_lately au now pace r.now }
+{
+    match r {
+        Record::PollOpened { au: a, tick, .. } => *a == au && now.saturating_sub(*tick) < pace,
+        _ => false,
+    }
+}
+
+pub fn audited_lately(journal: &[Record], au: AuId, now: u32, pace: u32) -> bool
+    ensures { result ≡ list_any (opens_lately au now pace) journal.now }
+{
+    journal.iter().any(|r| opened_lately(r, au, now, pace))
+}

@@ -1,0 +1,14 @@
+//! A peer: what it adds to its journal and sends, whatever it does or receives.
+#![tactic(auto)]
+
+mod copies;
+mod journals;
+mod letters;
+mod peers;
+mod polls;
+mod records;
+mod stations;
+mod steps;
+
+pub use lks_base::{Input, Outgoing, Reaction};
+pub use peers::Peer;

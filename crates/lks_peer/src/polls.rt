@@ -1,0 +1,174 @@
+//! The votes of a peer's own polls, and what they say of its copy.
+
+ghost use Rattle.std.specs.Prelude.{◌≡◌, true, not, find, IfOk, map};
+ghost use Rattle.lks_law.specs.Journal.{was_asked};
+ghost use Rattle.lks_law.specs.Polls.{votes, inner_votes, ballot_of, verdict_in, candidate};
+ghost use Rattle.lks_law.specs.Reaction.{is_inquorate};
+ghost use Rattle.lks_peer.specs.Inner.{inner_vote_in, voter_in};
+ghost use Rattle.lks_peer.specs.Small.{are_small};
+
+use crate::copies::copy_of;
+use crate::journals::{Opening, asked_already, lists, poll_limits};
+use crate::stations::Own;
+use lks_base::{Contents, OutOfMemory, PeerId, PollName, Record};
+use lks_hash::Steps;
+use lks_tally::{Ballot, Verdict, Vote, against_of, verdict_of};
+use std::alloc::Global;
+use std::sync::ledger::Ledger;
+
+fn as_voter(r: &Record, n: u32) -> Option<PeerId>
+    ensures { result ≡ voter_in n r.now }
+{
+    match r {
+        Record::VoteIn { number, voter, .. } if *number == n => Some(*voter),
+        _ => None,
+    }
+}
+
+/// Who voted in the poll, in order of the votes.
+#[tactic(auto, unfolding(lks_law::specs::Polls::votes))]
+pub fn voters_of(alloc: Global, journal: &[Record], n: u32) -> Result<Vec<PeerId>, OutOfMemory>
+    ensures { IfOk result (λ v. v.items ≡ map (λ v. v.voter) (votes n journal.now)) }
+{
+    let mut voters = Vec::new(alloc);
+    for r in journal {
+        if let Some(voter) = as_voter(r, n) {
+            voters.push(voter)?;
+        }
+    }
+    Ok(voters)
+}
+
+/// A copy of the vote that the record says came in, if it is of this poll and by an inner peer.
+fn as_inner_vote(r: &Record, n: u32, inner: &[u16]) -> Result<Option<Vote>, OutOfMemory>
+    ensures { IfOk result (λ v. v ≡ inner_vote_in n inner.now r.now) }
+{
+    match r {
+        Record::VoteIn {
+            number,
+            voter,
+            hashes,
+        } => {
+            if *number == n && lists(inner, *voter) {
+                let hashes = hashes.clone()?;
+                Ok(Some(Vote {
+                    voter: *voter,
+                    hashes,
+                }))
+            } else {
+                Ok(None)
+            }
+        }
+        _ => Ok(None),
+    }
+}
+
+/// Copies of the votes by the poll's inner peers, in order.
+#[tactic(auto, unfolding(lks_law::specs::Polls::votes, lks_law::specs::Polls::inner_votes))]
+fn inner_votes_of(
+    alloc: Global,
+    journal: &[Record],
+    n: u32,
+    inner: &[u16],
+) -> Result<Vec<Vote>, OutOfMemory>
+    ensures { IfOk result (λ v. v.items ≡ inner_votes n inner.now journal.now) }
+{
+    let mut votes = Vec::new(alloc);
+    for r in journal {
+        if let Some(vote) = as_inner_vote(r, n, inner)? {
+            votes.push(vote)?;
+        }
+    }
+    Ok(votes)
+}
+
+/// Whether fewer inner votes came in than the poll's quorum.
+#[tactic(auto, unfolding(lks_law::specs::Reaction::is_inquorate))]
+pub fn lacks_quorum(
+    alloc: Global,
+    own: &Own,
+    n: u32,
+    opening: &Opening<'_>,
+    journal: &[Record],
+) -> Result<bool, OutOfMemory>
+    ensures { IfOk result (λ r. r ≡ is_inquorate own.now n opening.now journal.now) }
+{
+    let votes = inner_votes_of(alloc, journal, n, opening.inner)?;
+    Ok(votes.as_slice().len() < poll_limits(&own.rules, opening).quorum as usize)
+}
+
+fn ballot(own: &Own, n: u32, opening: &Opening<'_>, count: u16) -> Ballot
+    ensures { result ≡ ballot_of own.now n opening.now count }
+{
+    Ballot {
+        poll: PollName {
+            poller: own.id,
+            number: n,
+        },
+        au: opening.au,
+        kind: opening.kind,
+        nonce: *opening.nonce,
+        count,
+    }
+}
+
+/// The verdict of the poll's inner votes on the peer's copy.
+#[tactic(auto, unfolding(lks_law::specs::Polls::verdict_in), using(crate::proofs::FewBlocks::whole_copy))]
+pub fn judge<L: Ledger>(
+    alloc: Global,
+    own: &Own,
+    n: u32,
+    opening: &Opening<'_>,
+    journal: &[Record],
+    steps: &mut Steps<L>,
+) -> Result<Verdict, OutOfMemory>
+    requires { are_small journal.now ≡ true }
+    ensures { IfOk result (λ v. v ≡ verdict_in own.now n opening.now journal.now) }
+{
+    let copy = copy_of(alloc, journal, opening.au)?;
+    let votes = inner_votes_of(alloc, journal, n, opening.inner)?;
+    verdict_of(
+        alloc,
+        &ballot(own, n, opening, copy.count()),
+        poll_limits(&own.rules, opening),
+        &votes,
+        &copy,
+        steps,
+    )
+}
+
+/// The first voter against the copy at `b` that wasn't asked for it yet.
+#[tactic(auto, unfolding(lks_law::specs::Polls::candidate), using(crate::proofs::FewBlocks::whole_copy))]
+pub fn find_candidate<L: Ledger>(
+    alloc: Global,
+    own: &Own,
+    n: u32,
+    opening: &Opening<'_>,
+    b: u16,
+    journal: &[Record],
+    steps: &mut Steps<L>,
+) -> Result<Option<PeerId>, OutOfMemory>
+    requires { are_small journal.now ≡ true }
+    ensures { IfOk result (λ v. v ≡ candidate own.now n opening.now b journal.now) }
+{
+    let copy = copy_of(alloc, journal, opening.au)?;
+    let votes = inner_votes_of(alloc, journal, n, opening.inner)?;
+    let against = against_of(
+        alloc,
+        &ballot(own, n, opening, copy.count()),
+        &votes,
+        &copy,
+        b,
+        steps,
+    )?;
+    Ok(first_unasked(journal, n, b, against.as_slice()))
+}
+
+fn first_unasked(journal: &[Record], n: u32, b: u16, voters: &[u16]) -> Option<PeerId>
+    ensures { result ≡ find (λ v. not (was_asked n b v journal.now)) voters.now }
+{
+    voters
+        .iter()
+        .copied()
+        .find(|v| !asked_already(journal, n, b, *v))
+}

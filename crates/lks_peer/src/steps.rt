@@ -1,0 +1,373 @@
+//! What a peer adds to its journal and sends, one function for each thing that it does or receives.
+
+ghost use Rattle.std.specs.Prelude.{◌≡◌, ◌≤◌, ◌<◌, true, IfOk, length, [], ◌∷◌};
+ghost use Rattle.lks_law.specs.Polls.{verdict_in};
+ghost use Rattle.lks_law.specs.Reaction.{nothing, may_open, opened, on_open, shut, shut_inquorate, on_shut, may_tally, closed, asked, tallied, on_tally, is_accepted, may_vote, counted, on_vote, on_message, reaction};
+ghost use Rattle.lks_peer.specs.Small.{are_small, most_records};
+
+use crate::copies::copy_of;
+use crate::journals::{
+    Opening, audited_lately, audits, count_openings, count_running, current_limits, find_deposit,
+    find_opening, find_unanswered, invites, runs, shut_already, takes_votes, voted_already,
+};
+use crate::letters::{give_receipts, invite, write};
+use crate::polls::{find_candidate, judge, lacks_quorum};
+use crate::stations::Own;
+use lks_base::{
+    AuId, Hashes, Input, Judged, Message, OutOfMemory, Outcome, Outgoing, PeerId, Reaction, Record,
+    Seq,
+};
+use lks_hash::{Steps, nonce_of};
+use lks_tally::Verdict;
+use std::alloc::Global;
+use std::sync::ledger::Ledger;
+
+/// The most polls of a peer that run at once.
+const MOST_POLLS: usize = 8;
+
+fn no_reaction(alloc: Global) -> Reaction
+    ensures { result ≡ nothing }
+{
+    Reaction {
+        records: Seq::from_vec(Vec::new(alloc)),
+        sends: Seq::from_vec(Vec::new(alloc)),
+    }
+}
+
+fn adding(alloc: Global, item: Record, sends: Seq<Outgoing>) -> Result<Reaction, OutOfMemory>
+    ensures { IfOk result (λ r. r ≡ record { records = item ∷ []; sends = sends }) }
+{
+    let mut records = Vec::new(alloc);
+    records.push(item)?;
+    Ok(Reaction {
+        records: Seq::from_vec(records),
+        sends,
+    })
+}
+
+fn no_sends(alloc: Global) -> Seq<Outgoing>
+    ensures { result ≡ [] }
+{
+    Seq::from_vec(Vec::new(alloc))
+}
+
+#[tactic(auto, unfolding(lks_law::specs::Reaction::may_open))]
+fn may_be_opened(own: &Own, journal: &[Record], tick: u32, au: AuId) -> bool
+    ensures { result ≡ may_open own.now journal.now tick au }
+{
+    find_deposit(journal, au).is_some()
+        && !audits(journal, au)
+        && count_running(journal) < MOST_POLLS
+        && !audited_lately(journal, au, tick, own.rules.pace)
+}
+
+fn open_as(
+    alloc: Global,
+    own: &Own,
+    journal: &[Record],
+    tick: u32,
+    au: AuId,
+    number: u32,
+) -> Result<Reaction, OutOfMemory>
+    ensures { IfOk result (λ r. r ≡ opened own.now journal.now tick au number) }
+{
+    let inner = own.refs.clone()?;
+    let sends = invite(alloc, number, au, own.refs.as_slice())?;
+    let item = Record::PollOpened {
+        number,
+        au,
+        nonce: nonce_of(&own.seed, number),
+        inner,
+        tick,
+        limits: Some(current_limits(&own.rules, journal)),
+        kind: own.hash,
+    };
+    adding(alloc, item, sends)
+}
+
+#[tactic(auto, unfolding(lks_law::specs::Reaction::on_open))]
+fn open_poll(
+    alloc: Global,
+    own: &Own,
+    journal: &[Record],
+    tick: u32,
+    au: AuId,
+) -> Result<Reaction, OutOfMemory>
+    requires { length journal.now ≤ most_records }
+    ensures { IfOk result (λ r. r ≡ on_open own.now journal.now tick au) }
+{
+    if !may_be_opened(own, journal, tick, au) {
+        return Ok(no_reaction(alloc));
+    }
+    let number = count_openings(journal) as u32 + 1;
+    open_as(alloc, own, journal, tick, au, number)
+}
+
+#[tactic(auto, unfolding(lks_law::specs::Reaction::closed))]
+fn close(
+    alloc: Global,
+    journal: &[Record],
+    tick: u32,
+    number: u32,
+    outcome: Outcome,
+) -> Result<Reaction, OutOfMemory>
+    ensures { IfOk result (λ r. r ≡ closed journal.now tick number outcome) }
+{
+    let sends = give_receipts(alloc, journal, number)?;
+    let item = Record::Closed {
+        number,
+        outcome,
+        tick,
+    };
+    adding(alloc, item, sends)
+}
+
+fn close_without_quorum(
+    alloc: Global,
+    journal: &[Record],
+    tick: u32,
+    number: u32,
+) -> Result<Reaction, OutOfMemory>
+    ensures { IfOk result (λ r. r ≡ shut_inquorate journal.now tick number) }
+{
+    let sends = give_receipts(alloc, journal, number)?;
+    let mut records = Vec::new(alloc);
+    records.push(Record::Shut { number })?;
+    records.push(Record::Closed {
+        number,
+        outcome: Outcome::Inquorate,
+        tick,
+    })?;
+    Ok(Reaction {
+        records: Seq::from_vec(records),
+        sends,
+    })
+}
+
+fn shut_with(
+    alloc: Global,
+    own: &Own,
+    journal: &[Record],
+    tick: u32,
+    number: u32,
+    opening: &Opening<'_>,
+) -> Result<Reaction, OutOfMemory>
+    ensures { IfOk result (λ r. r ≡ shut own.now journal.now tick number opening.now) }
+{
+    if lacks_quorum(alloc, own, number, opening, journal)? {
+        close_without_quorum(alloc, journal, tick, number)
+    } else {
+        adding(alloc, Record::Shut { number }, no_sends(alloc))
+    }
+}
+
+#[tactic(auto, unfolding(lks_law::specs::Reaction::on_shut))]
+fn shut_poll(
+    alloc: Global,
+    own: &Own,
+    journal: &[Record],
+    tick: u32,
+    number: u32,
+) -> Result<Reaction, OutOfMemory>
+    ensures { IfOk result (λ r. r ≡ on_shut own.now journal.now tick number) }
+{
+    if !takes_votes(journal, number) {
+        return Ok(no_reaction(alloc));
+    }
+    match find_opening(journal, number) {
+        Some(opening) => shut_with(alloc, own, journal, tick, number, &opening),
+        None => Ok(no_reaction(alloc)),
+    }
+}
+
+#[tactic(auto, unfolding(lks_law::specs::Reaction::may_tally))]
+pub fn may_be_tallied(journal: &[Record], number: u32) -> bool
+    ensures { result ≡ may_tally number journal.now }
+{
+    runs(journal, number)
+        && shut_already(journal, number)
+        && !find_unanswered(journal, number).is_some()
+}
+
+fn ask(
+    alloc: Global,
+    journal: &[Record],
+    tick: u32,
+    number: u32,
+    block: u16,
+    voter: Option<PeerId>,
+) -> Result<Reaction, OutOfMemory>
+    requires { block < 512 }
+    ensures { IfOk result (λ r. r ≡ asked journal.now tick number block voter) }
+{
+    match voter {
+        None => close(alloc, journal, tick, number, Outcome::NoSupplier { block }),
+        Some(voter) => {
+            let request = write(alloc, &Message::RepairRequest { number, block }, voter)?;
+            let mut sends = Vec::new(alloc);
+            sends.push(request)?;
+            let item = Record::Asked {
+                number,
+                block,
+                voter,
+            };
+            adding(alloc, item, Seq::from_vec(sends))
+        }
+    }
+}
+
+fn tally_with<L: Ledger>(
+    alloc: Global,
+    own: &Own,
+    journal: &[Record],
+    tick: u32,
+    number: u32,
+    opening: &Opening<'_>,
+    steps: &mut Steps<L>,
+) -> Result<Reaction, OutOfMemory>
+    requires { are_small journal.now ≡ true }
+    ensures { IfOk result (λ r. r ≡ tallied own.now journal.now tick number opening.now (verdict_in own.now number opening.now journal.now)) }
+{
+    match judge(alloc, own, number, opening, journal, steps)? {
+        Verdict::Inquorate => Ok(no_reaction(alloc)),
+        Verdict::Agreed => close(alloc, journal, tick, number, Outcome::Agreed),
+        Verdict::Split { block } => close(alloc, journal, tick, number, Outcome::Split { block }),
+        Verdict::Loss { block } => {
+            let voter = find_candidate(alloc, own, number, opening, block, journal, steps)?;
+            ask(alloc, journal, tick, number, block, voter)
+        }
+    }
+}
+
+#[tactic(auto, unfolding(lks_law::specs::Reaction::on_tally))]
+fn tally_poll<L: Ledger>(
+    alloc: Global,
+    own: &Own,
+    journal: &[Record],
+    tick: u32,
+    number: u32,
+    steps: &mut Steps<L>,
+) -> Result<Reaction, OutOfMemory>
+    requires { are_small journal.now ≡ true }
+    ensures { IfOk result (λ r. r ≡ on_tally own.now journal.now tick number) }
+{
+    if !may_be_tallied(journal, number) {
+        return Ok(no_reaction(alloc));
+    }
+    match find_opening(journal, number) {
+        Some(opening) => tally_with(alloc, own, journal, tick, number, &opening, steps),
+        None => Ok(no_reaction(alloc)),
+    }
+}
+
+fn accepts(judged: Judged) -> bool
+    ensures { result ≡ is_accepted judged }
+{
+    matches!(judged, Judged::Accepted)
+}
+
+#[tactic(auto, unfolding(lks_law::specs::Reaction::may_vote))]
+fn may_be_counted(
+    alloc: Global,
+    journal: &[Record],
+    from: PeerId,
+    number: u32,
+    hashes: usize,
+    opening: &Opening<'_>,
+) -> Result<bool, OutOfMemory>
+    ensures { IfOk result (λ r. r ≡ may_vote journal.now from number hashes opening.now) }
+{
+    let copy = copy_of(alloc, journal, opening.au)?;
+    Ok(
+        invites(journal, number, opening.inner, from)
+            && !voted_already(journal, number, from)
+            && hashes == copy.as_slice().len(),
+    )
+}
+
+fn count_with(
+    alloc: Global,
+    journal: &[Record],
+    from: PeerId,
+    number: u32,
+    hashes: &Hashes,
+    opening: &Opening<'_>,
+) -> Result<Reaction, OutOfMemory>
+    ensures { IfOk result (λ r. r ≡ counted journal.now from number hashes.now opening.now) }
+{
+    let count = hashes.as_slice().len();
+    if !may_be_counted(alloc, journal, from, number, count, opening)? {
+        return Ok(no_reaction(alloc));
+    }
+    let hashes = hashes.clone()?;
+    let item = Record::VoteIn {
+        number,
+        voter: from,
+        hashes,
+    };
+    adding(alloc, item, no_sends(alloc))
+}
+
+#[tactic(auto, unfolding(lks_law::specs::Reaction::on_vote))]
+fn take_vote(
+    alloc: Global,
+    journal: &[Record],
+    from: PeerId,
+    number: u32,
+    hashes: &Hashes,
+    judged: Judged,
+) -> Result<Reaction, OutOfMemory>
+    ensures { IfOk result (λ r. r ≡ on_vote journal.now from number hashes.now judged) }
+{
+    if !(accepts(judged) && takes_votes(journal, number)) {
+        return Ok(no_reaction(alloc));
+    }
+    match find_opening(journal, number) {
+        Some(opening) => count_with(alloc, journal, from, number, hashes, &opening),
+        None => Ok(no_reaction(alloc)),
+    }
+}
+
+fn hear(
+    alloc: Global,
+    journal: &[Record],
+    from: PeerId,
+    message: &Message,
+    judged: Judged,
+) -> Result<Reaction, OutOfMemory>
+    ensures { IfOk result (λ r. r ≡ on_message journal.now from message.now judged) }
+{
+    match message {
+        Message::Vote { number, hashes, .. } => {
+            take_vote(alloc, journal, from, *number, hashes, judged)
+        }
+        _ => Ok(no_reaction(alloc)),
+    }
+}
+
+/// What a peer with this journal adds and sends.
+#[tactic(auto, unfolding(lks_law::specs::Reaction::reaction))]
+pub fn react<L: Ledger>(
+    alloc: Global,
+    own: &Own,
+    journal: &[Record],
+    tick: u32,
+    input: &Input,
+    steps: &mut Steps<L>,
+) -> Result<Reaction, OutOfMemory>
+    requires small { are_small journal.now ≡ true }
+    requires few { length journal.now ≤ most_records }
+    ensures { IfOk result (λ r. r ≡ reaction own.now journal.now tick input.now) }
+{
+    match input {
+        Input::OpenPoll { au } => open_poll(alloc, own, journal, tick, *au),
+        Input::Shut { number } => shut_poll(alloc, own, journal, tick, *number),
+        Input::Tally { number } => tally_poll(alloc, own, journal, tick, *number, steps),
+        Input::Got {
+            from,
+            message,
+            judged,
+        } => hear(alloc, journal, *from, message, *judged),
+        _ => Ok(no_reaction(alloc)),
+    }
+}

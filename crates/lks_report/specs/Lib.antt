@@ -1,0 +1,4 @@
+pub mod Alarms
+pub mod Scans
+pub mod Text
+pub mod Words

@@ -1,0 +1,85 @@
+-- What the lines below the entries count and look up.
+use Rattle.std.specs.Prelude.{ℕ, Bool, false, not, ◌&&◌, ◌==◌, if◌then◌else◌, Option, Some, None, List, [], take, slice_get, sum_by, count_by}
+use Rattle.std.specs.List.{flat_map, filter_map}
+use Rattle.lks_base.specs.declared.entries.Entry.{Entry}
+use Rattle.lks_base.specs.declared.entries.Note.{Note}
+use Rattle.lks_base.specs.declared.entries.Note.TheVariants as noted
+use Rattle.lks_base.specs.declared.events.Event.{Event}
+use Rattle.lks_base.specs.declared.events.Event.TheVariants as happened
+use Rattle.lks_base.specs.declared.events.PeerStep.{PeerStep}
+use Rattle.lks_base.specs.declared.events.PeerStep.TheVariants as step
+use Rattle.lks_base.specs.declared.names.Outcome.{Outcome}
+
+-- whose step it is: of a delivery, the receiver's
+unfoldable pub step_actor : ℕ → PeerStep → ℕ
+step_actor to (step.OpenPoll peer au) = peer
+step_actor to (step.Widen peer number) = peer
+step_actor to (step.Shut peer number) = peer
+step_actor to (step.Tally peer number) = peer
+step_actor to (step.Nudge peer number) = peer
+step_actor to (step.GiveUp peer number) = peer
+step_actor to (step.Work peer poll) = peer
+step_actor to (step.Expire peer poll) = peer
+step_actor to (step.Check peer) = peer
+step_actor to (step.Tune peer quorum minority repairs) = peer
+step_actor to (step.Deliver envelope judged) = to
+
+abbrev pub event_actor : ℕ → Event → ℕ
+event_actor to (happened.Step s) = step_actor to s
+event_actor to (happened.Cut s kept) = step_actor to s
+event_actor to (happened.Tick by) = 0
+event_actor to (happened.Lose envelope) = 0
+event_actor to (happened.Forge sender receiver bytes) = 0
+event_actor to (happened.Crash peer) = 0
+
+-- whose notes the entry has: 0 where it is no peer's step
+unfoldable pub actor : Entry → ℕ
+actor entry = event_actor entry.to entry.event
+
+-- the notes of the entry, where they are this peer's
+unfoldable pub own_notes : ℕ → Entry → List Note
+own_notes peer entry = if actor entry == peer then entry.notes else []
+
+-- all notes of a peer, in order
+unfoldable pub notes_of : ℕ → List Entry → List Note
+notes_of peer entries = flat_map (own_notes peer) entries
+
+unfoldable pub replaces : ℕ → Note → Bool
+replaces au (noted.Replaced number a block size) = a == au
+replaces au _ = false
+
+-- how often blocks of a peer's copy were replaced
+unfoldable pub version : ℕ → List Note → ℕ
+version au notes = count_by (replaces au) notes
+
+unfoldable pub is_inner_vote : ℕ → Note → Bool
+is_inner_vote number (noted.VoteIn n voter inner) = n == number && inner
+is_inner_vote number _ = false
+
+unfoldable pub is_outer_vote : ℕ → Note → Bool
+is_outer_vote number (noted.VoteIn n voter inner) = n == number && not inner
+is_outer_vote number _ = false
+
+unfoldable pub inner_votes : ℕ → List Note → ℕ
+inner_votes number notes = count_by (is_inner_vote number) notes
+
+unfoldable pub outer_votes : ℕ → List Note → ℕ
+outer_votes number notes = count_by (is_outer_vote number) notes
+
+unfoldable pub outcome_in : ℕ → Note → Option Outcome
+outcome_in number (noted.Closed n outcome) = if n == number then Some outcome else None
+outcome_in number _ = None
+
+-- how a poll ended first, if it did
+unfoldable pub outcome_of : ℕ → List Note → Option Outcome
+outcome_of number notes = slice_get (filter_map (outcome_in number) notes) 0
+
+unfoldable pub ticks_in : Entry → ℕ
+ticks_in entry = ticks_of entry.event where
+  ticks_of : Event → ℕ
+  ticks_of (happened.Tick by) = by
+  ticks_of _ = 0
+
+-- the tick before the entry at this place
+abbrev pub tick_at : ℕ → List Entry → ℕ
+tick_at place entries = sum_by ticks_in (take place entries)

@@ -1,0 +1,98 @@
+-- The words of events and notes. They are parted by single spaces, and numbers are decimal.
+use Rattle.std.specs.Prelude.{ℕ, Bool, true, false, List, [], ◌∷◌, ◌++◌, length, codes, decimal}
+use Rattle.std.specs.List.{join_with_byte, join_by}
+use Rattle.lks_base.specs.declared.entries.Note.{Note}
+use Rattle.lks_base.specs.declared.entries.Note.TheVariants as noted
+use Rattle.lks_base.specs.declared.events.Event.{Event}
+use Rattle.lks_base.specs.declared.events.Event.TheVariants as happened
+use Rattle.lks_base.specs.declared.events.PeerStep.{PeerStep}
+use Rattle.lks_base.specs.declared.events.PeerStep.TheVariants as step
+use Rattle.lks_base.specs.declared.names.Judged.{Judged}
+use Rattle.lks_base.specs.declared.names.Judged.TheVariants.{NotAsked, Accepted, Refused}
+use Rattle.lks_base.specs.declared.names.Outcome.{Outcome}
+use Rattle.lks_base.specs.declared.names.Outcome.TheVariants as closing
+
+-- words with a space between each two
+abbrev pub spaced : List (List ℕ) → List ℕ
+spaced words = join_with_byte 32 words
+
+-- what the judge of effort proofs said, where it was asked
+unfoldable pub judged_words : Judged → List ℕ
+judged_words NotAsked = []
+judged_words Accepted = codes " accepted"
+judged_words Refused = codes " refused"
+
+-- a step; a delivery from one peer to another names both
+unfoldable pub step_words : ℕ → ℕ → PeerStep → List ℕ
+step_words from to (step.OpenPoll peer au) = spaced (codes "open" ∷ decimal peer ∷ decimal au ∷ [])
+step_words from to (step.Widen peer number) = spaced (codes "outer" ∷ decimal peer ∷ decimal number ∷ [])
+step_words from to (step.Shut peer number) = spaced (codes "shut" ∷ decimal peer ∷ decimal number ∷ [])
+step_words from to (step.Tally peer number) = spaced (codes "tally" ∷ decimal peer ∷ decimal number ∷ [])
+step_words from to (step.Nudge peer number) = spaced (codes "nudge" ∷ decimal peer ∷ decimal number ∷ [])
+step_words from to (step.GiveUp peer number) = spaced (codes "give-up" ∷ decimal peer ∷ decimal number ∷ [])
+step_words from to (step.Work peer poll) =
+    spaced (codes "work" ∷ decimal peer ∷ decimal poll.poller ∷ decimal poll.number ∷ [])
+step_words from to (step.Expire peer poll) =
+    spaced (codes "expire" ∷ decimal peer ∷ decimal poll.poller ∷ decimal poll.number ∷ [])
+step_words from to (step.Check peer) = spaced (codes "check" ∷ decimal peer ∷ [])
+step_words from to (step.Tune peer quorum minority repairs) =
+    spaced (codes "tune" ∷ decimal peer ∷ decimal quorum ∷ decimal minority ∷ decimal repairs ∷ [])
+step_words from to (step.Deliver envelope judged) =
+    spaced (codes "deliver" ∷ decimal envelope ∷ decimal from ∷ decimal to ∷ []) ++ judged_words judged
+
+unfoldable pub event_words : ℕ → ℕ → Event → List ℕ
+event_words from to (happened.Step s) = step_words from to s
+event_words from to (happened.Cut s true) = codes "cut kept " ++ step_words from to s
+event_words from to (happened.Cut s false) = codes "cut lost " ++ step_words from to s
+event_words from to (happened.Tick by) = spaced (codes "tick" ∷ decimal by ∷ [])
+event_words from to (happened.Lose envelope) = spaced (codes "lose" ∷ decimal envelope ∷ [])
+event_words from to (happened.Forge sender receiver bytes) =
+    spaced (codes "forge" ∷ decimal sender ∷ decimal receiver ∷ decimal (length bytes) ∷ [])
+event_words from to (happened.Crash peer) = spaced (codes "crash" ∷ decimal peer ∷ [])
+
+unfoldable pub outcome_words : Outcome → List ℕ
+outcome_words closing.Agreed = codes "agreed"
+outcome_words closing.Inquorate = codes "inquorate"
+outcome_words (closing.Split block) = codes "split-" ++ decimal block
+outcome_words (closing.NoSupplier block) = codes "no-supplier-" ++ decimal block
+
+-- an admission that was of low grade or not
+unfoldable pub grade_word : Bool → List ℕ
+grade_word true = codes "low"
+grade_word false = codes "high"
+
+-- a note on the peer's part in another peer's poll
+unfoldable pub session_words : Note → List ℕ
+session_words (noted.Joined poll au low) =
+    spaced (codes "joined" ∷ decimal poll.poller ∷ decimal poll.number ∷ decimal au ∷ grade_word low ∷ [])
+session_words (noted.Committed poll version) =
+    spaced (codes "committed" ∷ decimal poll.poller ∷ decimal poll.number ∷ decimal version ∷ [])
+session_words (noted.Voted poll) = spaced (codes "voted" ∷ decimal poll.poller ∷ decimal poll.number ∷ [])
+session_words (noted.Served poll block) =
+    spaced (codes "served" ∷ decimal poll.poller ∷ decimal poll.number ∷ decimal block ∷ [])
+session_words (noted.Ended poll) = spaced (codes "ended" ∷ decimal poll.poller ∷ decimal poll.number ∷ [])
+session_words _ = []
+
+-- a note
+unfoldable pub note_words : Note → List ℕ
+note_words (noted.Opened number au) = spaced (codes "opened" ∷ decimal number ∷ decimal au ∷ [])
+note_words (noted.Nominated number voter) = spaced (codes "nominated" ∷ decimal number ∷ decimal voter ∷ [])
+note_words (noted.Outer number count) = spaced (codes "outer" ∷ decimal number ∷ decimal count ∷ [])
+note_words (noted.VoteIn number voter inner) = spaced (codes "vote-in" ∷ decimal number ∷ decimal voter ∷ [])
+note_words (noted.Shut number) = spaced (codes "shut" ∷ decimal number ∷ [])
+note_words (noted.Asked number block voter) =
+    spaced (codes "asked" ∷ decimal number ∷ decimal block ∷ decimal voter ∷ [])
+note_words (noted.RepairBad number block voter) =
+    spaced (codes "repair-bad" ∷ decimal number ∷ decimal block ∷ decimal voter ∷ [])
+note_words (noted.Replaced number au block size) =
+    spaced (codes "replaced" ∷ decimal number ∷ decimal au ∷ decimal block ∷ decimal size ∷ [])
+note_words (noted.Closed number outcome) = spaced (codes "closed" ∷ decimal number ∷ outcome_words outcome ∷ [])
+note_words (noted.Overdue au) = spaced (codes "overdue" ∷ decimal au ∷ [])
+note_words (noted.Tuned quorum minority repairs) =
+    spaced (codes "tuned" ∷ decimal quorum ∷ decimal minority ∷ decimal repairs ∷ [])
+note_words note = session_words note
+
+-- the notes of an entry, or a hyphen for none
+unfoldable pub notes_words : List Note → List ℕ
+notes_words [] = codes "-"
+notes_words (note ∷ notes) = join_by note_words (codes ", ") (note ∷ notes)

@@ -1,0 +1,166 @@
+//! The words of events and notes.
+ghost use Rattle.std.specs.Prelude.{◌≡◌, ◌++◌, OnOk, string_bytes};
+ghost use Rattle.lks_report.specs.Words.{judged_words, step_words, event_words, outcome_words, grade_word, session_words, note_words, notes_words};
+
+use lks_base::{Entry, Event, Judged, Note, Outcome, PeerStep};
+use std::alloc::AllocError;
+
+#[tactic(auto, unfolding(crate::specs::Words::judged_words))]
+fn judged_text(judged: Judged) -> &'static str
+    ensures { result.now ≡ judged_words judged }
+{
+    match judged {
+        Judged::NotAsked => "",
+        Judged::Accepted => " accepted",
+        Judged::Refused => " refused",
+    }
+}
+
+#[tactic(auto, unfolding(crate::specs::Words::step_words))]
+fn put_step(out: &mut String, from: u16, to: u16, step: &PeerStep) -> Result<(), AllocError>
+    ensures { OnOk result
+        (string_bytes out.new ≡ string_bytes out.old ++ step_words from to step.now) }
+{
+    match *step {
+        PeerStep::OpenPoll { peer, au } => write!(out, "open {peer} {au}"),
+        PeerStep::Widen { peer, number } => write!(out, "outer {peer} {number}"),
+        PeerStep::Shut { peer, number } => write!(out, "shut {peer} {number}"),
+        PeerStep::Tally { peer, number } => write!(out, "tally {peer} {number}"),
+        PeerStep::Nudge { peer, number } => write!(out, "nudge {peer} {number}"),
+        PeerStep::GiveUp { peer, number } => write!(out, "give-up {peer} {number}"),
+        PeerStep::Work { peer, poll } => {
+            write!(out, "work {peer} {} {}", poll.poller, poll.number)
+        }
+        PeerStep::Expire { peer, poll } => {
+            write!(out, "expire {peer} {} {}", poll.poller, poll.number)
+        }
+        PeerStep::Check { peer } => write!(out, "check {peer}"),
+        PeerStep::Tune {
+            peer,
+            quorum,
+            minority,
+            repairs,
+        } => write!(out, "tune {peer} {quorum} {minority} {repairs}"),
+        PeerStep::Deliver { envelope, judged } => {
+            let judged = judged_text(judged);
+            write!(out, "deliver {envelope} {from} {to}{judged}")
+        }
+    }
+}
+
+#[tactic(auto, unfolding(crate::specs::Words::event_words))]
+pub(crate) fn put_event(out: &mut String, entry: &Entry) -> Result<(), AllocError>
+    ensures { OnOk result
+        (string_bytes out.new ≡
+        string_bytes out.old ++ event_words entry.now.from entry.now.to entry.now.event) }
+{
+    match &entry.event {
+        Event::Step(step) => put_step(out, entry.from, entry.to, step),
+        Event::Cut { step, kept } => {
+            out.push_str(if *kept { "cut kept " } else { "cut lost " })?;
+            put_step(out, entry.from, entry.to, step)
+        }
+        Event::Tick { by } => write!(out, "tick {by}"),
+        Event::Lose { envelope } => write!(out, "lose {envelope}"),
+        Event::Forge { from, to, bytes } => {
+            let length = bytes.as_slice().len();
+            write!(out, "forge {from} {to} {length}")
+        }
+        Event::Crash { peer } => write!(out, "crash {peer}"),
+    }
+}
+
+#[tactic(auto, unfolding(crate::specs::Words::outcome_words))]
+pub(crate) fn put_outcome(out: &mut String, outcome: Outcome) -> Result<(), AllocError>
+    ensures { OnOk result (string_bytes out.new ≡ string_bytes out.old ++ outcome_words outcome) }
+{
+    match outcome {
+        Outcome::Agreed => out.push_str("agreed"),
+        Outcome::Inquorate => out.push_str("inquorate"),
+        Outcome::Split { block } => write!(out, "split-{block}"),
+        Outcome::NoSupplier { block } => write!(out, "no-supplier-{block}"),
+    }
+}
+
+#[tactic(auto, unfolding(crate::specs::Words::grade_word))]
+fn grade_text(low: bool) -> &'static str
+    ensures { result.now ≡ grade_word low }
+{
+    if low { "low" } else { "high" }
+}
+
+#[tactic(auto, unfolding(crate::specs::Words::session_words))]
+fn put_session_note(out: &mut String, note: &Note) -> Result<(), AllocError>
+    ensures { OnOk result (string_bytes out.new ≡ string_bytes out.old ++ session_words note.now) }
+{
+    match *note {
+        Note::Joined { poll, au, low } => {
+            let grade = grade_text(low);
+            write!(out, "joined {} {} {au} {grade}", poll.poller, poll.number)
+        }
+        Note::Committed { poll, version } => {
+            write!(out, "committed {} {} {version}", poll.poller, poll.number)
+        }
+        Note::Voted { poll } => write!(out, "voted {} {}", poll.poller, poll.number),
+        Note::Served { poll, block } => {
+            write!(out, "served {} {} {block}", poll.poller, poll.number)
+        }
+        Note::Ended { poll } => write!(out, "ended {} {}", poll.poller, poll.number),
+        _ => Ok(()),
+    }
+}
+
+#[tactic(auto, unfolding(crate::specs::Words::note_words))]
+fn put_note(out: &mut String, note: &Note) -> Result<(), AllocError>
+    ensures { OnOk result (string_bytes out.new ≡ string_bytes out.old ++ note_words note.now) }
+{
+    match *note {
+        Note::Opened { number, au } => write!(out, "opened {number} {au}"),
+        Note::Nominated { number, voter } => write!(out, "nominated {number} {voter}"),
+        Note::Outer { number, count } => write!(out, "outer {number} {count}"),
+        Note::VoteIn { number, voter, .. } => write!(out, "vote-in {number} {voter}"),
+        Note::Shut { number } => write!(out, "shut {number}"),
+        Note::Asked {
+            number,
+            block,
+            voter,
+        } => write!(out, "asked {number} {block} {voter}"),
+        Note::RepairBad {
+            number,
+            block,
+            voter,
+        } => write!(out, "repair-bad {number} {block} {voter}"),
+        Note::Replaced {
+            number,
+            au,
+            block,
+            length,
+        } => write!(out, "replaced {number} {au} {block} {length}"),
+        Note::Closed { number, outcome } => {
+            write!(out, "closed {number} ")?;
+            put_outcome(out, outcome)
+        }
+        Note::Overdue { au } => write!(out, "overdue {au}"),
+        Note::Tuned {
+            quorum,
+            minority,
+            repairs,
+        } => write!(out, "tuned {quorum} {minority} {repairs}"),
+        _ => put_session_note(out, note),
+    }
+}
+
+#[tactic(auto, unfolding(crate::specs::Words::notes_words))]
+pub(crate) fn put_notes(out: &mut String, notes: &[Note]) -> Result<(), AllocError>
+    ensures { OnOk result (string_bytes out.new ≡ string_bytes out.old ++ notes_words notes.now) }
+{
+    let [first, rest @ ..] = notes else {
+        return out.push('-');
+    };
+    put_note(out, first)?;
+    for note in rest {
+        out.push_str(", ")?;
+        put_note(out, note)?;
+    }
+    Ok(())
+}

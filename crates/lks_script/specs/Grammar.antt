@@ -1,0 +1,116 @@
+-- What bytes say as a script, or the number of their first bad line.
+use Rattle.std.specs.Prelude.{◌≡◌, ℕ, ◌+◌, ◌==◌, Bool, true, false, not, ◌&&◌, min, if◌then◌else◌, List, [], ◌∷◌, ◌++◌, length, codes, Option, Some, None, Result, Ok, Err}
+use Rattle.std.specs.Option.{option_map}
+use Rattle.std.specs.Str.{bytes_eq}
+use Rattle.lks_base.specs.declared.plans.AuPlan.{AuPlan}
+use Rattle.lks_base.specs.declared.plans.Plan.{Plan}
+use Rattle.lks_base.specs.declared.plans.Rules.{Rules}
+use Rattle.lks_script.specs.declared.drafts.Draft.{Draft}
+use Rattle.lks_script.specs.declared.drafts.Draft.TheVariants.{Blank, Titled, Ruled, Planned}
+use Rattle.lks_script.specs.declared.drafts.Part.{Part}
+use Rattle.lks_script.specs.declared.drafts.Part.TheVariants as part
+use Rattle.lks_script.specs.declared.faults.ScriptFault.{ScriptFault}
+use Rattle.lks_script.specs.declared.faults.ScriptFault.TheVariants.{BadLine, Memory}
+use Rattle.lks_script.specs.declared.steps.Script.{Script}
+use Rattle.lks_script.specs.declared.steps.Step.{Step}
+use Rattle.lks_script.specs.Numbers.{◌>>=◌}
+use Rattle.lks_script.specs.Words.{parts}
+use Rattle.lks_script.specs.PlanLines.{are_good, rules_in, au_in, may_add_au, some_honest, plan_with_peer, plan_with_refs, plan_with_copy}
+use Rattle.lks_script.specs.StepLines.{steps_with}
+
+-- lockss 1
+unfoldable pub title_line : List (List ℕ) → Option Draft
+title_line (key ∷ version ∷ []) = if bytes_eq key (codes "lockss") && bytes_eq version (codes "1") then Some Titled else None
+title_line _ = None
+
+-- the numbers of the rules
+unfoldable pub numbers_line : List (List ℕ) → Option Draft
+numbers_line more = do
+  rules ← rules_in more
+  if are_good rules then Some (Ruled rules []) else None
+
+unfoldable pub rules_line : List (List ℕ) → Option Draft
+rules_line (key ∷ more) = if bytes_eq key (codes "rules") then numbers_line more else None
+rules_line _ = None
+
+-- a plan without peers
+abbrev pub begun : Rules → List AuPlan → Plan
+begun rules aus = record { rules = rules; turns = 4096; aus = aus; peers = [] }
+
+unfoldable pub au_line : Rules → List AuPlan → List (List ℕ) → Option Draft
+au_line rules aus more = do
+  au ← au_in more
+  if may_add_au aus au then Some (Ruled rules (aus ++ au ∷ [])) else None
+
+unfoldable pub peer_line : Plan → List Step → List (List ℕ) → Option Draft
+peer_line plan steps more = option_map (λ p. Planned part.Peers p steps) (plan_with_peer plan more)
+
+-- behind the rules: an AU, or the first peer
+unfoldable pub ruled_line : Rules → List AuPlan → List (List ℕ) → Option Draft
+ruled_line rules aus (key ∷ more) =
+    if bytes_eq key (codes "au") then au_line rules aus more
+    else if bytes_eq key (codes "peer") then peer_line (begun rules aus) [] more
+    else None
+ruled_line rules aus _ = None
+
+abbrev pub in_peers : Part → Bool
+in_peers part.Peers = true
+in_peers _ = false
+
+abbrev pub in_steps : Part → Bool
+in_steps part.Steps = true
+in_steps _ = false
+
+-- a reference list, a copy, or a step, in a plan with an honest peer
+unfoldable pub later_line : Part → Plan → List Step → List ℕ → List (List ℕ) → Option Draft
+later_line at plan steps key more =
+    if not (in_steps at) && bytes_eq key (codes "refs") then option_map (λ p. Planned part.Lists p steps) (plan_with_refs plan more)
+    else if not (in_steps at) && bytes_eq key (codes "copy") then option_map (λ p. Planned part.Lists p steps) (plan_with_copy plan more)
+    else option_map (Planned part.Steps plan) (steps_with plan steps key more)
+
+-- a peer may be declared here, and is
+unfoldable pub declares_peer : Part → List ℕ → Bool
+declares_peer at key = in_peers at && bytes_eq key (codes "peer")
+
+unfoldable pub planned_line : Part → Plan → List Step → List (List ℕ) → Option Draft
+planned_line at plan steps (key ∷ more) =
+    if declares_peer at key then peer_line plan steps more
+    else if some_honest plan.peers then later_line at plan steps key more
+    else None
+planned_line at plan steps _ = None
+
+-- what a line makes of the script so far
+unfoldable pub line_in : Draft → List (List ℕ) → Option Draft
+line_in Blank words = title_line words
+line_in Titled words = rules_line words
+line_in (Ruled rules aus) words = ruled_line rules aus words
+line_in (Planned at plan steps) words = planned_line at plan steps words
+
+-- the script, where its end may come here
+unfoldable pub ended : Draft → Option Script
+ended (Planned at plan steps) = if some_honest plan.peers then Some (record { plan = plan; steps = steps }) else None
+ended _ = None
+
+-- the number of a line, or the last one that has a place
+unfoldable pub line_number : ℕ → ℕ
+line_number k = min k 4294967295
+
+-- behind the last line end: nothing, and the script is ended
+unfoldable pub end_in : ℕ → Draft → List ℕ → Result Script ℕ
+end_in k draft last = elim (if length last == 0 then ended draft else None) [ Some script ↦ Ok script | None ↦ Err (line_number k) ]
+
+-- the lines from the k-th on, and what stands behind the last line end
+unfoldable pub lines_in : ℕ → Draft → List (List ℕ) → Result Script ℕ
+lines_in k draft [] = Err (line_number k)
+lines_in k draft (last ∷ []) = end_in k draft last
+lines_in k draft (line ∷ next ∷ lines) = elim (line_in draft (parts 32 line)) [ Some longer ↦ lines_in (k + 1) longer (next ∷ lines) | None ↦ Err (line_number k) ]
+
+-- the script that the bytes say, or its first bad line
+unfoldable pub script_of : List ℕ → Result Script ℕ
+script_of bytes = lines_in 1 Blank (parts 10 bytes)
+
+-- a function answers so, unless it wants memory
+abbrev pub Answers : Result Script ScriptFault → Result Script ℕ → Type 0
+Answers (Ok script) said = said ≡ Ok script
+Answers (Err (BadLine line)) said = said ≡ Err line
+Answers (Err Memory) said = Unit {0}

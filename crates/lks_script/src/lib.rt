@@ -1,0 +1,18 @@
+//! Scripts: what a run begins with, and what is done in it.
+#![tactic(auto)]
+
+mod drafts;
+mod faults;
+mod numbers;
+mod plan_lines;
+mod reading;
+mod step_lines;
+mod step_rules;
+mod steps;
+#[cfg(test)]
+mod tests;
+mod words;
+
+pub use faults::ScriptFault;
+pub use reading::read_script;
+pub use steps::{CutStep, Script, Step};

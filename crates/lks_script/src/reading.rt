@@ -1,0 +1,83 @@
+//! Scripts from bytes.
+
+ghost use Rattle.std.specs.Prelude.{◌≡◌, ◌==◌, ◌<◌, ◌∷◌, [], length, IfSome, IfNone, IfOk, true};
+ghost use Rattle.std.specs.List.{position};
+ghost use Rattle.lks_base.specs.Checking.{plan_fault};
+ghost use Rattle.lks_script.specs.StepRules.{are_steps_of};
+ghost use Rattle.lks_script.specs.Words.{Gives, parts};
+ghost use Rattle.lks_script.specs.Grammar.{line_in, line_number, end_in, script_of, Answers};
+
+use crate::drafts::{Draft, into_script, read_line};
+use crate::faults::{ScriptFault, Stop};
+use crate::steps::Script;
+use crate::words::split;
+use std::alloc::Global;
+
+fn line_end(bytes: &[u8]) -> Option<usize>
+    ensures { result ≡ position (λ b. b == 10) bytes.now }
+{
+    bytes.iter().position(|b| *b == b'\n')
+}
+
+/// The first line without its line feed, and the bytes behind that.
+#[tactic(auto, using(crate::proofs::Lines::cut_at, crate::proofs::Lines::uncut))]
+fn first_line(bytes: &[u8]) -> Option<(&[u8], &[u8])>
+    ensures some { IfSome result (λ r. (parts 10 bytes.now ≡ r.0.now ∷ parts 10 r.1.now)) }
+    ensures less { IfSome result (λ r. length r.1.now < length bytes.now) }
+    ensures none { IfNone result (parts 10 bytes.now ≡ bytes.now ∷ []) }
+{
+    let at = line_end(bytes)?;
+    let (line, _) = bytes.split_at(at);
+    let (_, rest) = bytes.split_at(at + 1);
+    Some((line, rest))
+}
+
+fn extend(alloc: Global, draft: Draft, line: &[u8]) -> Result<Draft, Stop>
+    ensures { Gives result (line_in draft (parts 32 line.now)) }
+{
+    let words = split(alloc, line, b' ')?;
+    read_line(alloc, draft, &words)
+}
+
+#[tactic(auto, unfolding(crate::specs::Grammar::line_number))]
+fn bad_line(line: u64) -> ScriptFault
+    ensures { result ≡ ScriptFault.BadLine (line_number line) }
+{
+    ScriptFault::BadLine {
+        line: line.min(u64::from(u32::MAX)) as u32,
+    }
+}
+
+#[tactic(auto, unfolding(crate::specs::Grammar::end_in))]
+fn finish(line: u64, draft: Draft, last: &[u8]) -> Result<Script, ScriptFault>
+    ensures { Answers result (end_in line draft last.now) }
+{
+    if last.len() != 0 {
+        return Err(bad_line(line));
+    }
+    match into_script(draft) {
+        Some(script) => Ok(script),
+        None => Err(bad_line(line)),
+    }
+}
+
+/// The script that the bytes say, line by line.
+pub fn read_script(alloc: Global, bytes: &[u8]) -> Result<Script, ScriptFault>
+    ensures exact { Answers result (script_of bytes.now) }
+    ensures good { IfOk result (λ s. plan_fault s.plan ≡ None) }
+    ensures steps { IfOk result (λ s. are_steps_of s.plan s.steps ≡ true) }
+{
+    let mut draft = Draft::Blank;
+    let mut line = 1;
+    let mut rest = bytes;
+    'lines: while let Some((row, more)) = first_line(rest) {
+        draft = match extend(alloc, draft, row) {
+            Ok(longer) => longer,
+            Err(Stop::Bad) => return Err(bad_line(line)),
+            Err(Stop::Memory) => return Err(ScriptFault::Memory),
+        };
+        line += 1;
+        rest = more;
+    }
+    finish(line, draft, rest)
+}

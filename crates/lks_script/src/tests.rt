@@ -1,0 +1,256 @@
+//! Scripts that read, and the first bad lines of others.
+
+use super::*;
+use lks_base::{PeerStep, Plan};
+use std::alloc::Global;
+use std::process::Abort;
+use std::test::*;
+
+const TITLE: &str = "lockss 1\n";
+
+const RULES: &str =
+    "rules inner 4 quorum 3 minority 1 outer 0 repairs 2 pace 0 refractory 0 overdue 100 unknown 100 debt 100 churn 0\n";
+
+const AU: &str = "au 1 2\n";
+
+const PEERS: &str =
+    "peer 1 honest 01 01\npeer 2 corrupt 02 01\npeer 3 corrupt 03 01\npeer 4 corrupt 04 01\n";
+
+const LISTS: &str = "refs 1 2 3 4\ncopy 1 1 41,42\n";
+
+const STEPS: &str =
+    "open 1 1\nsay 2 vote 1 1 1 of 41,42\nsay 3 vote 1 1 1 of 41,42\nsay 4 vote 1 1 1 of 41,42\nsettle\nshut 1 1\nsettle\n";
+
+fn joined(alloc: Global, pieces: &[&str]) -> Result<Vec<u8>, Fail> {
+    let mut bytes = Vec::new(alloc);
+    for piece in pieces {
+        bytes.extend_from_slice(piece.as_bytes())?;
+    }
+    Ok(bytes)
+}
+
+/// The first bad line, or 0.
+fn line_of(alloc: Global, pieces: &[&str]) -> Result<u32, Fail> {
+    let bytes = joined(alloc, pieces)?;
+    match read_script(alloc, &bytes) {
+        Ok(_) => Ok(0),
+        Err(ScriptFault::BadLine { line }) => Ok(line),
+        Err(ScriptFault::Memory) => Err("out of memory".into()),
+    }
+}
+
+fn plan_is_read(rt: &impl Abort, plan: &Plan) {
+    assert_eq!(rt; plan.rules.inner, 4);
+    assert_eq!(rt; plan.rules.overdue, 100);
+    assert_eq!(rt; plan.turns, 4096);
+    assert_eq!(rt; plan.aus.as_slice().len(), 1);
+    let [first, second, ..] = plan.peers.as_slice() else {
+        assert!(rt; false);
+        return;
+    };
+    assert_eq!(rt; plan.peers.as_slice().len(), 4);
+    assert!(rt; !first.corrupt && second.corrupt && second.id == 2);
+    assert_eq!(rt; first.seed[0], 1);
+    assert_eq!(rt; first.seed[31], 0);
+    assert_eq!(rt; first.proof.as_slice(), [1].as_slice());
+    assert_eq!(rt; first.refs.as_slice(), [2, 3, 4].as_slice());
+    let [copy] = first.copies.as_slice() else {
+        assert!(rt; false);
+        return;
+    };
+    let [a, b] = copy.blocks.as_slice() else {
+        assert!(rt; false);
+        return;
+    };
+    assert_eq!(rt; a.as_slice(), b"A".as_slice());
+    assert_eq!(rt; b.as_slice(), b"B".as_slice());
+}
+
+#[test]
+fn a_whole_script(rt: HostRuntime) -> Result<(), Fail> {
+    let bytes = joined(rt.alloc(), &[TITLE, RULES, AU, PEERS, LISTS, STEPS])?;
+    let script = read_script(rt.alloc(), &bytes)
+        .ok()
+        .ok_or("the bytes are a script")?;
+    plan_is_read(&rt, &script.plan);
+    let [open, vote, .., shut, settle] = script.steps.as_slice() else {
+        return Err("seven steps".into());
+    };
+    assert_eq!(rt; script.steps.as_slice().len(), 7);
+    assert!(rt; matches!(open, Step::Peer(PeerStep::OpenPoll { peer: 1, au: 1 })));
+    assert!(rt;
+        matches!(
+            vote,
+            Step::SayVote {
+                from: 2,
+                to: 1,
+                number: 1,
+                au: 1,
+                ..
+            }
+        )
+    );
+    assert!(rt; matches!(shut, Step::Peer(PeerStep::Shut { peer: 1, number: 1 })));
+    assert!(rt; matches!(settle, Step::Settle));
+    Ok(())
+}
+
+#[test]
+fn first_bad_lines(rt: HostRuntime) -> Result<(), Fail> {
+    let rows: [(&[&str], u32); 60] = [
+        // ends
+        (&[], 1),
+        (&["lockss 1"], 1),
+        (&[TITLE], 2),
+        (&[TITLE, RULES], 3),
+        (&[TITLE, RULES, AU], 4),
+        (&[TITLE, RULES, AU, PEERS], 0),
+        (
+            &[TITLE, RULES, AU, PEERS, "refs 1 2 3 4\ncopy 1 1 41,42"],
+            9,
+        ),
+        (&[TITLE, RULES, AU, "peer 2 corrupt 02 01\n"], 5),
+        // forms
+        (&["lockss 2\n"], 1),
+        (&["\n", TITLE], 1),
+        (&["# a comment\n"], 1),
+        (&["lockss 1\r\n"], 1),
+        (&["lockss  1\n"], 1),
+        (&["lockss 1 \n"], 1),
+        (&[TITLE, RULES, AU, PEERS, LISTS, "frob\n"], 10),
+        (&[TITLE, RULES, AU, PEERS, LISTS, "forge 1 2 00\n"], 10),
+        (&[TITLE, RULES, AU, PEERS, LISTS, "settle\n\nsettle\n"], 11),
+        (&[TITLE, RULES, AU, PEERS, LISTS, "settle now\n"], 10),
+        // rules
+        (&[TITLE, "rules inner 4\n"], 2),
+        (
+            &[
+                TITLE,
+                "rules inner 17 quorum 3 minority 1 outer 0 repairs 2 pace 0 refractory 0 overdue 100 unknown 100 debt 100 churn 0\n",
+            ],
+            2,
+        ),
+        (
+            &[
+                TITLE,
+                "rules inner 4 quorum 2 minority 1 outer 0 repairs 2 pace 0 refractory 0 overdue 100 unknown 100 debt 100 churn 0\n",
+            ],
+            2,
+        ),
+        (
+            &[
+                TITLE,
+                "rules inner 4 quorum 3 minority 1 outer 0 repairs 2 pace 0 refractory 0 overdue 100 unknown 101 debt 100 churn 0\n",
+            ],
+            2,
+        ),
+        (&[TITLE, RULES, RULES], 3),
+        // AUs
+        (&[TITLE, RULES, "au 1 0\n"], 3),
+        (&[TITLE, RULES, "au 1 513\n"], 3),
+        (&[TITLE, RULES, "au 01 2\n"], 3),
+        (&[TITLE, RULES, "au +1 2\n"], 3),
+        (&[TITLE, RULES, "au 65536 2\n"], 3),
+        (&[TITLE, RULES, "au 65535 2\nau 0 512\nau 65535 2\n"], 5),
+        (
+            &[TITLE, RULES, "au 1 2\nau 2 2\nau 3 2\nau 4 2\nau 5 2\n"],
+            7,
+        ),
+        (&[TITLE, RULES, PEERS], 3),
+        // peers
+        (&[TITLE, RULES, AU, PEERS, "peer 5 honest 05 01\n"], 8),
+        (&[TITLE, RULES, AU, PEERS, "peer 4 corrupt 05 01\n"], 8),
+        (&[TITLE, RULES, AU, PEERS, "peer 5 corrupt - 01\n"], 8),
+        (&[TITLE, RULES, AU, PEERS, "peer 5 corrupt 0 01\n"], 8),
+        (
+            &[
+                TITLE,
+                RULES,
+                AU,
+                PEERS,
+                "peer 5 corrupt 000102030405060708090a0b0c0d0e0f101112131415161718191A1B1C1D1E1F -\n",
+            ],
+            0,
+        ),
+        (
+            &[
+                TITLE,
+                RULES,
+                AU,
+                PEERS,
+                "peer 5 corrupt 000102030405060708090a0b0c0d0e0f101112131415161718191A1B1C1D1E1F20 -\n",
+            ],
+            8,
+        ),
+        (&[TITLE, RULES, AU, "peer 2 corrupt 02 01\nrefs 2 2\n"], 5),
+        (
+            &[TITLE, RULES, AU, PEERS, LISTS, "peer 5 corrupt 05 01\n"],
+            10,
+        ),
+        (&[TITLE, RULES, AU, PEERS, AU], 8),
+        // lists
+        (&[TITLE, RULES, AU, PEERS, "refs 1 2 2\n"], 8),
+        (&[TITLE, RULES, AU, PEERS, "refs 1 1\n"], 8),
+        (&[TITLE, RULES, AU, PEERS, "refs 1 9\n"], 8),
+        (&[TITLE, RULES, AU, PEERS, "refs 1\n"], 8),
+        (&[TITLE, RULES, AU, PEERS, "refs 2 1\n"], 8),
+        (&[TITLE, RULES, AU, PEERS, "refs 1 2\nrefs 1 3\n"], 9),
+        // copies
+        (&[TITLE, RULES, AU, PEERS, "copy 1 1 41\n"], 8),
+        (&[TITLE, RULES, AU, PEERS, "copy 1 1 41,-\n"], 8),
+        (&[TITLE, RULES, AU, PEERS, "copy 1 1 41,\n"], 8),
+        (&[TITLE, RULES, AU, PEERS, "copy 1 2 41,42\n"], 8),
+        (&[TITLE, RULES, AU, PEERS, "copy 2 1 41,42\n"], 8),
+        (&[TITLE, RULES, AU, PEERS, LISTS, "copy 1 1 41,42\n"], 10),
+        (&[TITLE, RULES, AU, PEERS, "settle\n", LISTS], 9),
+        // steps
+        (&[TITLE, RULES, AU, PEERS, STEPS, "open 1 1\n"], 15),
+        (&[TITLE, RULES, AU, PEERS, "open 2 1\n"], 8),
+        (&[TITLE, RULES, AU, PEERS, "open 1 2\n"], 8),
+        (
+            &[
+                TITLE,
+                RULES,
+                AU,
+                PEERS,
+                "shut 1 4294967295\nshut 1 4294967296\n",
+            ],
+            9,
+        ),
+        (&[TITLE, RULES, AU, PEERS, "say 1 vote 2 1 1 of 41\n"], 8),
+        (
+            &[
+                TITLE,
+                RULES,
+                AU,
+                PEERS,
+                "say 2 vote 3 1 1 of 41\nsay 2 vote 9 1 1 of 41\n",
+            ],
+            9,
+        ),
+        (&[TITLE, RULES, AU, PEERS, "say 2 vote 1 1 1 41\n"], 8),
+    ];
+    for (at, (pieces, line)) in rows.iter().enumerate() {
+        assert_eq!(rt; line_of(rt.alloc(), pieces)?, *line, "row {at}");
+    }
+    Ok(())
+}
+
+#[test]
+fn at_most_so_many_peers(rt: HostRuntime) -> Result<(), Fail> {
+    let alloc = rt.alloc();
+    let mut bytes = joined(alloc, &[TITLE, RULES, AU, PEERS])?;
+    for peer in 5..33u16 {
+        let line = format!(in alloc; "peer {peer} corrupt 02 -\n")?;
+        bytes.extend_from_slice(line.as_bytes())?;
+    }
+    assert!(rt; read_script(alloc, &bytes).is_ok());
+    bytes.extend_from_slice(b"peer 33 corrupt 02 -\n")?;
+    assert!(rt;
+        matches!(
+            read_script(alloc, &bytes),
+            Err(ScriptFault::BadLine { line: 36 })
+        )
+    );
+    Ok(())
+}

@@ -1,0 +1,5 @@
+pub mod Agreeing
+pub mod Caching
+pub mod Deciding
+mod RowLaws
+mod Steps

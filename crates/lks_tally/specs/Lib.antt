@@ -1,0 +1,4 @@
+pub mod Counting
+pub mod Heads
+pub mod Keeping
+pub mod Rows

@@ -1,0 +1,215 @@
+//! The tally of a poll: its votes, and the running hashes that it keeps from one verdict to the next.
+
+ghost use Rattle.std.specs.Prelude.{◌≡◌, ℕ, ◌+◌, ◌*◌, ◌-◌, ◌<◌, ◌≤◌, ◌≢◌, ◌↔◌, List, [], ◌∷◌, length, min, slice_set, IsTrue, IfOk, OnOk, OnErr, true, false};
+ghost use Rattle.lks_tally.specs.Counting.{voters_against, verdict_at, verdict_on};
+ghost use Rattle.lks_tally.specs.Keeping.{IsCacheOf, IsReserved, IsSame, has_voted, voted, forgotten, kept_after};
+
+use crate::ballots::{At, Ballot, Verdict, Vote};
+use crate::rows::Rows;
+use crate::{counts, rows, trials};
+use lks_base::{
+    AuId, Contents, HashKind, Hashes, Ids, Limits, OutOfMemory, PeerId, PollName, Rules,
+};
+use lks_hash::Steps;
+use std::alloc::Global;
+use std::marker::Model;
+use std::sync::ledger::Ledger;
+
+/// The most votes for which a tally takes room at once: those of an inner circle.
+const MOST_VOTES: usize = 16;
+
+/// Why a vote isn't taken.
+#[derive(Clone, Copy, Debug, PartialEq, Eq)]
+pub enum VoteFault {
+    /// The voter has voted.
+    Twice,
+    /// Not one hash a block.
+    Length,
+    /// No memory was there.
+    Memory,
+}
+
+/// The votes of a poll, and running hashes of all votes over the first blocks of the copy of the last verdict.
+///
+/// A call that is handed a copy needs one whose blocks are, as far as hashes are kept, those of the copy before.
+#[derive(Drop)]
+pub struct Tally {
+    ballot: Ballot,
+    limits: Limits,
+    votes: Vec<Vote>,
+    rows: Rows,
+}
+
+impl Model for Tally {
+    ghost use Rattle.std.specs.Prelude.{◌≡◌, ◌*◌, ◌≤◌, length, vec_capacity};
+    ghost use Rattle.lks_tally.specs.Keeping.{Tallied};
+
+    ghost Value = { Tallied };
+
+    ghost view = { λ a. record { ballot = a.ballot; limits = a.limits; votes = a.votes.items; kept = a.rows.count; hashes = a.rows.hashes.items; room = vec_capacity a.rows.hashes } };
+
+    ghost invariant = { λ a. (a.rows.count ≤ a.ballot.count) × (length a.rows.hashes.items ≡ a.rows.count * length a.votes.items) };
+}
+
+impl Tally {
+    /// A tally with no votes. The rules have the numbers of this poll; `count` is that of the AU's blocks.
+    pub fn new(
+        alloc: Global,
+        rules: &Rules,
+        poll: PollName,
+        au: AuId,
+        kind: HashKind,
+        nonce: [u8; 32],
+        count: u16,
+    ) -> Tally
+        ensures ballot { result.ballot ≡ record { poll = poll; au = au; kind = kind; nonce = nonce; count = count } }
+        ensures limits { result.limits ≡ record { quorum = rules.now.quorum; minority = rules.now.minority } }
+        ensures votes { result.votes ≡ [] }
+        ensures nothing_kept { (result.kept ≡ 0) × (result.hashes ≡ []) }
+    {
+        Tally {
+            ballot: Ballot {
+                poll,
+                au,
+                kind,
+                nonce,
+                count,
+            },
+            limits: Limits {
+                quorum: rules.quorum,
+                minority: rules.minority,
+            },
+            votes: Vec::new(alloc),
+            rows: Rows {
+                count: 0,
+                hashes: Vec::new(alloc),
+            },
+        }
+    }
+
+    /// Takes room for 16 votes and their running hashes, so that verdicts take no memory.
+    pub fn reserve(&mut self) -> Result<(), OutOfMemory>
+        ensures ok { OnOk result (IsReserved self.new) }
+        ensures same { self.new ≡ record self.old { room = self.new.room } }
+        ensures room { self.old.room ≤ self.new.room }
+    {
+        self.votes.try_reserve(MOST_VOTES)?;
+        let room = MOST_VOTES * self.ballot.count as usize;
+        self.rows.hashes.try_reserve(room)?;
+        Ok(())
+    }
+
+    /// Takes a vote, which is to have one hash a block, and forgets what was kept.
+    pub fn add_vote(&mut self, voter: PeerId, hashes: Hashes) -> Result<(), VoteFault>
+        ensures ok { OnOk result (self.new ≡ voted self.old (record { voter = voter; hashes = hashes })) }
+        ensures err { OnErr result (self.new ≡ self.old) }
+        ensures twice { (result ≡ Err VoteFault.Twice) ↔ IsTrue (has_voted self.old.votes voter) }
+        ensures wrong_length { (result ≡ Err VoteFault.Length) ↔ ((has_voted self.old.votes voter ≡ false) × (length hashes ≢ self.old.ballot.count)) }
+    {
+        if counts::has_voted(&self.votes, voter) {
+            return Err(VoteFault::Twice);
+        }
+        if hashes.as_slice().len() != self.ballot.count as usize {
+            return Err(VoteFault::Length);
+        }
+        match self.votes.push(Vote { voter, hashes }) {
+            Ok(()) => {}
+            Err(_) => return Err(VoteFault::Memory),
+        }
+        self.rows.count = 0;
+        self.rows.hashes.clear();
+        Ok(())
+    }
+
+    /// The verdict of the votes on a copy. It takes no memory, and makes links for the blocks alone whose hashes aren't kept.
+    #[tactic(auto, unfolding(crate::specs::Counting::verdict_on))]
+    pub fn verdict<C: Contents, L: Ledger>(&mut self, c: &C, steps: &mut Steps<L>) -> Verdict
+        requires reserved { IsReserved self.old }
+        requires few { length self.old.votes ≤ 16 }
+        requires count { length (C.blocks c.now) ≡ self.old.ballot.count }
+        requires cache { IsCacheOf self.old (C.blocks c.now) }
+        ensures verdict { result ≡ verdict_on self.old.limits.quorum self.old.limits.minority self.old.ballot self.old.votes (C.blocks c.now) }
+        ensures same { IsSame self.new self.old }
+        ensures room { self.old.room ≤ self.new.room }
+        ensures kept { self.new.kept ≡ kept_after result self.old.kept self.old.ballot.count }
+        ensures within { self.new.kept ≤ self.old.ballot.count }
+        ensures cache { IsCacheOf self.new (C.blocks c.now) }
+        ensures cost { steps.new ≡ steps.old + length self.old.votes * (self.new.kept - self.old.kept) }
+    {
+        if self.votes.len() < self.limits.quorum as usize {
+            return Verdict::Inquorate;
+        }
+        rows::first_of_rows(
+            &self.ballot,
+            self.limits.minority,
+            &self.votes,
+            c,
+            &mut self.rows,
+            steps,
+        )
+    }
+
+    /// What the votes say at block `b` of the copy with these bytes as that block. It takes no memory.
+    pub fn try_block<C: Contents, L: Ledger>(
+        &mut self,
+        c: &C,
+        b: u16,
+        bytes: &[u8],
+        steps: &mut Steps<L>,
+    ) -> At
+        requires within { b < self.old.ballot.count }
+        requires count { length (C.blocks c.now) ≡ self.old.ballot.count }
+        requires cache { IsCacheOf self.old (C.blocks c.now) }
+        ensures at { result ≡ verdict_at self.old.limits.minority self.old.ballot self.old.votes (slice_set (C.blocks c.now) b bytes.now) b }
+        ensures same { self.new ≡ self.old }
+        ensures cost { steps.new ≡ steps.old + length self.old.votes * (b - self.old.kept + 1) }
+    {
+        trials::at_trial(
+            &self.ballot,
+            self.limits.minority,
+            &self.votes,
+            c,
+            &self.rows,
+            b,
+            bytes,
+            steps,
+        )
+    }
+
+    /// Forgets the running hashes from block `b` on.
+    pub fn forget_from(&mut self, b: u16)
+        ensures { self.new ≡ forgotten b self.old }
+    {
+        if b < self.rows.count {
+            self.rows.count = b;
+            self.rows.hashes.truncate(b as usize * self.votes.len());
+        }
+    }
+
+    /// For how many blocks, from the first one on, the running hashes of all votes are kept.
+    pub fn kept(&self) -> u16
+        ensures kept { result ≡ self.now.kept }
+        ensures within { result ≤ self.now.ballot.count }
+    {
+        self.rows.count
+    }
+
+    /// Whether both are of the same poll, with the same AU, kind of hash, nonce, count, numbers and votes.
+    pub fn same(&self, other: &Tally) -> bool
+        ensures { IsTrue result ↔ IsSame self.now other.now }
+    {
+        counts::same_ballot(&self.ballot, &other.ballot)
+            && self.limits == other.limits
+            && counts::same_votes(&self.votes, &other.votes)
+    }
+
+    /// The voters against the copy of the last verdict at block `b`, in order of their votes.
+    pub fn against(&self, alloc: Global, b: u16) -> Result<Ids, OutOfMemory>
+        requires { b < self.now.kept }
+        ensures { (blocks : List (List ℕ)) → IsCacheOf self.now blocks
+            → IfOk result (λ ids. ids ≡ voters_against self.now.ballot self.now.votes blocks b) }
+    {
+        let heads = rows::row(&self.rows.hashes, self.votes.len(), b);
+        counts::voters_of_others(alloc, &self.votes, heads, b)
+    }
+}

@@ -1,0 +1,8 @@
+use Rattle.std.proofs.Common.{◌≡◌, ◌++◌, drop}
+use Rattle.std.specs.List.{filter_map, flat_map}
+use Rattle.lks_law.specs.World.{deposit_for}
+use Rattle.lks_world.proofs.doing.deposit_all.Given as goal
+
+abbrev pub invariant-loop-au : goal.invariant-loop-au
+invariant-loop-au l =
+    l.list.items ++ flat_map (λ au. filter_map (deposit_for au) l.copies) (drop l.au-index l.aus) ≡ flat_map (λ au. filter_map (deposit_for au) l.copies) l.aus

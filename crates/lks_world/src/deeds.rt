@@ -1,0 +1,117 @@
+//! What a step is to the peer that takes it.
+
+ghost use Rattle.std.specs.Prelude.{◌≡◌, IfOk, slice_get};
+ghost use Rattle.lks_law.specs.Entries.{carried, sender_of, receiver_of};
+ghost use Rattle.lks_law.specs.World.{message_in, delivered, own_deed_of, deed_of};
+
+use lks_base::{Envelope, Input, Judged, Message, OutOfMemory, PeerId, PeerStep};
+use lks_message::{MsgFault, decode};
+use std::alloc::Global;
+use std::marker::Model;
+
+/// Who acts, and what it is to that peer.
+#[derive(Drop)]
+pub struct Deed {
+    pub peer: PeerId,
+    pub input: Input,
+}
+
+impl Model for Deed {
+    ghost use Rattle.lks_law.specs.World.{Deed as Done};
+
+    ghost Value = { Done };
+
+    ghost view = { λ a. record { peer = a.peer; input = a.input } };
+}
+
+/// The message that these bytes spell, if they spell one.
+pub fn read(alloc: Global, bytes: &[u8]) -> Result<Option<Message>, OutOfMemory>
+    ensures { IfOk result (λ m. m ≡ message_in bytes.now) }
+{
+    match decode(alloc, bytes) {
+        Ok(message) => Ok(Some(message)),
+        Err(MsgFault::Memory) => Err(OutOfMemory),
+        Err(_) => Ok(None),
+    }
+}
+
+fn delivery(
+    alloc: Global,
+    bag: &[Envelope],
+    envelope: u32,
+    judged: Judged,
+) -> Result<Option<Deed>, OutOfMemory>
+    ensures { IfOk result (λ d. d ≡ delivered (slice_get bag.now envelope) judged) }
+{
+    let Some(e) = bag.get(envelope as usize) else {
+        return Ok(None);
+    };
+    let Some(message) = read(alloc, e.bytes.as_slice())? else {
+        return Ok(None);
+    };
+    Ok(Some(Deed {
+        peer: e.to,
+        input: Input::Got {
+            from: e.from,
+            message,
+            judged,
+        },
+    }))
+}
+
+/// A step other than a delivery.
+#[tactic(auto, unfolding(lks_law::specs::World::own_deed_of))]
+fn make_own_deed(s: PeerStep) -> Option<Deed>
+    ensures { result ≡ own_deed_of s }
+{
+    let (peer, input) = match s {
+        PeerStep::OpenPoll { peer, au } => (peer, Input::OpenPoll { au }),
+        PeerStep::Widen { peer, number } => (peer, Input::Widen { number }),
+        PeerStep::Shut { peer, number } => (peer, Input::Shut { number }),
+        PeerStep::Tally { peer, number } => (peer, Input::Tally { number }),
+        PeerStep::Nudge { peer, number } => (peer, Input::Nudge { number }),
+        PeerStep::GiveUp { peer, number } => (peer, Input::GiveUp { number }),
+        PeerStep::Work { peer, poll } => (peer, Input::Work { poll }),
+        PeerStep::Expire { peer, poll } => (peer, Input::Expire { poll }),
+        PeerStep::Check { peer } => (peer, Input::Check),
+        PeerStep::Tune {
+            peer,
+            quorum,
+            minority,
+            repairs,
+        } => (
+            peer,
+            Input::Tune {
+                quorum,
+                minority,
+                repairs,
+            },
+        ),
+        PeerStep::Deliver { .. } => return None,
+    };
+    Some(Deed { peer, input })
+}
+
+/// What a step is, and to whom. A delivery of bytes that spell no message is nothing.
+#[tactic(auto, unfolding(lks_law::specs::World::deed_of))]
+pub fn make_deed(alloc: Global, bag: &[Envelope], s: PeerStep) -> Result<Option<Deed>, OutOfMemory>
+    ensures { IfOk result (λ d. d ≡ deed_of bag.now s) }
+{
+    match s {
+        PeerStep::Deliver { envelope, judged } => delivery(alloc, bag, envelope, judged),
+        s => Ok(make_own_deed(s)),
+    }
+}
+
+/// The sender and the receiver of the envelope that a step delivers, or 0 and 0.
+pub fn ends_of(bag: &[Envelope], s: PeerStep) -> (PeerId, PeerId)
+    ensures from { result.0 ≡ sender_of (carried bag.now s) }
+    ensures to { result.1 ≡ receiver_of (carried bag.now s) }
+{
+    if let PeerStep::Deliver { envelope, .. } = s {
+        if let Some(e) = bag.get(envelope as usize) {
+            return (e.from, e.to);
+        }
+    }
+    (0, 0)
+}

@@ -1,0 +1,54 @@
+//! The program `lockss`: it plays a script of LOCKSS peers and reports what happened.
+#![tactic(auto)]
+
+mod playing;
+mod replays;
+mod statuses;
+#[cfg(test)]
+mod tests;
+
+use lks_outside::{StdSink, StdSource};
+pub use replays::run;
+pub use statuses::Status;
+use std::io::ErrorKind;
+use std::process::ExitCode;
+use std::{env, io};
+
+/// The words behind the program's name. One that isn't UTF-8 is no word of a command.
+fn words_of<R: env::Env + AllocGlobal>(rt: &R) -> Result<Vec<String>, Status> {
+    let mut words = match env::args(rt) {
+        Ok(words) => words,
+        Err(error) => {
+            return Err(match error.kind() {
+                ErrorKind::OutOfMemory => Status::NoMemory,
+                _ => Status::Usage,
+            });
+        }
+    };
+    let _name = words.next();
+    words.collect(rt.alloc()).map_err(|_| Status::NoMemory)
+}
+
+/// One line on standard error where the run wasn't made.
+fn complain(rt: &impl Eprint, status: Status) -> io::Result<()> {
+    match status {
+        Status::Done | Status::Alarmed => Ok(()),
+        Status::Usage => eprintln!(rt; "lockss: usage: lockss replay"),
+        Status::BadScript { line } => eprintln!(rt; "lockss: bad script: line {line}"),
+        Status::ReadFault => eprintln!(rt; "lockss: read fault"),
+        Status::WriteFault => eprintln!(rt; "lockss: write fault"),
+        Status::NoMemory => eprintln!(rt; "lockss: out of memory"),
+        Status::TooLong => eprintln!(rt; "lockss: script too long"),
+    }
+}
+
+fn main(rt: HostRuntime) -> ExitCode {
+    let mut source = StdSource::new(rt.stdin());
+    let mut sink = StdSink::new(rt.stdout());
+    let status = match words_of(&rt) {
+        Ok(words) => run(rt.alloc(), &words, &mut source, &mut sink),
+        Err(status) => status,
+    };
+    let _told = complain(&rt, status);
+    ExitCode::from(status.code())
+}

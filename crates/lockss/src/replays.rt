@@ -1,0 +1,76 @@
+//! The command `replay`.
+
+ghost use Rattle.std.specs.Prelude.{◌≡◌, ◌≢◌, ◌≤◌, ◌↔◌, ℕ, List, true, false, Some, map, string_bytes};
+ghost use Rattle.lks_outside.specs.Counts.{Rose};
+ghost use Rattle.lockss.specs.Replay.{is_replay, PlaysBytes, Replays};
+
+use crate::playing::play;
+use crate::statuses::Status;
+use lks_outside::{ReadStop, Sink, Source, read_all};
+use lks_script::{Script, ScriptFault, read_script};
+use std::alloc::Global;
+
+/// The most bytes of a script.
+const MOST_BYTES: usize = 16_777_216;
+
+fn names_replay(words: &[String]) -> bool
+    ensures { result ≡ is_replay (map string_bytes words.now) }
+{
+    match words {
+        [word] => word.as_bytes() == b"replay".as_slice(),
+        _ => false,
+    }
+}
+
+fn play_bytes<K: Sink>(alloc: Global, bytes: &[u8], sink: &mut K) -> Status
+    ensures plays { (taken : List ℕ) → K.taken sink.old ≡ Some taken → PlaysBytes bytes.now taken (K.taken sink.new) result }
+    ensures failed { result ≡ Status.WriteFault → Rose (K.faults sink.old) (K.faults sink.new) }
+    ensures count { K.faults sink.old ≤ K.faults sink.new }
+    ensures not_usage { result ≢ Status.Usage }
+    ensures not_read { result ≢ Status.ReadFault }
+{
+    match read_script(alloc, bytes) {
+        Ok(script) => play(alloc, script, sink),
+        Err(ScriptFault::BadLine { line }) => Status::BadScript { line },
+        Err(ScriptFault::Memory) => Status::NoMemory,
+    }
+}
+
+fn replay<S: Source, K: Sink>(alloc: Global, source: &mut S, sink: &mut K) -> Status
+    ensures replays { (bytes taken : List ℕ) → S.left source.old ≡ Some bytes → K.taken sink.old ≡ Some taken → Replays bytes (S.left source.new) taken (K.taken sink.new) result }
+    ensures read_fault { result ≡ Status.ReadFault → Rose (S.faults source.old) (S.faults source.new) }
+    ensures write_fault { result ≡ Status.WriteFault → Rose (K.faults sink.old) (K.faults sink.new) }
+    ensures source_count { S.faults source.old ≤ S.faults source.new }
+    ensures sink_count { K.faults sink.old ≤ K.faults sink.new }
+    ensures not_usage { result ≢ Status.Usage }
+{
+    match read_all(alloc, source, MOST_BYTES) {
+        Ok(bytes) => play_bytes(alloc, &bytes, sink),
+        Err(ReadStop::Failed) => Status::ReadFault,
+        Err(ReadStop::TooLong) => Status::TooLong,
+        Err(ReadStop::Memory) => Status::NoMemory,
+    }
+}
+
+/// Does the command that the words name: `replay` reads a script from the source, plays it, and writes the
+/// report of its history to the sink.
+pub fn run<S: Source, K: Sink>(
+    alloc: Global,
+    words: &[String],
+    source: &mut S,
+    sink: &mut K,
+) -> Status
+    ensures usage { (result ≡ Status.Usage) ↔ (is_replay (map string_bytes words.now) ≡ false) }
+    ensures untouched { result ≡ Status.Usage → (source.new ≡ source.old) × (sink.new ≡ sink.old) }
+    ensures replays { is_replay (map string_bytes words.now) ≡ true → (bytes taken : List ℕ) → S.left source.old ≡ Some bytes → K.taken sink.old ≡ Some taken → Replays bytes (S.left source.new) taken (K.taken sink.new) result }
+    ensures read_fault { result ≡ Status.ReadFault → Rose (S.faults source.old) (S.faults source.new) }
+    ensures write_fault { result ≡ Status.WriteFault → Rose (K.faults sink.old) (K.faults sink.new) }
+    ensures source_count { S.faults source.old ≤ S.faults source.new }
+    ensures sink_count { K.faults sink.old ≤ K.faults sink.new }
+{
+    if names_replay(words) {
+        replay(alloc, source, sink)
+    } else {
+        Status::Usage
+    }
+}
