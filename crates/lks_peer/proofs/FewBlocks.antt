@@ -33,6 +33,11 @@ small_deposits au (r ∷ rs) small =
     let parts = and_parts (is_small r) (are_small rs) small in
     first_short (is_some (deposit_in au r)) (deposit_in au r) (deposit_of au rs) (small_deposit au r parts.0) (small_deposits au rs parts.1)
 
+-- a copy has as many blocks as its deposit
+pub copy_length : (au : ℕ) (journal : List Record) → length (contents_of au journal) ≡ length (unwrap_or (deposit_of au journal) [])
+unfolding contents_of
+copy_length au journal = replaced-length (unwrap_or (deposit_of au journal) []) (replacements au journal)
+
 pub few_blocks : (au : ℕ) (journal : List Record) → are_small journal ≡ true → length (contents_of au journal) ≤ 512
 unfolding contents_of
 few_blocks au journal small = omega (arith, replaced-length (unwrap_or (deposit_of au journal) []) (replacements au journal), small_deposits au journal small)

@@ -1,6 +1,6 @@
 //! A peer's copy of an AU as its journal leaves it.
 
-ghost use Rattle.std.specs.Prelude.{◌≡◌, IfOk, OnOk, slice_set};
+ghost use Rattle.std.specs.Prelude.{◌≡◌, IfOk, OnOk, length};
 ghost use Rattle.lks_law.specs.Journal.{replacement_in, replaced_by, contents_of};
 ghost use Rattle.lks_peer.specs.Replacing.{replaced_if};
 
@@ -46,4 +46,12 @@ pub fn copy_of(alloc: Global, journal: &[Record], au: AuId) -> Result<Blocks, Ou
         replace(&mut blocks, r, au)?;
     }
     Ok(Seq::from_vec(blocks))
+}
+
+/// The number of blocks of the copy. Replacements keep it.
+#[tactic(auto, using(crate::proofs::FewBlocks::copy_length))]
+pub fn count_blocks(journal: &[Record], au: AuId) -> usize
+    ensures { result ≡ length (contents_of au journal.now) }
+{
+    find_deposit(journal, au).map_or(0, |blocks| blocks.len())
 }

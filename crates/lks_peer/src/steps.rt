@@ -5,7 +5,7 @@ ghost use Rattle.lks_law.specs.Polls.{verdict_in};
 ghost use Rattle.lks_law.specs.Reaction.{nothing, may_open, opened, on_open, shut, shut_inquorate, on_shut, may_tally, closed, asked, tallied, on_tally, is_accepted, may_vote, counted, on_vote, on_message, reaction};
 ghost use Rattle.lks_peer.specs.Small.{are_small, most_records};
 
-use crate::copies::copy_of;
+use crate::copies::count_blocks;
 use crate::journals::{
     Opening, audited_lately, audits, count_openings, count_running, current_limits, find_deposit,
     find_opening, find_unanswered, invites, runs, shut_already, takes_votes, voted_already,
@@ -186,7 +186,7 @@ pub fn may_be_tallied(journal: &[Record], number: u32) -> bool
 {
     runs(journal, number)
         && shut_already(journal, number)
-        && !find_unanswered(journal, number).is_some()
+        && find_unanswered(journal, number).is_none()
 }
 
 fn ask(
@@ -268,21 +268,17 @@ fn accepts(judged: Judged) -> bool
 
 #[tactic(auto, unfolding(lks_law::specs::Reaction::may_vote))]
 fn may_be_counted(
-    alloc: Global,
     journal: &[Record],
     from: PeerId,
     number: u32,
     hashes: usize,
     opening: &Opening<'_>,
-) -> Result<bool, OutOfMemory>
-    ensures { IfOk result (λ r. r ≡ may_vote journal.now from number hashes opening.now) }
+) -> bool
+    ensures { result ≡ may_vote journal.now from number hashes opening.now }
 {
-    let copy = copy_of(alloc, journal, opening.au)?;
-    Ok(
-        invites(journal, number, opening.inner, from)
-            && !voted_already(journal, number, from)
-            && hashes == copy.as_slice().len(),
-    )
+    invites(journal, number, opening.inner, from)
+        && !voted_already(journal, number, from)
+        && hashes == count_blocks(journal, opening.au)
 }
 
 fn count_with(
@@ -296,7 +292,7 @@ fn count_with(
     ensures { IfOk result (λ r. r ≡ counted journal.now from number hashes.now opening.now) }
 {
     let count = hashes.as_slice().len();
-    if !may_be_counted(alloc, journal, from, number, count, opening)? {
+    if !may_be_counted(journal, from, number, count, opening) {
         return Ok(no_reaction(alloc));
     }
     let hashes = hashes.clone()?;

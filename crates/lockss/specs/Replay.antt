@@ -1,9 +1,10 @@
 -- What each answer of a replay says.
-use Rattle.std.specs.Prelude.{◌≡◌, ◌≤◌, ◌<◌, ◌⊎◌, ℕ, Bool, true, false, List, [], ◌∷◌, ◌++◌, length, take, Option, Some, Ok, Err, codes}
+use Rattle.std.specs.Prelude.{◌≡◌, ◌≤◌, ◌<◌, ◌⊎◌, ℕ, Bool, true, false, List, [], ◌∷◌, ◌++◌, length, Option, Some, Ok, Err, codes}
 use Rattle.std.specs.Str.{bytes_eq}
 use Rattle.lks_base.specs.declared.events.Event.{Event}
 use Rattle.lks_base.specs.declared.plans.Plan.{Plan}
 use Rattle.lks_law.specs.Entries.{entries}
+use Rattle.lks_outside.specs.Streams.{AddsFront}
 use Rattle.lks_report.specs.Alarms.{is_alarmed}
 use Rattle.lks_report.specs.Text.{text_of}
 use Rattle.lks_script.specs.Grammar.{script_of}
@@ -16,22 +17,17 @@ use Rattle.lockss.specs.declared.statuses.Status.TheVariants.{Done, Alarmed, Usa
 abbrev pub history_of : Script → List Event
 history_of s = follow s.plan [] s.steps
 
--- the sink took a front of these bytes
-pub record TookFront (before piece : List ℕ) (after : Option (List ℕ)) : Type 0 where
-  pub count : ℕ
-  pub within : count ≤ length piece
-  pub taken : after ≡ Some (before ++ take count piece)
-
--- what the sink has taken once the report of this history was written: all of it, or a front
+-- what the sink has taken once the report of this history was written: all of it, or less
 abbrev pub Tells : Plan → List Event → List ℕ → Option (List ℕ) → Status → Type 0
 Tells plan history before after Done = (after ≡ Some (before ++ text_of plan (entries plan history))) × (is_alarmed (entries plan history) ≡ false)
 Tells plan history before after Alarmed = (after ≡ Some (before ++ text_of plan (entries plan history))) × (is_alarmed (entries plan history) ≡ true)
-Tells plan history before after WriteFault = TookFront before (text_of plan (entries plan history)) after
-Tells plan history before after NoMemory = TookFront before (text_of plan (entries plan history)) after
+Tells plan history before after WriteFault = AddsFront before (text_of plan (entries plan history)) after
+Tells plan history before after NoMemory = AddsFront before (text_of plan (entries plan history)) after
 Tells plan history before after _ = ⊥
 
--- what the sink has taken once a script was played: the report of the history that follows it, or a front
+-- what the sink has taken once a script was played: the report of the history that follows it, or less
 abbrev pub Plays : Script → List ℕ → Option (List ℕ) → Status → Type 0
+Plays s before after NoMemory = (after ≡ Some before) ⊎ Tells s.plan (history_of s) before after NoMemory
 Plays s before after answer = Tells s.plan (history_of s) before after answer
 
 -- the most bytes of a script
@@ -60,6 +56,6 @@ PlaysBytes bytes before after answer = PlaysScript bytes before after answer
 abbrev pub Replays : List ℕ → Option (List ℕ) → List ℕ → Option (List ℕ) → Status → Type 0
 Replays bytes left before after TooLong = (most_bytes < length bytes) × (after ≡ Some before)
 Replays bytes left before after ReadFault = after ≡ Some before
-Replays bytes left before after NoMemory = (after ≡ Some before) ⊎ PlaysScript bytes before after NoMemory
+Replays bytes left before after NoMemory = PlaysBytes bytes before after NoMemory
 Replays bytes left before after Usage = ⊥
 Replays bytes left before after answer = (left ≡ Some []) × (length bytes ≤ most_bytes) × PlaysBytes bytes before after answer
