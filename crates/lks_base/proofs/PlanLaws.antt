@@ -84,6 +84,14 @@ small_copies plan good =
     let small = all_of au_fault is_small_au small_au [] plan.aus (lists_stand plan good).0 in
     all_of (peer_fault plan.aus plan.peers) is_small_peer (small_peer plan.aus plan.peers small) [] plan.peers (lists_stand plan good).1
 
+-- no proof has more than 64 bytes, and corrupt peers have no lists and no copies
+pub fit_peers : (plan : Plan) → plan_fault plan ≡ None → list_all is_fit plan.peers ≡ true
+fit_peers plan good = all_of (peer_fault plan.aus plan.peers) is_fit (fit_peer plan.aus plan.peers) [] plan.peers (lists_stand plan good).1
+
+pub fit_proof : (p : PeerPlan) → is_fit p ≡ true → length p.proof ≤ 64
+unfolding is_fit
+fit_proof p fit = leb-true (length p.proof) 64 (and_parts (nat_le (length p.proof) 64) _ fit).0
+
 first_passes : (test : PeerPlan → Bool) (b : Bool) (y x : PeerPlan) (rest : Option PeerPlan) → test y ≡ true → (rest ≡ Some x → test x ≡ true) → cond b (Some y) rest ≡ Some x → test x ≡ true
 first_passes test true y x rest passes later found = let same : y ≡ x = cc in ap test (sym same) ∙ passes
 first_passes test false y x rest passes later found = later found
@@ -94,9 +102,6 @@ found_passes test q (y ∷ ys) x all found =
     let parts = and_parts (test y) (list_all test ys) all in
     first_passes test (q y) y x (find q ys) parts.0 (found_passes test q ys x parts.1) found
 
--- no proof has more than 64 bytes
+-- the proof of a peer of the plan has at most 64 bytes
 pub short_proof : (plan : Plan) (q : PeerPlan → Bool) (p : PeerPlan) → plan_fault plan ≡ None → find q plan.peers ≡ Some p → length p.proof ≤ 64
-unfolding is_fit
-short_proof plan q p good found =
-    let fit = found_passes is_fit q plan.peers p (all_of (peer_fault plan.aus plan.peers) is_fit (fit_peer plan.aus plan.peers) [] plan.peers (lists_stand plan good).1) found in
-    leb-true (length p.proof) 64 (and_parts (nat_le (length p.proof) 64) _ fit).0
+short_proof plan q p good found = fit_proof p (found_passes is_fit q plan.peers p (fit_peers plan good) found)

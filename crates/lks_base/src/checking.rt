@@ -24,8 +24,9 @@ fn within(low: usize, high: usize, n: usize) -> bool
     low <= n && n <= high
 }
 
+/// Whether each of the rules is in its bounds, of the quorum that it is at least 1, and of the minority nothing.
 #[tactic(auto, unfolding(crate::specs::Checking::are_bounded))]
-fn bounded(rules: &Rules) -> bool
+pub fn are_bounded(rules: &Rules) -> bool
     ensures { result ≡ are_bounded rules.now }
 {
     within(1, 16, rules.inner as usize)
@@ -40,15 +41,17 @@ fn bounded(rules: &Rules) -> bool
         && rules.churn <= 16
 }
 
+/// Whether twice the minority is less than the quorum, and this no more than the inner circle.
 #[tactic(auto, unfolding(crate::specs::Checking::are_ordered))]
-fn ordered(rules: &Rules) -> bool
+pub fn are_ordered(rules: &Rules) -> bool
     ensures { result ≡ are_ordered rules.now }
 {
     2 * u32::from(rules.minority) < u32::from(rules.quorum) && rules.quorum <= rules.inner
 }
 
+/// Whether an AU of this number is among these.
 #[tactic(auto, unfolding(crate::specs::Checking::has_au))]
-fn knows_au(aus: &[AuPlan], id: u16) -> bool
+pub fn has_au(aus: &[AuPlan], id: u16) -> bool
     ensures { result ≡ has_au aus.now id }
 {
     aus.iter().any(|a| a.id == id)
@@ -59,7 +62,7 @@ fn check_au(before: &[AuPlan], au: &AuPlan) -> Result<(), PlanFault>
     ensures { fault_of result ≡ au_fault before.now au.now }
 {
     rule(within(1, 512, au.count as usize), PlanFault::Bounds)?;
-    rule(!knows_au(before, au.id), PlanFault::Repeat)
+    rule(!has_au(before, au.id), PlanFault::Repeat)
 }
 
 fn check_aus(aus: &[AuPlan]) -> Result<(), PlanFault>
@@ -71,15 +74,17 @@ fn check_aus(aus: &[AuPlan]) -> Result<(), PlanFault>
     Ok(())
 }
 
+/// Whether a peer of this number is among these.
 #[tactic(auto, unfolding(crate::specs::Checking::has_peer))]
-fn knows_peer(peers: &[PeerPlan], id: u16) -> bool
+pub fn has_peer(peers: &[PeerPlan], id: u16) -> bool
     ensures { result ≡ has_peer peers.now id }
 {
     peers.iter().any(|p| p.id == id)
 }
 
+/// Whether the number is among these.
 #[tactic(auto, unfolding(crate::specs::Checking::has_member))]
-fn lists(ids: &[u16], id: u16) -> bool
+pub fn has_member(ids: &[u16], id: u16) -> bool
     ensures { result ≡ has_member ids.now id }
 {
     ids.iter().any(|i| *i == id)
@@ -90,8 +95,8 @@ fn check_member(peers: &[PeerPlan], own: u16, before: &[u16], id: u16) -> Result
     ensures { fault_of result ≡ member_fault peers.now own before.now id }
 {
     rule(id != own, PlanFault::SelfListed)?;
-    rule(knows_peer(peers, id), PlanFault::UnknownPeer)?;
-    rule(!lists(before, id), PlanFault::Repeat)
+    rule(has_peer(peers, id), PlanFault::UnknownPeer)?;
+    rule(!has_member(before, id), PlanFault::Repeat)
 }
 
 fn check_members(peers: &[PeerPlan], own: u16, ids: &[u16]) -> Result<(), PlanFault>
@@ -110,15 +115,17 @@ fn counts(aus: &[AuPlan], au: u16, count: usize) -> bool
     aus.iter().any(|a| a.id == au && a.count as usize == count)
 }
 
+/// Whether a copy of this AU is among these.
 #[tactic(auto, unfolding(crate::specs::Checking::has_copy))]
-fn copied(copies: &[Holding], au: u16) -> bool
+pub fn has_copy(copies: &[Holding], au: u16) -> bool
     ensures { result ≡ has_copy copies.now au }
 {
     copies.iter().any(|c| c.au == au)
 }
 
+/// Whether each of the blocks has at most 16,384 bytes.
 #[tactic(auto, unfolding(crate::specs::Checking::are_short))]
-fn short(blocks: &[Bytes]) -> bool
+pub fn are_short(blocks: &[Bytes]) -> bool
     ensures { result ≡ are_short blocks.now }
 {
     blocks
@@ -132,8 +139,8 @@ fn check_copy(aus: &[AuPlan], before: &[Holding], copy: &Holding) -> Result<(), 
 {
     let blocks = copy.blocks.as_slice();
     rule(counts(aus, copy.au, blocks.len()), PlanFault::BlockCount)?;
-    rule(!copied(before, copy.au), PlanFault::Repeat)?;
-    rule(short(blocks), PlanFault::Bounds)
+    rule(!has_copy(before, copy.au), PlanFault::Repeat)?;
+    rule(are_short(blocks), PlanFault::Bounds)
 }
 
 fn check_copies(aus: &[AuPlan], copies: &[Holding]) -> Result<(), PlanFault>
@@ -171,7 +178,7 @@ fn check_peer(
     ensures { fault_of result ≡ peer_fault aus.now peers.now before.now peer.now }
 {
     rule(fit(peer), PlanFault::Bounds)?;
-    rule(!knows_peer(before, peer.id), PlanFault::Repeat)?;
+    rule(!has_peer(before, peer.id), PlanFault::Repeat)?;
     check_members(peers, peer.id, peer.refs.as_slice())?;
     check_members(peers, peer.id, peer.friends.as_slice())?;
     check_copies(aus, peer.copies.as_slice())
@@ -231,8 +238,8 @@ impl Plan {
     {
         let aus = self.aus.as_slice();
         let peers = self.peers.as_slice();
-        rule(bounded(&self.rules), PlanFault::Bounds)?;
-        rule(ordered(&self.rules), PlanFault::RulesOrder)?;
+        rule(are_bounded(&self.rules), PlanFault::Bounds)?;
+        rule(are_ordered(&self.rules), PlanFault::RulesOrder)?;
         rule(self.turns <= 4096, PlanFault::Bounds)?;
         rule(within(1, 4, aus.len()), PlanFault::Bounds)?;
         check_aus(aus)?;

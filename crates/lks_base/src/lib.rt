@@ -12,6 +12,7 @@ mod plans;
 mod reactions;
 mod records;
 
+pub use checking::{are_bounded, are_ordered, are_short, has_au, has_copy, has_member, has_peer};
 pub use entries::{Entry, Note};
 pub use events::{Envelope, Event, PeerStep};
 pub use lists::{Blocks, Bytes, Contents, Hashes, Ids, Seq};

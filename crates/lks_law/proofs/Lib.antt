@@ -1,2 +1,9 @@
+pub mod Grown
 pub mod Histories
+pub mod Kept
+pub mod Journals
+pub mod Openings
+pub mod PollStates
 pub mod Ranges
+pub mod Repairs
+pub mod Rows

@@ -1,10 +1,10 @@
 -- What a journal, the list of a peer's records, says of its AUs and polls. Here alone stand matches on records.
-use Rattle.std.specs.Prelude.{ℕ, Bool, true, false, ◌==◌, ◌-◌, ◌&&◌, nat_lt, not, if◌then◌else◌, Option, Some, None, is_some, unwrap_or, List, [], ◌∷◌, slice_set, take, count_by}
+use Rattle.std.specs.Prelude.{ℕ, Bool, true, false, ◌==◌, ◌-◌, ◌&&◌, nat_lt, not, if◌then◌else◌, Option, Some, None, is_some, unwrap_or, List, [], ◌∷◌, ◌++◌, slice_set, take, count_by}
 use Rattle.std.specs.List.{list_any, filter_map}
 use Rattle.lks_base.specs.declared.names.HashKind.{HashKind}
 use Rattle.lks_base.specs.declared.names.Limits.{Limits}
 use Rattle.lks_base.specs.declared.records.Record.{Record}
-use Rattle.lks_base.specs.declared.records.Record.TheVariants.{Deposit, PollOpened, OuterOpened, VoteIn, Shut, Asked, RepairBad, Replaced, Closed, Tuned}
+use Rattle.lks_base.specs.declared.records.Record.TheVariants.{Deposit, PollOpened, Nominated, OuterOpened, VoteIn, Shut, Asked, RepairBad, Replaced, Closed, Tuned}
 use Rattle.lks_tally.specs.declared.ballots.Vote.{Vote}
 
 -- what a poll keeps from its opening
@@ -48,6 +48,14 @@ abbrev pub outer_in : ℕ → Record → Option (List ℕ)
 outer_in n (OuterOpened number outer) = if number == n then Some outer else None
 outer_in n _ = None
 
+abbrev pub widens : ℕ → Record → Bool
+widens n (OuterOpened number outer) = number == n
+widens n _ = false
+
+abbrev pub is_nominated_by : ℕ → ℕ → Record → Bool
+is_nominated_by n v (Nominated number voter nominees) = number == n && voter == v
+is_nominated_by n v _ = false
+
 abbrev pub vote_in : ℕ → Record → Option Vote
 vote_in n (VoteIn number voter hashes) = if number == n then Some (record { voter = voter; hashes = hashes }) else None
 vote_in n _ = None
@@ -67,6 +75,17 @@ closes n _ = false
 abbrev pub asks : ℕ → ℕ → ℕ → Record → Bool
 asks n b v (Asked number block voter) = number == n && (block == b && voter == v)
 asks n b v _ = false
+
+abbrev pub asks_any : ℕ → Record → Bool
+asks_any n (Asked number block voter) = number == n
+asks_any n _ = false
+
+-- the requests of poll n that are unanswered after a record, given those before it
+abbrev pub waiting_after : ℕ → List Request → Record → List Request
+waiting_after n before (Asked number block voter) = if number == n then before ++ record { block = block; voter = voter } ∷ [] else before
+waiting_after n before (RepairBad number block voter) = if number == n then [] else before
+waiting_after n before (Replaced number au block bytes) = if number == n then [] else before
+waiting_after n before _ = before
 
 -- the request of poll n that is unanswered after a record, given the one before it
 abbrev pub unanswered_after : ℕ → Option Request → Record → Option Request
@@ -128,11 +147,30 @@ unfoldable pub outer_of : ℕ → List Record → List ℕ
 outer_of n [] = []
 outer_of n (r ∷ rs) = if is_some (outer_in n r) then unwrap_or (outer_in n r) [] else outer_of n rs
 
+-- whether an outer circle was invited, which may be empty
+unfoldable pub is_widened : ℕ → List Record → Bool
+is_widened n journal = list_any (widens n) journal
+
+unfoldable pub has_nominated : ℕ → ℕ → List Record → Bool
+has_nominated n v journal = list_any (is_nominated_by n v) journal
+
 unfoldable pub has_voted : ℕ → ℕ → List Record → Bool
 has_voted n v journal = list_any (is_vote_of n v) journal
 
 unfoldable pub was_asked : ℕ → ℕ → ℕ → List Record → Bool
 was_asked n b v journal = list_any (asks n b v) journal
+
+-- whether poll n asked for a repair
+unfoldable pub has_asked : ℕ → List Record → Bool
+has_asked n journal = list_any (asks_any n) journal
+
+abbrev pub waiting_from : ℕ → List Request → List Record → List Request
+waiting_from n before [] = before
+waiting_from n before (r ∷ rs) = waiting_from n (waiting_after n before r) rs
+
+-- the requests of poll n that no record answers
+unfoldable pub waiting : ℕ → List Record → List Request
+waiting n journal = waiting_from n [] journal
 
 abbrev pub unanswered_from : ℕ → Option Request → List Record → Option Request
 unanswered_from n before [] = before

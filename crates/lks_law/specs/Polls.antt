@@ -1,5 +1,5 @@
 -- The votes of a peer's own polls, and their verdicts.
-use Rattle.std.specs.Prelude.{ℕ, Bool, ◌||◌, Option, unwrap_or, List, length, filter, find, not}
+use Rattle.std.specs.Prelude.{ℕ, Bool, true, false, ◌||◌, Option, unwrap_or, List, length, filter, find, not, slice_set}
 use Rattle.std.specs.List.{filter_map}
 use Rattle.lks_base.specs.Checking.{has_member}
 use Rattle.lks_base.specs.declared.names.HashKind.{HashKind}
@@ -8,10 +8,12 @@ use Rattle.lks_base.specs.declared.plans.AuPlan.{AuPlan}
 use Rattle.lks_base.specs.declared.plans.Rules.{Rules}
 use Rattle.lks_base.specs.declared.records.Record.{Record}
 use Rattle.lks_law.specs.Journal.{Opening, vote_in, outer_of, contents_of, was_asked, limits_from}
+use Rattle.lks_tally.specs.declared.ballots.At.{At}
+use Rattle.lks_tally.specs.declared.ballots.At.TheVariants.{Win, Loss, Split}
 use Rattle.lks_tally.specs.declared.ballots.Ballot.{Ballot}
 use Rattle.lks_tally.specs.declared.ballots.Verdict.{Verdict}
 use Rattle.lks_tally.specs.declared.ballots.Vote.{Vote}
-use Rattle.lks_tally.specs.Counting.{verdict_on, voters_against}
+use Rattle.lks_tally.specs.Counting.{verdict_at, verdict_on, voters_against}
 
 -- what a peer goes by: the rules, the AUs in the plan's order, and its own part of the plan
 pub record Station : Type 0 where
@@ -62,3 +64,17 @@ candidate own n opening b journal =
     let copy = contents_of opening.au journal in
     find (λ v. not (was_asked n b v journal))
     (voters_against (ballot_of own n opening (length copy)) (inner_votes n opening.inner journal) copy b)
+
+-- what the inner votes of poll n say at block b of these blocks
+unfoldable pub said_at : Station → ℕ → Opening → List (List ℕ) → ℕ → List Record → At
+said_at own n opening blocks b journal =
+    verdict_at (limits_of own.rules opening).minority (ballot_of own n opening (length blocks)) (inner_votes n opening.inner journal) blocks b
+
+abbrev pub is_win : At → Bool
+is_win Win = true
+is_win Loss = false
+is_win Split = false
+
+-- whether they are for the peer's copy at b once it has these bytes there
+unfoldable pub restores : Station → ℕ → Opening → ℕ → List ℕ → List Record → Bool
+restores own n opening b bytes journal = is_win (said_at own n opening (slice_set (contents_of opening.au journal) b bytes) b journal)

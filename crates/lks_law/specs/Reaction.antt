@@ -2,6 +2,7 @@
 -- doesn't hold, nothing is added and nothing sent.
 use Rattle.std.specs.Prelude.{ℕ, Bool, true, false, not, ◌&&◌, ◌==◌, ◌+◌, nat_lt, if◌then◌else◌, Option, Some, None, is_some, List, [], ◌∷◌, length, map, count_by}
 use Rattle.std.specs.List.{list_any}
+use Rattle.lks_base.specs.Checking.{has_member}
 use Rattle.lks_base.specs.declared.messages.Message.{Message}
 use Rattle.lks_base.specs.declared.messages.Message.TheVariants as message
 use Rattle.lks_base.specs.declared.names.Judged.{Judged}
@@ -15,8 +16,8 @@ use Rattle.lks_base.specs.declared.reactions.Reaction.{Reaction}
 use Rattle.lks_base.specs.declared.records.Record.{Record}
 use Rattle.lks_base.specs.declared.records.Record.TheVariants as records
 use Rattle.lks_hash.specs.Hashes.{nonce_from}
-use Rattle.lks_law.specs.Journal.{Opening, deposit_of, contents_of, opening_of, openings, opens_running, opens_open, opens_lately, is_voting, is_running, is_shut, has_voted, unanswered}
-use Rattle.lks_law.specs.Polls.{Station, limits_in_force, limits_of, votes, inner_votes, is_invited, verdict_in, candidate}
+use Rattle.lks_law.specs.Journal.{Opening, Request, deposit_of, contents_of, opening_of, openings, opens_running, opens_open, opens_lately, is_voting, is_running, is_shut, is_widened, has_nominated, has_voted, unanswered}
+use Rattle.lks_law.specs.Polls.{Station, limits_in_force, limits_of, votes, inner_votes, is_invited, verdict_in, candidate, restores}
 use Rattle.lks_message.specs.Spelling.{spelling}
 use Rattle.lks_tally.specs.declared.ballots.Verdict.{Verdict}
 use Rattle.lks_tally.specs.declared.ballots.Verdict.TheVariants as verdict
@@ -99,6 +100,36 @@ on_tally own journal tick n =
     then for_opening (opening_of n journal) (λ opening. tallied own journal tick n opening (verdict_in own n opening journal))
     else nothing
 
+-- An invited peer that agrees to vote is sent the proof of effort with the poll's nonce, until its vote is in.
+
+unfoldable pub may_prove : List Record → ℕ → ℕ → Opening → Bool
+may_prove journal from n opening = is_invited from n opening.inner journal && not (has_voted n from journal)
+
+abbrev pub proved : Station → List Record → ℕ → ℕ → Opening → Reaction
+proved own journal from n opening =
+    if may_prove journal from n opening
+    then record { records = []; sends = letter (message.PollProof n opening.nonce opening.kind own.proof) from ∷ [] }
+    else nothing
+
+unfoldable pub on_challenge : Station → List Record → ℕ → ℕ → Bool → Reaction
+on_challenge own journal from n agrees =
+    if agrees && is_voting n journal then for_opening (opening_of n journal) (proved own journal from n) else nothing
+
+-- Each inner peer nominates once, until the outer circle is invited.
+
+unfoldable pub may_nominate : List Record → ℕ → ℕ → Opening → Bool
+may_nominate journal from n opening = has_member opening.inner from && not (has_nominated n from journal)
+
+abbrev pub nominated : List Record → ℕ → ℕ → List ℕ → Opening → Reaction
+nominated journal from n nominees opening =
+    if may_nominate journal from n opening then record { records = records.Nominated n from nominees ∷ []; sends = [] } else nothing
+
+unfoldable pub on_nominate : List Record → ℕ → ℕ → List ℕ → Reaction
+on_nominate journal from n nominees =
+    if is_voting n journal && not (is_widened n journal)
+    then for_opening (opening_of n journal) (nominated journal from n nominees)
+    else nothing
+
 -- A vote counts once for each invited peer, while votes are open, if its proof is accepted and it has a hash for each block.
 
 abbrev pub is_accepted : Judged → Bool
@@ -117,14 +148,37 @@ unfoldable pub on_vote : List Record → ℕ → ℕ → List (List ℕ) → Jud
 on_vote journal from n hashes judged =
     if is_accepted judged && is_voting n journal then for_opening (opening_of n journal) (counted journal from n hashes) else nothing
 
-abbrev pub on_message : List Record → ℕ → Message → Judged → Reaction
-on_message journal from (message.Vote n hashes proof) judged = on_vote journal from n hashes judged
-on_message journal from _ judged = nothing
+-- A repair answers the request that its poll waits for. It is taken where a landslide of the votes is for the copy with
+-- the new block in place, whoever sent it; else it is passed over, and the poll waits no more.
+
+abbrev pub is_request : ℕ → ℕ → Option Request → Bool
+is_request b v None = false
+is_request b v (Some r) = r.block == b && r.voter == v
+
+unfoldable pub may_repair : List Record → ℕ → ℕ → ℕ → Bool
+may_repair journal from n b = is_request b from (unanswered n journal)
+
+abbrev pub repaired : Station → List Record → ℕ → ℕ → ℕ → List ℕ → Opening → Reaction
+repaired own journal from n b bytes opening =
+    if restores own n opening b bytes journal
+    then record { records = records.Replaced n opening.au b bytes ∷ []; sends = [] }
+    else record { records = records.RepairBad n b from ∷ []; sends = [] }
+
+unfoldable pub on_repair : Station → List Record → ℕ → ℕ → ℕ → List ℕ → Reaction
+on_repair own journal from n b bytes =
+    if may_repair journal from n b then for_opening (opening_of n journal) (repaired own journal from n b bytes) else nothing
+
+abbrev pub on_message : Station → List Record → ℕ → Message → Judged → Reaction
+on_message own journal from (message.PollChallenge n agrees) judged = on_challenge own journal from n agrees
+on_message own journal from (message.Nominate n nominees) judged = on_nominate journal from n nominees
+on_message own journal from (message.Vote n hashes proof) judged = on_vote journal from n hashes judged
+on_message own journal from (message.Repair n b bytes) judged = on_repair own journal from n b bytes
+on_message own journal from _ judged = nothing
 
 -- what a peer with this journal adds and sends at this tick
 unfoldable pub reaction : Station → List Record → ℕ → Input → Reaction
 reaction own journal tick (input.OpenPoll au) = on_open own journal tick au
 reaction own journal tick (input.Shut n) = on_shut own journal tick n
 reaction own journal tick (input.Tally n) = on_tally own journal tick n
-reaction own journal tick (input.Got from m judged) = on_message journal from m judged
+reaction own journal tick (input.Got from m judged) = on_message own journal from m judged
 reaction own journal tick _ = nothing

@@ -1,12 +1,44 @@
 //! Laws on every history of every plan.
 
-ghost use Rattle.std.specs.Prelude.{◌≡◌, List, map};
+ghost use Rattle.std.specs.Prelude.{◌≡◌, ◌≢◌, ℕ, true, Some, List, map, slice_get};
 ghost use Rattle.lks_base.specs.declared.entries.Entry.{Entry};
 ghost use Rattle.lks_base.specs.declared.events.Event.{Event};
 ghost use Rattle.lks_base.specs.declared.plans.Plan.{Plan};
 ghost use Rattle.lks_law.specs.Entries.{entries};
+ghost use Rattle.lks_law.specs.Facts.{HaveJournals, HasPolls};
+ghost use Rattle.lks_law.specs.Journal.{Opening, opening_of};
+ghost use Rattle.lks_law.specs.Polls.{verdict_in};
+ghost use Rattle.lks_law.specs.Reaction.{may_tally};
+ghost use Rattle.lks_law.specs.Safe.{Safe};
+ghost use Rattle.lks_law.specs.World.{Standing, world};
+ghost use Rattle.lks_tally.specs.declared.ballots.Verdict.{Verdict};
 
 /// The entries of a history are those of its events, one each, in order.
 pub fn every_event_has_its_entry()
     ensures { (plan : Plan) (history : List Event) → map (λ (e : Entry). e.event) (entries plan history) ≡ history }
+{}
+
+/// The honest peers of a world are those of its plan, and each has a journal of its own: its deposits, and then
+/// what the rules add for what it did and was told, at ticks that don't fall.
+pub fn every_journal_is_its_peers_own()
+    ensures { (plan : Plan) (history : List Event) → HaveJournals plan (world plan history) }
+{}
+
+/// At most one poll of an honest peer runs on an AU. A poll that runs and is shut has its quorum, and so has each
+/// that asked for a repair. It waits for one repair at most, and its votes still say that this block is lost.
+pub fn every_poll_keeps_its_state()
+    ensures { (plan : Plan) (history : List Event) (place : ℕ) (s : Standing) → slice_get (world plan history).peers place ≡ Some s → HasPolls s.own s.journal }
+{}
+
+/// So a poll that can be tallied is never found to lack its quorum.
+pub fn every_tally_has_its_quorum()
+    ensures { (plan : Plan) (history : List Event) (place : ℕ) (s : Standing) → slice_get (world plan history).peers place ≡ Some s
+        → (n : ℕ) (opening : Opening) → may_tally n s.journal ≡ true → opening_of n s.journal ≡ Some opening → verdict_in s.own n opening s.journal ≢ Verdict.Inquorate }
+{}
+
+/// Each replaced block of each honest peer's journal has its evidence: at least a quorum of votes by distinct
+/// invited inner peers of one poll, at most a minority of them for the old block and at most a minority against
+/// the new one.
+pub fn every_replacement_has_evidence()
+    ensures { (plan : Plan) (history : List Event) → Safe plan history }
 {}

@@ -45,3 +45,8 @@ few_blocks au journal small = omega (arith, replaced-length (unwrap_or (deposit_
 -- so block numbers name all of its blocks
 pub whole_copy : (au : ℕ) (journal : List Record) → are_small journal ≡ true → first_blocks (contents_of au journal) ≡ contents_of au journal
 whole_copy au journal small = first_all (contents_of au journal) (omega (arith, few_blocks au journal small))
+
+pub whole_copy_with : (au b : ℕ) (bytes : List ℕ) (journal : List Record) → are_small journal ≡ true
+    → first_blocks (slice_set (contents_of au journal) b bytes) ≡ slice_set (contents_of au journal) b bytes
+whole_copy_with au b bytes journal small =
+    first_all (slice_set (contents_of au journal) b bytes) (omega (arith, length-set (contents_of au journal) b bytes, few_blocks au journal small))

@@ -1,6 +1,6 @@
 -- No reaction adds a copy to a journal.
 use Rattle.std.proofs.Common.{◌≡◌, ℕ, Bool, true, false, cond, List, [], ◌∷◌, ◌++◌, ◌+◌, length, refl, ◌∙◌, ap}
-use Rattle.std.specs.Prelude.{Option, Some, None, ◌&&◌}
+use Rattle.std.specs.Prelude.{Option, Some, None, ◌&&◌, not}
 use Rattle.std.proofs.lemmas.Bool.{and_parts}
 use Rattle.lks_base.specs.declared.messages.Message.{Message}
 use Rattle.lks_base.specs.declared.messages.Message.TheVariants as message
@@ -10,9 +10,9 @@ use Rattle.lks_base.specs.declared.reactions.Input.TheVariants as input
 use Rattle.lks_base.specs.declared.reactions.Reaction.{Reaction}
 use Rattle.lks_base.specs.declared.records.Record.{Record}
 use Rattle.lks_base.specs.declared.records.Record.TheVariants as records
-use Rattle.lks_law.specs.Journal.{Opening, opening_of, openings, is_voting}
-use Rattle.lks_law.specs.Polls.{Station, verdict_in, candidate}
-use Rattle.lks_law.specs.Reaction.{reaction, nothing, may_open, opened, on_open, is_inquorate, shut, shut_inquorate, for_opening, on_shut, may_tally, closed, asked, tallied, on_tally, is_accepted, may_vote, counted, on_vote, on_message}
+use Rattle.lks_law.specs.Journal.{Opening, opening_of, openings, is_voting, is_widened}
+use Rattle.lks_law.specs.Polls.{Station, verdict_in, candidate, restores}
+use Rattle.lks_law.specs.Reaction.{reaction, nothing, may_open, opened, on_open, is_inquorate, shut, shut_inquorate, for_opening, on_shut, may_tally, closed, asked, tallied, on_tally, may_prove, proved, on_challenge, may_nominate, nominated, on_nominate, is_accepted, may_vote, counted, on_vote, may_repair, repaired, on_repair, on_message}
 use Rattle.lks_peer.specs.Small.{is_small, are_small}
 use Rattle.lks_tally.specs.declared.ballots.Verdict.{Verdict}
 use Rattle.lks_tally.specs.declared.ballots.Verdict.TheVariants as verdict
@@ -51,9 +51,33 @@ vote_small journal from n hashes judged =
     elim (may_vote journal from n (length hashes) opening) as (λ b. are_small (cond b (record { records = records.VoteIn n from hashes ∷ []; sends = [] }) nothing).records ≡ true) [ true ↦ refl | false ↦ refl ]))
     refl
 
-message_small : (journal : List Record) (from : ℕ) (m : Message) (judged : Judged) → are_small (on_message journal from m judged).records ≡ true
-message_small journal from (message.Vote n hashes proof) judged = vote_small journal from n hashes judged
-message_small journal from m judged = refl
+challenge_small : (own : Station) (journal : List Record) (from n : ℕ) (agrees : Bool) → are_small (on_challenge own journal from n agrees).records ≡ true
+unfolding on_challenge
+challenge_small own journal from n agrees =
+    if_small (agrees && is_voting n journal) (for_opening (opening_of n journal) (proved own journal from n)) nothing
+    (at_opening (opening_of n journal) (proved own journal from n) (λ opening. if_small (may_prove journal from n opening) _ nothing refl refl))
+    refl
+
+nomination_small : (journal : List Record) (from n : ℕ) (nominees : List ℕ) → are_small (on_nominate journal from n nominees).records ≡ true
+unfolding on_nominate
+nomination_small journal from n nominees =
+    if_small (is_voting n journal && not (is_widened n journal)) (for_opening (opening_of n journal) (nominated journal from n nominees)) nothing
+    (at_opening (opening_of n journal) (nominated journal from n nominees) (λ opening. if_small (may_nominate journal from n opening) _ nothing refl refl))
+    refl
+
+repair_small : (own : Station) (journal : List Record) (from n b : ℕ) (bytes : List ℕ) → are_small (on_repair own journal from n b bytes).records ≡ true
+unfolding on_repair
+repair_small own journal from n b bytes =
+    if_small (may_repair journal from n b) (for_opening (opening_of n journal) (repaired own journal from n b bytes)) nothing
+    (at_opening (opening_of n journal) (repaired own journal from n b bytes) (λ opening. if_small (restores own n opening b bytes journal) _ _ refl refl))
+    refl
+
+message_small : (own : Station) (journal : List Record) (from : ℕ) (m : Message) (judged : Judged) → are_small (on_message own journal from m judged).records ≡ true
+message_small own journal from (message.PollChallenge n agrees) judged = challenge_small own journal from n agrees
+message_small own journal from (message.Nominate n nominees) judged = nomination_small journal from n nominees
+message_small own journal from (message.Vote n hashes proof) judged = vote_small journal from n hashes judged
+message_small own journal from (message.Repair n b bytes) judged = repair_small own journal from n b bytes
+message_small own journal from m judged = refl
 
 pub reaction_small : (own : Station) (journal : List Record) (tick : ℕ) (i : Input) → are_small (reaction own journal tick i).records ≡ true
 unfolding reaction on_open on_shut on_tally
@@ -66,5 +90,5 @@ reaction_small own journal tick (input.Tally n) =
     if_small (may_tally n journal) (for_opening (opening_of n journal) (λ opening. tallied own journal tick n opening (verdict_in own n opening journal))) nothing
     (at_opening (opening_of n journal) _ (λ opening. tallied_small own journal tick n opening (verdict_in own n opening journal)))
     refl
-reaction_small own journal tick (input.Got from m judged) = message_small journal from m judged
+reaction_small own journal tick (input.Got from m judged) = message_small own journal from m judged
 reaction_small own journal tick i = refl

@@ -1,8 +1,9 @@
--- Journals whose copies have no more blocks than an AU.
+-- Peers whose copies have no more blocks than an AU, and whose proofs fit a message.
 use Rattle.std.specs.Prelude.{◌≡◌, ◌≤◌, ℕ, Bool, true, nat_le, List, length}
 use Rattle.std.specs.List.{list_all}
 use Rattle.lks_base.specs.declared.records.Record.{Record}
 use Rattle.lks_base.specs.declared.records.Record.TheVariants.{Deposit}
+use Rattle.lks_law.specs.Polls.{Station}
 
 abbrev pub is_small : Record → Bool
 is_small (Deposit au blocks) = nat_le (length blocks) 512
@@ -15,7 +16,8 @@ are_small journal = list_all is_small journal
 abbrev pub most_records : ℕ
 most_records = 1000000000
 
--- a journal of a peer: no copy is larger than an AU, and there aren't too many records
-pub record IsSound (journal : List Record) : Type 0 where
+-- a peer and its journal: no copy is larger than an AU, there aren't too many records, and its proof fits a message
+pub record IsSound (own : Station) (journal : List Record) : Type 0 where
   pub small : are_small journal ≡ true
   pub few : length journal ≤ most_records
+  pub short : length own.proof ≤ 64

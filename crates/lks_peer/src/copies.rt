@@ -1,6 +1,6 @@
 //! A peer's copy of an AU as its journal leaves it.
 
-ghost use Rattle.std.specs.Prelude.{◌≡◌, IfOk, OnOk, length};
+ghost use Rattle.std.specs.Prelude.{◌≡◌, IfOk, OnOk, length, slice_set};
 ghost use Rattle.lks_law.specs.Journal.{replacement_in, replaced_by, contents_of};
 ghost use Rattle.lks_peer.specs.Replacing.{replaced_if};
 
@@ -19,8 +19,8 @@ fn replace(blocks: &mut Vec<Bytes>, r: &Record, au: AuId) -> Result<(), OutOfMem
         ..
     } = r
     {
-        if *a == au && (*block as usize) < blocks.len() {
-            blocks[*block as usize] = bytes.clone()?;
+        if *a == au {
+            put(blocks, *block, bytes)?;
         }
     }
     Ok(())
@@ -45,6 +45,30 @@ pub fn copy_of(alloc: Global, journal: &[Record], au: AuId) -> Result<Blocks, Ou
     for r in journal {
         replace(&mut blocks, r, au)?;
     }
+    Ok(Seq::from_vec(blocks))
+}
+
+fn put(blocks: &mut Vec<Bytes>, block: u16, bytes: &Bytes) -> Result<(), OutOfMemory>
+    ensures { OnOk result (blocks.new.items ≡ slice_set blocks.old.items block bytes.now) }
+{
+    if (block as usize) < blocks.len() {
+        blocks[block as usize] = bytes.clone()?;
+    }
+    Ok(())
+}
+
+/// The contents of an AU with these bytes as one of its blocks.
+pub fn copy_with(
+    alloc: Global,
+    journal: &[Record],
+    au: AuId,
+    block: u16,
+    bytes: &Bytes,
+) -> Result<Blocks, OutOfMemory>
+    ensures { IfOk result (λ copy. copy ≡ slice_set (contents_of au journal.now) block bytes.now) }
+{
+    let mut blocks = copy_of(alloc, journal, au)?.into_vec();
+    put(&mut blocks, block, bytes)?;
     Ok(Seq::from_vec(blocks))
 }
 

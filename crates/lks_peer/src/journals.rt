@@ -3,11 +3,11 @@
 ghost use Rattle.std.specs.Prelude.{◌≡◌, ◌≤◌, length, option_map, count_by};
 ghost use Rattle.std.specs.List.{list_any};
 ghost use Rattle.lks_peer.specs.Requests.{asked_for};
-ghost use Rattle.lks_law.specs.Journal.{deposit_in, deposit_of, opening_in, opening_of, is_opening, openings, shuts, is_shut, closes, is_closed, is_running, is_voting, outer_in, outer_of, is_vote_of, has_voted, asks, was_asked, unanswered_after, unanswered, limits_after, opens_running, opens_open, opens_lately};
+ghost use Rattle.lks_law.specs.Journal.{deposit_in, deposit_of, opening_in, opening_of, is_opening, openings, shuts, is_shut, closes, is_closed, is_running, is_voting, outer_in, outer_of, widens, is_widened, is_nominated_by, has_nominated, is_vote_of, has_voted, asks, was_asked, unanswered_after, unanswered, limits_after, opens_running, opens_open, opens_lately};
 ghost use Rattle.lks_law.specs.Polls.{limits_in_force, limits_of, is_invited};
-ghost use Rattle.lks_base.specs.Checking.{has_member};
+ghost use Rattle.lks_law.specs.Reaction.{is_request, may_repair};
 
-use lks_base::{AuId, Bytes, HashKind, Limits, PeerId, Record, Rules};
+use lks_base::{AuId, Bytes, HashKind, Limits, PeerId, Record, Rules, has_member};
 use std::marker::Model;
 
 /// What a poll keeps from its opening.
@@ -153,18 +153,27 @@ fn find_outer(journal: &[Record], n: u32) -> &[u16]
     &[]
 }
 
-#[tactic(auto, unfolding(lks_base::specs::Checking::has_member))]
-pub fn lists(ids: &[u16], id: PeerId) -> bool
-    ensures { result ≡ has_member ids.now id }
-{
-    ids.iter().any(|i| *i == id)
-}
-
 #[tactic(auto, unfolding(lks_law::specs::Polls::is_invited))]
 pub fn invites(journal: &[Record], n: u32, inner: &[u16], v: PeerId) -> bool
     ensures { result ≡ is_invited v n inner.now journal.now }
 {
-    lists(inner, v) || lists(find_outer(journal, n), v)
+    has_member(inner, v) || has_member(find_outer(journal, n), v)
+}
+
+#[tactic(auto, unfolding(lks_law::specs::Journal::is_widened))]
+pub fn widened_already(journal: &[Record], n: u32) -> bool
+    ensures { result ≡ is_widened n journal.now }
+{
+    journal.iter().any(|r| matches!(r, Record::OuterOpened { number, .. } if *number == n))
+}
+
+#[tactic(auto, unfolding(lks_law::specs::Journal::has_nominated))]
+pub fn nominated_already(journal: &[Record], n: u32, v: PeerId) -> bool
+    ensures { result ≡ has_nominated n v journal.now }
+{
+    journal.iter().any(
+        |r| matches!(r, Record::Nominated { number, voter, .. } if *number == n && *voter == v),
+    )
 }
 
 #[tactic(auto, unfolding(lks_law::specs::Journal::has_voted))]
@@ -213,6 +222,20 @@ pub fn find_unanswered(journal: &[Record], n: u32) -> Option<Request>
         request = request_after(request, r, n);
     }
     request
+}
+
+fn requests(request: Option<Request>, block: u16, voter: PeerId) -> bool
+    ensures { result ≡ is_request block voter (option_map asked_for request) }
+{
+    request.is_some_and(|r| r.block == block && r.voter == voter)
+}
+
+/// Whether a repair of the block by this voter answers the request that the poll waits for.
+#[tactic(auto, unfolding(lks_law::specs::Reaction::may_repair))]
+pub fn awaits_repair(journal: &[Record], from: PeerId, n: u32, block: u16) -> bool
+    ensures { result ≡ may_repair journal.now from n block }
+{
+    requests(find_unanswered(journal, n), block, from)
 }
 
 fn tuned(before: Limits, r: &Record) -> Limits

@@ -2,10 +2,12 @@
 #![tactic(auto)]
 
 mod copies;
+mod deliveries;
 mod journals;
 mod letters;
 mod peers;
 mod polls;
+mod reactions;
 mod records;
 mod stations;
 mod steps;

@@ -1,8 +1,9 @@
 //! A peer as others see it: what it goes by, and its journal.
 
-ghost use Rattle.std.specs.Prelude.{◌≡◌, ◌≤◌, ◌++◌, IfOk, OnOk, OnErr, IsSome, true, length, filter, find, option_map, slice_get};
+ghost use Rattle.std.specs.Prelude.{◌≡◌, ◌≤◌, ◌++◌, IfOk, OnOk, OnErr, IsSome, None, true, length, filter, find, option_map, slice_get};
 ghost use Rattle.std.specs.List.{range_with_len};
 ghost use Rattle.std.specs.Option.{option_copied};
+ghost use Rattle.lks_base.specs.Checking.{plan_fault};
 ghost use Rattle.lks_hash.specs.Counting.{Opens};
 ghost use Rattle.lks_law.specs.Due.{ready_at};
 ghost use Rattle.lks_law.specs.Entries.{is_inner};
@@ -11,11 +12,13 @@ ghost use Rattle.lks_law.specs.Reaction.{may_tally, reaction};
 ghost use Rattle.lks_law.specs.World.{station_of, is_honest_at, honest_peer};
 ghost use Rattle.lks_peer.specs.Small.{are_small, most_records};
 
-use crate::journals::{count_openings, find_opening, lists};
+use crate::journals::{count_openings, find_opening};
 use crate::records::copy_all;
 use crate::stations::Own;
 use crate::steps::{may_be_tallied, react};
-use lks_base::{Input, OutOfMemory, PeerId, PeerPlan, PeerStep, Plan, Reaction, Record};
+use lks_base::{
+    Input, OutOfMemory, PeerId, PeerPlan, PeerStep, Plan, Reaction, Record, has_member,
+};
 use lks_hash::Steps;
 use std::alloc::Global;
 use std::marker::{Brand, Model};
@@ -40,7 +43,7 @@ impl Model for Peer {
 
     ghost view = { λ a. record { own = a.own; journal = a.list.items } };
 
-    ghost invariant = { λ a. IsSound a.list.items };
+    ghost invariant = { λ a. IsSound a.own a.list.items };
 }
 
 fn find_honest(peers: &[PeerPlan], id: PeerId) -> Option<&PeerPlan>
@@ -60,6 +63,7 @@ fn step_counted<L: Ledger>(
     requires opens { Opens blank L.name L.parts }
     requires small { are_small journal.now ≡ true }
     requires few { length journal.now ≤ most_records }
+    requires short { length own.now.proof ≤ 64 }
     ensures { IfOk result (λ r. r ≡ reaction own.now journal.now tick input.now) }
 {
     react(
@@ -81,6 +85,7 @@ fn step_once(
 ) -> Result<Reaction, OutOfMemory>
     requires small { are_small journal.now ≡ true }
     requires few { length journal.now ≤ most_records }
+    requires short { length own.now.proof ≤ 64 }
     ensures { IfOk result (λ r. r ≡ reaction own.now journal.now tick input.now) }
 {
     step_counted::<Brand>(alloc, own, journal, tick, input, Blank::new(1))
@@ -126,7 +131,8 @@ impl Peer {
         planned: &PeerPlan,
         list: Vec<Record>,
     ) -> Result<Peer, OutOfMemory>
-        requires { are_small list.items ≡ true }
+        requires small { are_small list.items ≡ true }
+        requires short { length planned.now.proof ≤ 64 }
         ensures { IfOk result (λ peer. peer ≡ record { own = station_of plan.now planned.now; journal = list.items }) }
     {
         let own = Own::new(alloc, plan, planned)?;
@@ -140,12 +146,14 @@ impl Peer {
     }
 
     /// The honest peer `id` of a good plan, with a journal of its own.
+    #[tactic(auto, using(lks_base::proofs::PlanLaws::short_proof))]
     pub fn restore(
         alloc: Global,
         plan: &Plan,
         id: PeerId,
         list: &[Record],
     ) -> Result<Peer, OutOfMemory>
+        requires good { plan_fault plan.now ≡ None }
         requires honest { IsSome (honest_peer id plan.now) }
         requires small { are_small list.now ≡ true }
         ensures { IfOk result (λ peer. option_map (λ p. record { own = station_of plan.now p; journal = list.now }) (honest_peer id plan.now) ≡ Some peer) }
@@ -186,7 +194,7 @@ impl Peer {
     pub fn has_inner(&self, number: u32, voter: PeerId) -> bool
         ensures { result ≡ is_inner self.now.journal number voter }
     {
-        find_opening(&self.list, number).is_some_and(|opening| lists(opening.inner, voter))
+        find_opening(&self.list, number).is_some_and(|opening| has_member(opening.inner, voter))
     }
 
     pub fn id(&self) -> PeerId

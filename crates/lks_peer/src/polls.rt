@@ -1,18 +1,19 @@
 //! The votes of a peer's own polls, and what they say of its copy.
 
 ghost use Rattle.std.specs.Prelude.{◌≡◌, true, not, find, IfOk, map};
+ghost use Rattle.lks_base.specs.Counted.{first_blocks};
 ghost use Rattle.lks_law.specs.Journal.{was_asked};
-ghost use Rattle.lks_law.specs.Polls.{votes, inner_votes, ballot_of, verdict_in, candidate};
+ghost use Rattle.lks_law.specs.Polls.{votes, inner_votes, ballot_of, verdict_in, candidate, said_at, is_win, restores};
 ghost use Rattle.lks_law.specs.Reaction.{is_inquorate};
 ghost use Rattle.lks_peer.specs.Inner.{inner_vote_in, voter_in};
 ghost use Rattle.lks_peer.specs.Small.{are_small};
 
-use crate::copies::copy_of;
-use crate::journals::{Opening, asked_already, lists, poll_limits};
+use crate::copies::{copy_of, copy_with};
+use crate::journals::{Opening, asked_already, poll_limits};
 use crate::stations::Own;
-use lks_base::{Contents, OutOfMemory, PeerId, PollName, Record};
+use lks_base::{Blocks, Bytes, Contents, OutOfMemory, PeerId, PollName, Record, has_member};
 use lks_hash::Steps;
-use lks_tally::{Ballot, Verdict, Vote, against_of, verdict_of};
+use lks_tally::{At, Ballot, Verdict, Vote, against_of, at_of, verdict_of};
 use std::alloc::Global;
 use std::sync::ledger::Ledger;
 
@@ -49,7 +50,7 @@ fn as_inner_vote(r: &Record, n: u32, inner: &[u16]) -> Result<Option<Vote>, OutO
             voter,
             hashes,
         } => {
-            if *number == n && lists(inner, *voter) {
+            if *number == n && has_member(inner, *voter) {
                 let hashes = hashes.clone()?;
                 Ok(Some(Vote {
                     voter: *voter,
@@ -162,6 +163,59 @@ pub fn find_candidate<L: Ledger>(
         steps,
     )?;
     Ok(first_unasked(journal, n, b, against.as_slice()))
+}
+
+fn wins(at: At) -> bool
+    ensures { result ≡ is_win at }
+{
+    matches!(at, At::Win)
+}
+
+/// What the poll's inner votes say of these blocks at `b`.
+#[tactic(auto, unfolding(lks_law::specs::Polls::said_at))]
+fn say_at<L: Ledger>(
+    alloc: Global,
+    own: &Own,
+    n: u32,
+    opening: &Opening<'_>,
+    blocks: &Blocks,
+    b: u16,
+    journal: &[Record],
+    steps: &mut Steps<L>,
+) -> Result<At, OutOfMemory>
+    requires { first_blocks blocks.now ≡ blocks.now }
+    ensures { IfOk result (λ at. at ≡ said_at own.now n opening.now blocks.now b journal.now) }
+{
+    let votes = inner_votes_of(alloc, journal, n, opening.inner)?;
+    at_of(
+        alloc,
+        &ballot(own, n, opening, blocks.count()),
+        poll_limits(&own.rules, opening).minority,
+        &votes,
+        blocks,
+        b,
+        steps,
+    )
+}
+
+/// Whether they are for the peer's copy at `b` once it has these bytes there.
+#[tactic(auto, unfolding(lks_law::specs::Polls::restores), using(crate::proofs::FewBlocks::whole_copy_with))]
+pub fn is_restored<L: Ledger>(
+    alloc: Global,
+    own: &Own,
+    n: u32,
+    opening: &Opening<'_>,
+    b: u16,
+    bytes: &Bytes,
+    journal: &[Record],
+    steps: &mut Steps<L>,
+) -> Result<bool, OutOfMemory>
+    requires { are_small journal.now ≡ true }
+    ensures { IfOk result (λ r. r ≡ restores own.now n opening.now b bytes.now journal.now) }
+{
+    let copy = copy_with(alloc, journal, opening.au, b, bytes)?;
+    let at = say_at(alloc, own, n, opening, &copy, b, journal, steps)?;
+    Ok(wins(at))
 }
 
 fn first_unasked(journal: &[Record], n: u32, b: u16, voters: &[u16]) -> Option<PeerId>

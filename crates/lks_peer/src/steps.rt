@@ -1,22 +1,20 @@
-//! What a peer adds to its journal and sends, one function for each thing that it does or receives.
+//! What a peer adds to its journal and sends, one function for each step of its own.
 
-ghost use Rattle.std.specs.Prelude.{◌≡◌, ◌≤◌, ◌<◌, true, IfOk, length, [], ◌∷◌};
+ghost use Rattle.std.specs.Prelude.{◌≡◌, ◌≤◌, ◌<◌, true, IfOk, length};
 ghost use Rattle.lks_law.specs.Polls.{verdict_in};
-ghost use Rattle.lks_law.specs.Reaction.{nothing, may_open, opened, on_open, shut, shut_inquorate, on_shut, may_tally, closed, asked, tallied, on_tally, is_accepted, may_vote, counted, on_vote, on_message, reaction};
+ghost use Rattle.lks_law.specs.Reaction.{may_open, opened, on_open, shut, shut_inquorate, on_shut, may_tally, closed, asked, tallied, on_tally, reaction};
 ghost use Rattle.lks_peer.specs.Small.{are_small, most_records};
 
-use crate::copies::count_blocks;
+use crate::deliveries::hear;
 use crate::journals::{
     Opening, audited_lately, audits, count_openings, count_running, current_limits, find_deposit,
-    find_opening, find_unanswered, invites, runs, shut_already, takes_votes, voted_already,
+    find_opening, find_unanswered, runs, shut_already, takes_votes,
 };
 use crate::letters::{give_receipts, invite, write};
 use crate::polls::{find_candidate, judge, lacks_quorum};
+use crate::reactions::{adding, no_reaction, no_sends};
 use crate::stations::Own;
-use lks_base::{
-    AuId, Hashes, Input, Judged, Message, OutOfMemory, Outcome, Outgoing, PeerId, Reaction, Record,
-    Seq,
-};
+use lks_base::{AuId, Input, Message, OutOfMemory, Outcome, PeerId, Reaction, Record, Seq};
 use lks_hash::{Steps, nonce_of};
 use lks_tally::Verdict;
 use std::alloc::Global;
@@ -24,32 +22,6 @@ use std::sync::ledger::Ledger;
 
 /// The most polls of a peer that run at once.
 const MOST_POLLS: usize = 8;
-
-fn no_reaction(alloc: Global) -> Reaction
-    ensures { result ≡ nothing }
-{
-    Reaction {
-        records: Seq::from_vec(Vec::new(alloc)),
-        sends: Seq::from_vec(Vec::new(alloc)),
-    }
-}
-
-fn adding(alloc: Global, item: Record, sends: Seq<Outgoing>) -> Result<Reaction, OutOfMemory>
-    ensures { IfOk result (λ r. r ≡ record { records = item ∷ []; sends = sends }) }
-{
-    let mut records = Vec::new(alloc);
-    records.push(item)?;
-    Ok(Reaction {
-        records: Seq::from_vec(records),
-        sends,
-    })
-}
-
-fn no_sends(alloc: Global) -> Seq<Outgoing>
-    ensures { result ≡ [] }
-{
-    Seq::from_vec(Vec::new(alloc))
-}
 
 #[tactic(auto, unfolding(lks_law::specs::Reaction::may_open))]
 fn may_be_opened(own: &Own, journal: &[Record], tick: u32, au: AuId) -> bool
@@ -260,87 +232,6 @@ fn tally_poll<L: Ledger>(
     }
 }
 
-fn accepts(judged: Judged) -> bool
-    ensures { result ≡ is_accepted judged }
-{
-    matches!(judged, Judged::Accepted)
-}
-
-#[tactic(auto, unfolding(lks_law::specs::Reaction::may_vote))]
-fn may_be_counted(
-    journal: &[Record],
-    from: PeerId,
-    number: u32,
-    hashes: usize,
-    opening: &Opening<'_>,
-) -> bool
-    ensures { result ≡ may_vote journal.now from number hashes opening.now }
-{
-    invites(journal, number, opening.inner, from)
-        && !voted_already(journal, number, from)
-        && hashes == count_blocks(journal, opening.au)
-}
-
-fn count_with(
-    alloc: Global,
-    journal: &[Record],
-    from: PeerId,
-    number: u32,
-    hashes: &Hashes,
-    opening: &Opening<'_>,
-) -> Result<Reaction, OutOfMemory>
-    ensures { IfOk result (λ r. r ≡ counted journal.now from number hashes.now opening.now) }
-{
-    let count = hashes.as_slice().len();
-    if !may_be_counted(journal, from, number, count, opening) {
-        return Ok(no_reaction(alloc));
-    }
-    let hashes = hashes.clone()?;
-    let item = Record::VoteIn {
-        number,
-        voter: from,
-        hashes,
-    };
-    adding(alloc, item, no_sends(alloc))
-}
-
-#[tactic(auto, unfolding(lks_law::specs::Reaction::on_vote))]
-fn take_vote(
-    alloc: Global,
-    journal: &[Record],
-    from: PeerId,
-    number: u32,
-    hashes: &Hashes,
-    judged: Judged,
-) -> Result<Reaction, OutOfMemory>
-    ensures { IfOk result (λ r. r ≡ on_vote journal.now from number hashes.now judged) }
-{
-    if !(accepts(judged) && takes_votes(journal, number)) {
-        return Ok(no_reaction(alloc));
-    }
-    match find_opening(journal, number) {
-        Some(opening) => count_with(alloc, journal, from, number, hashes, &opening),
-        None => Ok(no_reaction(alloc)),
-    }
-}
-
-fn hear(
-    alloc: Global,
-    journal: &[Record],
-    from: PeerId,
-    message: &Message,
-    judged: Judged,
-) -> Result<Reaction, OutOfMemory>
-    ensures { IfOk result (λ r. r ≡ on_message journal.now from message.now judged) }
-{
-    match message {
-        Message::Vote { number, hashes, .. } => {
-            take_vote(alloc, journal, from, *number, hashes, judged)
-        }
-        _ => Ok(no_reaction(alloc)),
-    }
-}
-
 /// What a peer with this journal adds and sends.
 #[tactic(auto, unfolding(lks_law::specs::Reaction::reaction))]
 pub fn react<L: Ledger>(
@@ -353,6 +244,7 @@ pub fn react<L: Ledger>(
 ) -> Result<Reaction, OutOfMemory>
     requires small { are_small journal.now ≡ true }
     requires few { length journal.now ≤ most_records }
+    requires short { length own.now.proof ≤ 64 }
     ensures { IfOk result (λ r. r ≡ reaction own.now journal.now tick input.now) }
 {
     match input {
@@ -363,7 +255,7 @@ pub fn react<L: Ledger>(
             from,
             message,
             judged,
-        } => hear(alloc, journal, *from, message, *judged),
+        } => hear(alloc, own, journal, *from, message, *judged, steps),
         _ => Ok(no_reaction(alloc)),
     }
 }

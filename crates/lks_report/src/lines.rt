@@ -1,11 +1,10 @@
 //! The lines of the report.
 ghost use Rattle.std.specs.Prelude.{◌≡◌, ◌++◌, OnOk, string_bytes};
-ghost use Rattle.lks_base.specs.Checking.{has_copy};
 ghost use Rattle.lks_report.specs.Text.{entry_line, entry_lines, copy_line, peer_copies, copy_lines, status_words, poll_line, opened_line, peer_polls, poll_lines, closing_alarm, alarm_line, entry_alarms, alarm_lines, end_line};
 
 use crate::scans::{actor, inner_votes, notes_of, outcome_of, outer_votes, ticks_in, version};
 use crate::words::{put_event, put_notes, put_outcome};
-use lks_base::{AuId, AuPlan, Entry, Holding, Note, Outcome, PeerId, PeerPlan, Plan};
+use lks_base::{AuId, AuPlan, Entry, Note, Outcome, PeerId, PeerPlan, Plan, has_copy};
 use std::alloc::{AllocError, Global};
 
 #[tactic(auto, unfolding(crate::specs::Text::entry_line))]
@@ -28,13 +27,6 @@ pub(crate) fn put_entries(out: &mut String, history: &[Entry]) -> Result<(), All
         put_entry(out, i + 1, entry)?;
     }
     Ok(())
-}
-
-#[tactic(auto, unfolding(lks_base::specs::Checking::has_copy))]
-fn has_copy(copies: &[Holding], au: AuId) -> bool
-    ensures { result ≡ has_copy copies.now au }
-{
-    copies.iter().any(|copy| copy.au == au)
 }
 
 #[tactic(auto, unfolding(crate::specs::Text::copy_line))]

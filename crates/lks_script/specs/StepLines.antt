@@ -5,9 +5,9 @@ use Rattle.std.specs.Str.{bytes_eq}
 use Rattle.lks_base.specs.declared.events.PeerStep.TheVariants as peers
 use Rattle.lks_base.specs.declared.plans.Plan.{Plan}
 use Rattle.lks_script.specs.declared.steps.Step.{Step}
-use Rattle.lks_script.specs.declared.steps.Step.TheVariants.{Peer, Settle, SayVote}
+use Rattle.lks_script.specs.declared.steps.Step.TheVariants.{Peer, Settle, Forge, SayProof, SayRequest, SayReceipt, SayChallenge, SayNominate, SayVote, SayRepair}
 use Rattle.lks_script.specs.Numbers.{◌>>=◌}
-use Rattle.lks_script.specs.Words.{id_in, poll_in, blocks_in}
+use Rattle.lks_script.specs.Words.{each_in, id_in, poll_in, index_in, answer_in, block_in, blocks_in, bytes_in}
 use Rattle.lks_script.specs.StepRules.{is_step_of}
 
 -- open P A
@@ -31,24 +31,82 @@ unfoldable pub settle_in : List (List ℕ) → Option Step
 settle_in [] = Some Settle
 settle_in _ = None
 
--- a vote, said by F to T in the poll N on A
-unfoldable pub vote_in : List ℕ → List ℕ → List ℕ → List ℕ → List ℕ → Option Step
-vote_in from to number au blocks = do
+-- forge F T HEX
+unfoldable pub forge_in : List (List ℕ) → Option Step
+forge_in (from ∷ to ∷ bytes ∷ []) = do
+  f ← id_in from
+  t ← id_in to
+  bs ← bytes_in bytes
+  Some (Forge f t bs)
+forge_in _ = None
+
+-- What F says to T of the poll N: F's own poll where it says a proof, a request or a receipt, and else T's.
+
+-- say F proof T N
+unfoldable pub proof_said : ℕ → ℕ → ℕ → List (List ℕ) → Option Step
+proof_said f t n [] = Some (SayProof f t n)
+proof_said f t n _ = None
+
+-- say F request T N B
+unfoldable pub request_said : ℕ → ℕ → ℕ → List (List ℕ) → Option Step
+request_said f t n (block ∷ []) = do
+  b ← index_in block
+  Some (SayRequest f t n b)
+request_said f t n _ = None
+
+-- say F receipt T N
+unfoldable pub receipt_said : ℕ → ℕ → ℕ → List (List ℕ) → Option Step
+receipt_said f t n [] = Some (SayReceipt f t n)
+receipt_said f t n _ = None
+
+-- say F challenge T N yes, say F challenge T N no
+unfoldable pub challenge_said : ℕ → ℕ → ℕ → List (List ℕ) → Option Step
+challenge_said f t n (answer ∷ []) = do
+  agrees ← answer_in answer
+  Some (SayChallenge f t n agrees)
+challenge_said f t n _ = None
+
+-- say F nominate T N Q ...
+unfoldable pub nominees_said : ℕ → ℕ → ℕ → List (List ℕ) → Option Step
+nominees_said f t n words = do
+  nominees ← each_in id_in words
+  Some (SayNominate f t n nominees)
+
+-- say F vote T N A of BLOCKS
+unfoldable pub vote_said : ℕ → ℕ → ℕ → List (List ℕ) → Option Step
+vote_said f t n (au ∷ of ∷ blocks ∷ []) = do
+  a ← id_in au
+  content ← blocks_in blocks
+  if bytes_eq of (codes "of") then Some (SayVote f t n a content) else None
+vote_said f t n _ = None
+
+-- say F repair T N B BLOCK
+unfoldable pub repair_said : ℕ → ℕ → ℕ → List (List ℕ) → Option Step
+repair_said f t n (block ∷ bytes ∷ []) = do
+  b ← index_in block
+  content ← block_in bytes
+  Some (SayRepair f t n b content)
+repair_said f t n _ = None
+
+-- what is said, by the word that names it and those behind the poll's number
+unfoldable pub said_in : List ℕ → ℕ → ℕ → ℕ → List (List ℕ) → Option Step
+said_in what f t n more =
+    if bytes_eq what (codes "proof") then proof_said f t n more
+    else if bytes_eq what (codes "request") then request_said f t n more
+    else if bytes_eq what (codes "receipt") then receipt_said f t n more
+    else if bytes_eq what (codes "challenge") then challenge_said f t n more
+    else if bytes_eq what (codes "nominate") then nominees_said f t n more
+    else if bytes_eq what (codes "vote") then vote_said f t n more
+    else if bytes_eq what (codes "repair") then repair_said f t n more
+    else None
+
+-- say F WHAT T N ...
+unfoldable pub say_in : List (List ℕ) → Option Step
+say_in (from ∷ what ∷ to ∷ number ∷ more) = do
   f ← id_in from
   t ← id_in to
   n ← poll_in number
-  a ← id_in au
-  content ← blocks_in blocks
-  Some (SayVote f t n a content)
-
--- the two words of a vote
-unfoldable pub are_vote : List ℕ → List ℕ → Bool
-are_vote what of = bytes_eq what (codes "vote") && bytes_eq of (codes "of")
-
--- say F vote T N A of BLOCKS
-unfoldable pub say_in : List (List ℕ) → Option Step
-say_in (from ∷ what ∷ to ∷ number ∷ au ∷ of ∷ blocks ∷ []) =
-    if are_vote what of then vote_in from to number au blocks else None
+  said_in what f t n more
 say_in _ = None
 
 -- the step that a word and those behind it say
@@ -57,6 +115,7 @@ step_in key more =
     if bytes_eq key (codes "open") then open_in more
     else if bytes_eq key (codes "shut") then shut_in more
     else if bytes_eq key (codes "settle") then settle_in more
+    else if bytes_eq key (codes "forge") then forge_in more
     else if bytes_eq key (codes "say") then say_in more
     else None
 

@@ -1,5 +1,5 @@
 -- Which steps a script with a plan can have.
-use Rattle.std.specs.Prelude.{ℕ, Bool, true, false, not, ◌&&◌, ◌==◌, List, length}
+use Rattle.std.specs.Prelude.{ℕ, Bool, true, false, not, ◌&&◌, ◌==◌, nat_le, List, ◌∷◌, length}
 use Rattle.std.specs.List.{list_any, list_all}
 use Rattle.lks_base.specs.declared.events.PeerStep.{PeerStep}
 use Rattle.lks_base.specs.declared.events.PeerStep.TheVariants as peers
@@ -7,7 +7,7 @@ use Rattle.lks_base.specs.declared.plans.PeerPlan.{PeerPlan}
 use Rattle.lks_base.specs.declared.plans.Plan.{Plan}
 use Rattle.lks_base.specs.Checking.{is_within, has_au, has_peer, are_short}
 use Rattle.lks_script.specs.declared.steps.Step.{Step}
-use Rattle.lks_script.specs.declared.steps.Step.TheVariants.{Peer, Settle, SayVote}
+use Rattle.lks_script.specs.declared.steps.Step.TheVariants.{Peer, Settle, Forge, SayProof, SayRequest, SayReceipt, SayChallenge, SayNominate, SayVote, SayRepair}
 
 -- a declared peer that is corrupt, or one that isn't
 unfoldable pub has_corrupt : List PeerPlan → ℕ → Bool
@@ -22,15 +22,45 @@ is_own_step plan (peers.OpenPoll peer au) = has_honest plan.peers peer && has_au
 is_own_step plan (peers.Shut peer number) = has_honest plan.peers peer
 is_own_step plan _ = false
 
+-- who sends to whom
+unfoldable pub is_said : Plan → ℕ → ℕ → Bool
+is_said plan from to = has_corrupt plan.peers from && has_peer plan.peers to
+
 -- who votes to whom, on what AU, over which blocks
 unfoldable pub is_said_vote : Plan → ℕ → ℕ → ℕ → List (List ℕ) → Bool
 is_said_vote plan from to au blocks =
-    has_corrupt plan.peers from && has_peer plan.peers to && has_au plan.aus au && is_within 1 512 (length blocks) && are_short blocks
+    is_said plan from to && has_au plan.aus au && is_within 1 512 (length blocks) && are_short blocks
+
+-- an invitation to a poll: six bytes behind its version and its tag. No rule answers one yet.
+unfoldable pub is_invitation : List ℕ → Bool
+is_invitation (version ∷ tag ∷ rest) = version == 1 && tag == 1 && length rest == 6
+is_invitation _ = false
+
+-- any other bytes
+unfoldable pub is_forgery : Plan → ℕ → ℕ → List ℕ → Bool
+is_forgery plan from to bytes = is_said plan from to && nat_le (length bytes) 40000 && not (is_invitation bytes)
+
+-- a request for a block, and a repair of one
+unfoldable pub is_request : Plan → ℕ → ℕ → ℕ → Bool
+is_request plan from to block = is_said plan from to && nat_le block 511
+
+unfoldable pub is_repair : Plan → ℕ → ℕ → ℕ → List ℕ → Bool
+is_repair plan from to block bytes = is_said plan from to && nat_le block 511 && nat_le (length bytes) 16384
+
+unfoldable pub is_nomination : Plan → ℕ → ℕ → List ℕ → Bool
+is_nomination plan from to nominees = is_said plan from to && nat_le (length nominees) 8
 
 -- a step that a script with the plan can have
 unfoldable pub is_step_of : Plan → Step → Bool
 is_step_of plan (Peer step) = is_own_step plan step
 is_step_of plan Settle = true
+is_step_of plan (Forge from to bytes) = is_forgery plan from to bytes
+is_step_of plan (SayProof from to number) = is_said plan from to
+is_step_of plan (SayRequest from to number block) = is_request plan from to block
+is_step_of plan (SayReceipt from to number) = is_said plan from to
+is_step_of plan (SayChallenge from to number agrees) = is_said plan from to
+is_step_of plan (SayNominate from to number nominees) = is_nomination plan from to nominees
+is_step_of plan (SayRepair from to number block bytes) = is_repair plan from to block bytes
 is_step_of plan (SayVote from to number au blocks) = is_said_vote plan from to au blocks
 is_step_of plan _ = false
 

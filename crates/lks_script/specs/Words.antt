@@ -69,6 +69,18 @@ block_in word = hex_in 16384 word
 unfoldable pub blocks_in : List ℕ → Option (List (List ℕ))
 blocks_in word = each_in block_in (parts 44 word)
 
+-- the number of a block
+abbrev pub index_in : List ℕ → Option ℕ
+index_in word = number_in 511 word
+
+-- at most 40,000 bytes in hex, none as a hyphen
+unfoldable pub bytes_in : List ℕ → Option (List ℕ)
+bytes_in word = if bytes_eq word (codes "-") then Some [] else hex_in 40000 word
+
+-- yes or no
+unfoldable pub answer_in : List ℕ → Option Bool
+answer_in word = if bytes_eq word (codes "yes") then Some true else if bytes_eq word (codes "no") then Some false else None
+
 -- whether a peer of this kind is corrupt
 unfoldable pub kind_in : List ℕ → Option Bool
 kind_in word = if bytes_eq word (codes "honest") then Some false else if bytes_eq word (codes "corrupt") then Some true else None

@@ -6,6 +6,7 @@ mod faults;
 mod numbers;
 mod plan_lines;
 mod reading;
+mod say_lines;
 mod step_lines;
 mod step_rules;
 mod steps;

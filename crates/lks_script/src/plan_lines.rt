@@ -2,15 +2,15 @@
 
 ghost use Rattle.std.specs.Prelude.{◌≡◌, ◌≤◌, map, IfOk};
 ghost use Rattle.std.specs.List.{position};
-ghost use Rattle.lks_base.specs.Checking.{are_bounded, are_ordered};
 ghost use Rattle.lks_script.specs.Words.{Gives, Shows};
 ghost use Rattle.lks_script.specs.PlanLines.{named, are_good, rules_in, au_in, may_add_au, peer_in, some_honest, checked, plan_with_peer, lacks_refs, may_hold, with_refs, with_copy, changed, is_list, refs_given, plan_with_refs, copy_given, plan_with_copy};
 
 use crate::faults::Stop;
 use crate::numbers::number;
-use crate::step_rules::knows_au;
 use crate::words::{blocks, count, id, ids, kind, proof, seed};
-use lks_base::{AuPlan, HashKind, Holding, Ids, PeerPlan, Plan, Rules, Seq};
+use lks_base::{
+    AuPlan, HashKind, Holding, Ids, PeerPlan, Plan, Rules, Seq, are_bounded, are_ordered, has_au,
+};
 use std::alloc::Global;
 use std::mem;
 
@@ -70,36 +70,12 @@ pub fn rules(words: &[&[u8]]) -> Result<Rules, Stop>
     })
 }
 
-#[tactic(auto, unfolding(lks_base::specs::Checking::are_bounded))]
-fn bounded(rules: &Rules) -> bool
-    ensures { result ≡ are_bounded rules.now }
-{
-    1 <= rules.inner
-        && rules.inner <= 16
-        && 1 <= rules.quorum
-        && rules.outer <= 16
-        && rules.repairs <= 512
-        && rules.pace <= 1_000_000
-        && rules.refractory <= 1_000_000
-        && rules.overdue <= 1_000_000
-        && rules.unknown_pct <= 100
-        && rules.debt_pct <= 100
-        && rules.churn <= 16
-}
-
-#[tactic(auto, unfolding(lks_base::specs::Checking::are_ordered))]
-fn ordered(rules: &Rules) -> bool
-    ensures { result ≡ are_ordered rules.now }
-{
-    2 * u32::from(rules.minority) < u32::from(rules.quorum) && rules.quorum <= rules.inner
-}
-
 /// Whether the rules are in their bounds and in order.
 #[tactic(auto, unfolding(crate::specs::PlanLines::are_good))]
 pub fn good(rules: &Rules) -> bool
     ensures { result ≡ are_good rules.now }
 {
-    bounded(rules) && ordered(rules)
+    are_bounded(rules) && are_ordered(rules)
 }
 
 /// An AU and the number of its blocks.
@@ -120,7 +96,7 @@ pub fn au(words: &[&[u8]]) -> Result<AuPlan, Stop>
 pub fn may_add(aus: &[AuPlan], au: &AuPlan) -> bool
     ensures { result ≡ may_add_au aus.now au.now }
 {
-    aus.len() < 4 && 1 <= au.count && au.count <= 512 && !knows_au(aus, au.id)
+    aus.len() < 4 && 1 <= au.count && au.count <= 512 && !has_au(aus, au.id)
 }
 
 #[tactic(auto, unfolding(crate::specs::PlanLines::peer_in))]

@@ -2,12 +2,13 @@
 
 ghost use Rattle.std.specs.Prelude.{◌≡◌, map};
 ghost use Rattle.lks_script.specs.Words.{Gives};
-ghost use Rattle.lks_script.specs.StepLines.{open_in, shut_in, settle_in, vote_in, are_vote, say_in, step_in, is_open, some_open, may_follow, steps_with};
+ghost use Rattle.lks_script.specs.StepLines.{open_in, shut_in, settle_in, forge_in, step_in, is_open, some_open, may_follow, steps_with};
 
 use crate::faults::Stop;
+use crate::say_lines::say;
 use crate::step_rules::step_of;
 use crate::steps::Step;
-use crate::words::{blocks, id, poll};
+use crate::words::{bytes, id, poll};
 use lks_base::{PeerStep, Plan, Seq};
 use std::alloc::Global;
 
@@ -45,50 +46,17 @@ fn settle(words: &[&[u8]]) -> Result<Step, Stop>
     }
 }
 
-#[tactic(auto, unfolding(crate::specs::StepLines::vote_in))]
-fn vote(
-    alloc: Global,
-    from: &[u8],
-    to: &[u8],
-    number: &[u8],
-    au: &[u8],
-    content: &[u8],
-) -> Result<Step, Stop>
-    ensures { Gives result (vote_in from.now to.now number.now au.now content.now) }
+#[tactic(auto, unfolding(crate::specs::StepLines::forge_in))]
+fn forge(alloc: Global, words: &[&[u8]]) -> Result<Step, Stop>
+    ensures { Gives result (forge_in (map (λ w. w.now) words.now)) }
 {
-    let from = id(from)?;
-    let to = id(to)?;
-    let number = poll(number)?;
-    let au = id(au)?;
-    let blocks = blocks(alloc, content)?;
-    Ok(Step::SayVote {
-        from,
-        to,
-        number,
-        au,
-        blocks,
-    })
-}
-
-#[tactic(auto, unfolding(crate::specs::StepLines::are_vote))]
-fn votes(what: &[u8], of: &[u8]) -> bool
-    ensures { result ≡ are_vote what.now of.now }
-{
-    what == b"vote".as_slice() && of == b"of".as_slice()
-}
-
-#[tactic(auto, unfolding(crate::specs::StepLines::say_in))]
-fn say(alloc: Global, words: &[&[u8]]) -> Result<Step, Stop>
-    ensures { Gives result (say_in (map (λ w. w.now) words.now)) }
-{
-    let [from, what, to, number, au, of, content] = words else {
+    let [from, to, content] = words else {
         return Err(Stop::Bad);
     };
-    if votes(what, of) {
-        vote(alloc, from, to, number, au, content)
-    } else {
-        Err(Stop::Bad)
-    }
+    let from = id(from)?;
+    let to = id(to)?;
+    let bytes = bytes(alloc, content)?;
+    Ok(Step::Forge { from, to, bytes })
 }
 
 /// The step that a word and those behind it say.
@@ -102,6 +70,8 @@ fn step(alloc: Global, key: &[u8], more: &[&[u8]]) -> Result<Step, Stop>
         shut(more)
     } else if key == b"settle".as_slice() {
         settle(more)
+    } else if key == b"forge".as_slice() {
+        forge(alloc, more)
     } else if key == b"say".as_slice() {
         say(alloc, more)
     } else {

@@ -1,11 +1,10 @@
 //! Which steps a script with a plan can have.
 
 ghost use Rattle.std.specs.Prelude.{◌≡◌};
-ghost use Rattle.lks_base.specs.Checking.{has_au, has_peer, are_short};
-ghost use Rattle.lks_script.specs.StepRules.{has_corrupt, has_honest, is_own_step, is_said_vote, is_step_of};
+ghost use Rattle.lks_script.specs.StepRules.{has_corrupt, has_honest, is_own_step, is_said_vote, is_said, is_invitation, is_forgery, is_request, is_repair, is_nomination, is_step_of};
 
 use crate::steps::Step;
-use lks_base::{AuPlan, Bytes, PeerPlan, PeerStep, Plan};
+use lks_base::{Bytes, PeerPlan, PeerStep, Plan, are_short, has_au, has_peer};
 
 #[tactic(auto, unfolding(crate::specs::StepRules::has_corrupt))]
 fn corrupt(peers: &[PeerPlan], id: u16) -> bool
@@ -21,51 +20,73 @@ fn honest(peers: &[PeerPlan], id: u16) -> bool
     peers.iter().any(|p| p.id == id && !p.corrupt)
 }
 
-#[tactic(auto, unfolding(lks_base::specs::Checking::has_peer))]
-fn knows_peer(peers: &[PeerPlan], id: u16) -> bool
-    ensures { result ≡ has_peer peers.now id }
-{
-    peers.iter().any(|p| p.id == id)
-}
-
-/// Whether an AU of this number is declared.
-#[tactic(auto, unfolding(lks_base::specs::Checking::has_au))]
-pub fn knows_au(aus: &[AuPlan], id: u16) -> bool
-    ensures { result ≡ has_au aus.now id }
-{
-    aus.iter().any(|a| a.id == id)
-}
-
-#[tactic(auto, unfolding(lks_base::specs::Checking::are_short))]
-fn short(blocks: &[Bytes]) -> bool
-    ensures { result ≡ are_short blocks.now }
-{
-    blocks.iter().all(|b| b.as_slice().len() <= 16_384)
-}
-
 #[tactic(auto, unfolding(crate::specs::StepRules::is_own_step))]
 fn own_step(plan: &Plan, step: &PeerStep) -> bool
     ensures { result ≡ is_own_step plan.now step.now }
 {
     match step {
         PeerStep::OpenPoll { peer, au } => {
-            honest(plan.peers.as_slice(), *peer) && knows_au(plan.aus.as_slice(), *au)
+            honest(plan.peers.as_slice(), *peer) && has_au(plan.aus.as_slice(), *au)
         }
         PeerStep::Shut { peer, .. } => honest(plan.peers.as_slice(), *peer),
         _ => false,
     }
 }
 
+#[tactic(auto, unfolding(crate::specs::StepRules::is_said))]
+fn said(plan: &Plan, from: u16, to: u16) -> bool
+    ensures { result ≡ is_said plan.now from to }
+{
+    corrupt(plan.peers.as_slice(), from) && has_peer(plan.peers.as_slice(), to)
+}
+
 #[tactic(auto, unfolding(crate::specs::StepRules::is_said_vote))]
 fn said_vote(plan: &Plan, from: u16, to: u16, au: u16, blocks: &[Bytes]) -> bool
     ensures { result ≡ is_said_vote plan.now from to au blocks.now }
 {
-    corrupt(plan.peers.as_slice(), from)
-        && knows_peer(plan.peers.as_slice(), to)
-        && knows_au(plan.aus.as_slice(), au)
+    said(plan, from, to)
+        && has_au(plan.aus.as_slice(), au)
         && 1 <= blocks.len()
         && blocks.len() <= 512
-        && short(blocks)
+        && are_short(blocks)
+}
+
+#[tactic(auto, unfolding(crate::specs::StepRules::is_invitation))]
+fn invitation(bytes: &[u8]) -> bool
+    ensures { result ≡ is_invitation bytes.now }
+{
+    match bytes {
+        [version, tag, rest @ ..] => *version == 1 && *tag == 1 && rest.len() == 6,
+        _ => false,
+    }
+}
+
+#[tactic(auto, unfolding(crate::specs::StepRules::is_forgery))]
+fn forgery(plan: &Plan, from: u16, to: u16, bytes: &[u8]) -> bool
+    ensures { result ≡ is_forgery plan.now from to bytes.now }
+{
+    said(plan, from, to) && bytes.len() <= 40_000 && !invitation(bytes)
+}
+
+#[tactic(auto, unfolding(crate::specs::StepRules::is_request))]
+fn request(plan: &Plan, from: u16, to: u16, block: u16) -> bool
+    ensures { result ≡ is_request plan.now from to block }
+{
+    said(plan, from, to) && block <= 511
+}
+
+#[tactic(auto, unfolding(crate::specs::StepRules::is_repair))]
+fn repair(plan: &Plan, from: u16, to: u16, block: u16, bytes: &[u8]) -> bool
+    ensures { result ≡ is_repair plan.now from to block bytes.now }
+{
+    said(plan, from, to) && block <= 511 && bytes.len() <= 16_384
+}
+
+#[tactic(auto, unfolding(crate::specs::StepRules::is_nomination))]
+fn nomination(plan: &Plan, from: u16, to: u16, nominees: &[u16]) -> bool
+    ensures { result ≡ is_nomination plan.now from to nominees.now }
+{
+    said(plan, from, to) && nominees.len() <= 8
 }
 
 /// Whether a script with this plan can have the step.
@@ -76,6 +97,29 @@ pub fn step_of(plan: &Plan, step: &Step) -> bool
     match step {
         Step::Peer(own) => own_step(plan, own),
         Step::Settle => true,
+        Step::Forge { from, to, bytes } => forgery(plan, *from, *to, bytes.as_slice()),
+        Step::SayProof { from, to, .. } => said(plan, *from, *to),
+        Step::SayRequest {
+            from,
+            to,
+            block,
+            ..
+        } => request(plan, *from, *to, *block),
+        Step::SayReceipt { from, to, .. } => said(plan, *from, *to),
+        Step::SayChallenge { from, to, .. } => said(plan, *from, *to),
+        Step::SayNominate {
+            from,
+            to,
+            nominees,
+            ..
+        } => nomination(plan, *from, *to, nominees.as_slice()),
+        Step::SayRepair {
+            from,
+            to,
+            block,
+            bytes,
+            ..
+        } => repair(plan, *from, *to, *block, bytes.as_slice()),
         Step::SayVote {
             from,
             to,

@@ -97,7 +97,7 @@ fn a_whole_script(rt: HostRuntime) -> Result<(), Fail> {
 
 #[test]
 fn first_bad_lines(rt: HostRuntime) -> Result<(), Fail> {
-    let rows: [(&[&str], u32); 60] = [
+    let rows: [(&[&str], u32); 73] = [
         // ends
         (&[], 1),
         (&["lockss 1"], 1),
@@ -229,6 +229,82 @@ fn first_bad_lines(rt: HostRuntime) -> Result<(), Fail> {
             9,
         ),
         (&[TITLE, RULES, AU, PEERS, "say 2 vote 1 1 1 41\n"], 8),
+        (
+            &[
+                TITLE,
+                RULES,
+                AU,
+                PEERS,
+                "say 2 repair 1 1 511 43\nsay 2 repair 1 1 512 43\n",
+            ],
+            9,
+        ),
+        (&[TITLE, RULES, AU, PEERS, "say 2 repair 1 1 0 -\n"], 8),
+        (&[TITLE, RULES, AU, PEERS, "say 2 repair 1 1 0\n"], 8),
+        (
+            &[
+                TITLE,
+                RULES,
+                AU,
+                PEERS,
+                "forge 2 1 -\nforge 2 1 0101000000010001\n",
+            ],
+            9,
+        ),
+        (&[TITLE, RULES, AU, PEERS, "forge 2 1 0g\n"], 8),
+        (&[TITLE, RULES, AU, PEERS, "forge 2 9 00\n"], 8),
+        (
+            &[
+                TITLE,
+                RULES,
+                AU,
+                PEERS,
+                "say 2 challenge 1 1 yes\nsay 2 challenge 1 1 no\nsay 2 challenge 1 1 maybe\n",
+            ],
+            10,
+        ),
+        (
+            &[
+                TITLE,
+                RULES,
+                AU,
+                PEERS,
+                "say 2 nominate 1 1\nsay 2 nominate 1 1 1 2 3 4 5 6 7 65535\nsay 2 nominate 1 1 1 2 3 4 5 6 7 8 9\n",
+            ],
+            10,
+        ),
+        (&[TITLE, RULES, AU, PEERS, "say 2 nominate 1 1 65536\n"], 8),
+        (
+            &[
+                TITLE,
+                RULES,
+                AU,
+                PEERS,
+                "say 2 proof 1 7\nsay 2 proof 1 7 1\n",
+            ],
+            9,
+        ),
+        (
+            &[
+                TITLE,
+                RULES,
+                AU,
+                PEERS,
+                "say 2 request 1 7 511\nsay 2 request 1 7 512\n",
+            ],
+            9,
+        ),
+        (
+            &[
+                TITLE,
+                RULES,
+                AU,
+                PEERS,
+                "say 2 receipt 1 7\nsay 1 receipt 2 7\n",
+            ],
+            9,
+        ),
+        (&[TITLE, RULES, AU, PEERS, "say 2 poll 1 1 1\n"], 8),
     ];
     for (at, (pieces, line)) in rows.iter().enumerate() {
         assert_eq!(rt; line_of(rt.alloc(), pieces)?, *line, "row {at}");

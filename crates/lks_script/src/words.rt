@@ -1,7 +1,7 @@
 //! Single words: numbers of peers, bytes in hex, blocks.
 
 ghost use Rattle.std.specs.Prelude.{◌≡◌, ◌≤◌, ◌-◌, ◌++◌, map, length, IfOk};
-ghost use Rattle.lks_script.specs.Words.{Gives, Shows, parts, each_in, id_in, poll_in, hex_in, zeros, seed_in, proof_in, block_in, blocks_in, kind_in};
+ghost use Rattle.lks_script.specs.Words.{Gives, Shows, parts, each_in, id_in, poll_in, hex_in, zeros, seed_in, proof_in, index_in, bytes_in, block_in, blocks_in, answer_in, kind_in};
 ghost use Rattle.lks_script.specs.Numbers.{number_in};
 
 use crate::faults::Stop;
@@ -25,6 +25,16 @@ pub fn count(word: &[u8]) -> Result<u16, Stop>
     ensures { Gives result (number_in 65535 word.now) }
 {
     id(word)
+}
+
+/// The number of a block.
+pub fn index(word: &[u8]) -> Result<u16, Stop>
+    ensures { Gives result (index_in word.now) }
+{
+    match number(511, word) {
+        Some(n) => Ok(n as u16),
+        None => Err(Stop::Bad),
+    }
 }
 
 /// The number of a poll.
@@ -83,8 +93,20 @@ pub fn proof(alloc: Global, word: &[u8]) -> Result<Bytes, Stop>
     Ok(Bytes::from_vec(hex_bytes(alloc, word, 64)?))
 }
 
+/// Any bytes in hex, or a hyphen for none.
+#[tactic(auto, unfolding(crate::specs::Words::bytes_in))]
+pub fn bytes(alloc: Global, word: &[u8]) -> Result<Bytes, Stop>
+    ensures { Gives result (bytes_in word.now) }
+{
+    if word == b"-".as_slice() {
+        return Ok(Bytes::from_vec(Vec::new(alloc)));
+    }
+    Ok(Bytes::from_vec(hex_bytes(alloc, word, 40_000)?))
+}
+
+/// A block in hex.
 #[tactic(auto, unfolding(crate::specs::Words::block_in))]
-fn block(alloc: Global, word: &[u8]) -> Result<Bytes, Stop>
+pub fn block(alloc: Global, word: &[u8]) -> Result<Bytes, Stop>
     ensures { Gives result (block_in word.now) }
 {
     Ok(Bytes::from_vec(hex_bytes(alloc, word, 16_384)?))
@@ -118,6 +140,20 @@ pub fn ids(alloc: Global, words: &[&[u8]]) -> Result<Ids, Stop>
         ids.push(id(word)?)?;
     }
     Ok(Ids::from_vec(ids))
+}
+
+/// Yes or no.
+#[tactic(auto, unfolding(crate::specs::Words::answer_in))]
+pub fn answer(word: &[u8]) -> Result<bool, Stop>
+    ensures { Gives result (answer_in word.now) }
+{
+    if word == b"yes".as_slice() {
+        Ok(true)
+    } else if word == b"no".as_slice() {
+        Ok(false)
+    } else {
+        Err(Stop::Bad)
+    }
 }
 
 /// Whether a peer of this kind is corrupt.

@@ -87,6 +87,12 @@ module _ (minority : ℕ) (q : Ballot) (votes : List Vote) (blocks : List (List 
       a_is ∙ ap (λ hs. landslide minority (matching b votes hs) (length votes - matching b votes hs)) hashes_are
       ∙ ap (λ n. landslide minority n (length votes - n)) (matching_heads q votes blocks b)
 
+  -- the same, also where there are fewer blocks
+  pub at_linked : (end : ℕ) (hashes keys : List (List ℕ)) (a : At) → end ≡ min (b + 1) (length blocks) → keys ≡ heads q (take end blocks) votes
+      → hashes ≡ keys → a ≡ landslide minority (matching b votes hashes) (length votes - matching b votes hashes) → a ≡ verdict_at minority q votes blocks b
+  at_linked end hashes keys a end_is keys_are hashes_are a_is =
+      at_heads_is hashes a (hashes_are ∙ keys_are ∙ ap (λ bs. heads q bs votes) (ap (λ n. take n blocks) end_is ∙ take_min (b + 1) blocks)) a_is
+
   -- one turn of the search for a block that is no win
   pub turn : (a : At) → b < length blocks → a ≡ verdict_at minority q votes blocks b
       → first_from minority q votes blocks b (length blocks - b)

@@ -1,7 +1,7 @@
 //! Verdicts over votes in a slice, hashed afresh at each call.
 
 ghost use Rattle.std.specs.Prelude.{◌≡◌, ◌+◌, ◌*◌, ◌≤◌, min, length, take, IfOk};
-ghost use Rattle.lks_tally.specs.Counting.{first_from, verdict_on, voters_against};
+ghost use Rattle.lks_tally.specs.Counting.{first_from, verdict_at, verdict_on, voters_against};
 ghost use Rattle.lks_tally.specs.Heads.{heads};
 
 use crate::ballots::{At, Ballot, Verdict, Vote};
@@ -98,4 +98,23 @@ pub fn against_of<C: Contents, L: Ledger>(
     let end = end_of(b, copy.count());
     link_blocks(ballot, votes, copy, end, &mut keys, steps);
     counts::voters_of_others(alloc, votes, &keys, b)
+}
+
+/// What these votes say of a copy at block `b`.
+pub fn at_of<C: Contents, L: Ledger>(
+    alloc: Global,
+    ballot: &Ballot,
+    minority: u16,
+    votes: &[Vote],
+    copy: &C,
+    b: u16,
+    steps: &mut Steps<L>,
+) -> Result<At, OutOfMemory>
+    ensures at { IfOk result (λ at. at ≡ verdict_at minority ballot.now votes.now (C.blocks copy.now) b) }
+    ensures cost { steps.new ≤ steps.old + length votes.now * length (C.blocks copy.now) }
+{
+    let mut keys = counts::keys(alloc, ballot, votes)?;
+    let end = end_of(b, copy.count());
+    link_blocks(ballot, votes, copy, end, &mut keys, steps);
+    Ok(counts::at_heads(minority, votes, &keys, b))
 }

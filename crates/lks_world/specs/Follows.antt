@@ -32,7 +32,25 @@ settled_within (suc n) plan history =
 unfoldable pub settled : Plan → List Event → List Event
 settled plan history = settled_within (most_events - length history) plan history
 
--- A forged vote is that of a peer which holds these blocks, in the poll of this number of the receiver.
+-- What a corrupt peer says is a message that it might well send, truly named as its sender.
+
+pub record Saying : Type 0 where
+  pub from : ℕ
+  pub to : ℕ
+  pub message : Message
+
+abbrev pub saying : ℕ → ℕ → Message → Saying
+saying from to m = record { from = from; to = to; message = m }
+
+abbrev pub planned : Plan → ℕ → Option PeerPlan
+planned plan id = find (λ p. p.id == id) plan.peers
+
+-- a proof names the nonce and the hash of the sender's own poll
+abbrev pub proof_by : ℕ → ℕ → ℕ → Option PeerPlan → Option Saying
+proof_by from to number None = None
+proof_by from to number (Some p) = Some (saying from to (message.PollProof number (nonce_from p.seed number) p.hash p.proof))
+
+-- a vote is that of a peer which holds these blocks, in the poll of this number of the receiver
 
 abbrev pub count_for : Plan → ℕ → ℕ
 count_for plan au = unwrap_or (option_map (λ a. a.count) (find (λ a. a.id == au) plan.aus)) 0
@@ -42,22 +60,31 @@ vote_over count voter poller number au blocks =
     let second = is_second poller.hash in
     message.Vote number (hashes_of second (key_of second poller.id number (nonce_from poller.seed number) voter.id au count) blocks) voter.proof
 
-abbrev pub planned : Plan → ℕ → Option PeerPlan
-planned plan id = find (λ p. p.id == id) plan.peers
+abbrev pub vote_by : Plan → Option PeerPlan → Option PeerPlan → ℕ → ℕ → List (List ℕ) → Option Saying
+vote_by plan (Some voter) (Some poller) number au blocks = Some (saying voter.id poller.id (vote_over (count_for plan au) voter poller number au blocks))
+vote_by plan _ _ number au blocks = None
 
-abbrev pub forged_by : Plan → Option PeerPlan → Option PeerPlan → ℕ → ℕ → List (List ℕ) → Option Event
-forged_by plan (Some voter) (Some poller) number au blocks =
-    Some (events.Forge voter.id poller.id (spelling (vote_over (count_for plan au) voter poller number au blocks)))
-forged_by plan _ _ number au blocks = None
+unfoldable pub said_by : Plan → Step → Option Saying
+said_by plan (step.SayProof from to number) = proof_by from to number (planned plan from)
+said_by plan (step.SayRequest from to number block) = Some (saying from to (message.RepairRequest number block))
+said_by plan (step.SayReceipt from to number) = Some (saying from to (message.Receipt number))
+said_by plan (step.SayChallenge from to number agrees) = Some (saying from to (message.PollChallenge number agrees))
+said_by plan (step.SayNominate from to number nominees) = Some (saying from to (message.Nominate number nominees))
+said_by plan (step.SayVote from to number au blocks) = vote_by plan (planned plan from) (planned plan to) number au blocks
+said_by plan (step.SayRepair from to number block bytes) = Some (saying from to (message.Repair number block bytes))
+said_by plan _ = None
+
+-- any other step
+unfoldable pub acted : Plan → List Event → Step → List Event
+acted plan history (step.Peer s) = kept history (events.Step s)
+acted plan history (step.Forge from to bytes) = kept history (events.Forge from to bytes)
+acted plan history step.Settle = settled plan history
+acted plan history _ = history
 
 -- what a step makes of the history so far
 unfoldable pub performed : Plan → List Event → Step → List Event
-performed plan history (step.Peer s) = kept history (events.Step s)
-performed plan history (step.Forge from to bytes) = kept history (events.Forge from to bytes)
-performed plan history (step.SayVote from to number au blocks) =
-    option_map_or (kept history) (forged_by plan (planned plan from) (planned plan to) number au blocks) history
-performed plan history step.Settle = settled plan history
-performed plan history _ = history
+performed plan history s =
+    option_map_or (λ x. kept history (events.Forge x.from x.to (spelling x.message))) (said_by plan s) (acted plan history s)
 
 -- the history that follows these steps
 abbrev pub follow : Plan → List Event → List Step → List Event

@@ -2,22 +2,23 @@
 
 ghost use Rattle.std.specs.Prelude.{◌≡◌, ◌++◌, ◌≤◌, [], true, None, IfOk, OnOk, map, length, filter};
 ghost use Rattle.std.specs.List.{filter_map, list_all};
-ghost use Rattle.lks_base.specs.Checking.{plan_fault};
+ghost use Rattle.lks_base.specs.Checking.{is_fit, plan_fault};
 ghost use Rattle.lks_base.specs.Sizes.{is_small_peer};
 ghost use Rattle.lks_base.specs.declared.events.Event.TheVariants as events;
 ghost use Rattle.lks_base.specs.declared.plans.Plan.{Plan as Planned};
 ghost use Rattle.lks_law.specs.World.{deposit_for, deposits, standing_of, is_honest};
-ghost use Rattle.lks_world.specs.Follows.{kept, settled, performed};
+ghost use Rattle.lks_message.specs.Spelling.{IsWithin, spelling};
+ghost use Rattle.lks_world.specs.Follows.{kept, settled, acted, performed};
 ghost use Rattle.lks_script.specs.StepRules.{is_step_of};
-ghost use Rattle.lks_script.specs.declared.steps.Step.TheVariants as steps;
 ghost use Rattle.lks_world.specs.States.{IsStateOf, Becomes, DeliversBelow, events_in};
 
-use crate::forging::{find_planned, forge_vote};
+use crate::forging::{Saying, what_is_said};
 use crate::settling::next;
 use crate::states::{State, forge, step};
 use lks_base::{
-    AuId, AuPlan, Bytes, Holding, OutOfMemory, PeerId, PeerPlan, PeerStep, Plan, Record,
+    AuPlan, Bytes, Holding, OutOfMemory, PeerId, PeerPlan, PeerStep, Plan, Record, Seq,
 };
+use lks_message::encode;
 use lks_peer::Peer;
 use lks_script::Step;
 use std::alloc::Global;
@@ -52,9 +53,10 @@ fn deposit_all(
     Ok(list)
 }
 
-#[tactic(auto, using(crate::proofs::BeginLaws::deposits_small))]
+#[tactic(auto, using(crate::proofs::BeginLaws::deposits_small, lks_base::proofs::PlanLaws::fit_proof))]
 fn begin_peer(alloc: Global, plan: &Plan, planned: &PeerPlan) -> Result<Peer, OutOfMemory>
-    requires { is_small_peer planned.now ≡ true }
+    requires small { is_small_peer planned.now ≡ true }
+    requires fit { is_fit planned.now ≡ true }
     ensures { IfOk result (λ peer. peer ≡ standing_of plan.now planned.now) }
 {
     let list = deposit_all(alloc, plan.aus.as_slice(), planned.copies.as_slice())?;
@@ -62,7 +64,8 @@ fn begin_peer(alloc: Global, plan: &Plan, planned: &PeerPlan) -> Result<Peer, Ou
 }
 
 fn begin_all(alloc: Global, plan: &Plan, planned: &[PeerPlan]) -> Result<Vec<Peer>, OutOfMemory>
-    requires { list_all is_small_peer planned.now ≡ true }
+    requires small { list_all is_small_peer planned.now ≡ true }
+    requires fit { list_all is_fit planned.now ≡ true }
     ensures { IfOk result (λ peers. peers.items ≡ map (standing_of plan.now) (filter is_honest planned.now)) }
 {
     let mut peers = Vec::new(alloc);
@@ -74,7 +77,7 @@ fn begin_all(alloc: Global, plan: &Plan, planned: &[PeerPlan]) -> Result<Vec<Pee
     Ok(peers)
 }
 
-#[tactic(auto, using(lks_base::proofs::PlanLaws::small_copies))]
+#[tactic(auto, using(lks_base::proofs::PlanLaws::small_copies, lks_base::proofs::PlanLaws::fit_peers))]
 pub fn begin(alloc: Global, plan: &Plan) -> Result<State, OutOfMemory>
     requires { plan_fault plan.now ≡ None }
     ensures kept { IfOk result (λ state. IsStateOf plan.now state) }
@@ -128,30 +131,32 @@ fn settle(alloc: Global, state: &mut State) -> Result<(), OutOfMemory>
     Ok(())
 }
 
-/// A vote that a corrupt peer forges.
-#[tactic(auto, unfolding(crate::specs::Follows::performed), using(lks_base::proofs::PlanLaws::short_proof))]
-fn say_vote(
-    alloc: Global,
-    plan: &Plan,
-    state: &mut State,
-    from: PeerId,
-    to: PeerId,
-    number: u32,
-    au: AuId,
-    blocks: &[Bytes],
-) -> Result<(), OutOfMemory>
-    requires good { plan_fault plan.now ≡ None }
-    requires few { length blocks.now ≤ 512 }
-    ensures { IsStateOf plan.now state.old → OnOk result (Becomes plan.now (performed plan.now (events_in state.old) (steps.SayVote from to number au blocks.now)) state.new) }
+/// What a corrupt peer says is what it forges.
+fn speak(alloc: Global, state: &mut State, said: &Saying) -> Result<(), OutOfMemory>
+    requires { IsWithin said.now.message }
+    ensures { (plan : Planned) → IsStateOf plan state.old → OnOk result (Becomes plan (kept (events_in state.old) (events.Forge said.now.from said.now.to (spelling said.now.message))) state.new) }
 {
-    let (Some(voter), Some(poller)) = (find_planned(plan, from), find_planned(plan, to)) else {
-        return Ok(());
-    };
-    let bytes = forge_vote(alloc, plan, voter, poller, number, au, blocks)?;
-    keep_forgery(state, voter.id, poller.id, bytes)
+    let bytes = encode(alloc, &said.message)?;
+    keep_forgery(state, said.from, said.to, Seq::from_vec(bytes))
 }
 
-#[tactic(auto, unfolding(crate::specs::Follows::performed, lks_script::specs::StepRules::is_step_of, lks_script::specs::StepRules::is_said_vote))]
+/// A step in which no corrupt peer says something.
+#[tactic(auto, unfolding(crate::specs::Follows::acted))]
+fn act(alloc: Global, state: &mut State, step: &Step) -> Result<(), OutOfMemory>
+    ensures { (plan : Planned) → IsStateOf plan state.old → is_step_of plan step.now ≡ true → OnOk result (Becomes plan (acted plan (events_in state.old) step.now) state.new) }
+{
+    match step {
+        Step::Peer(s) => keep_step(alloc, state, *s),
+        Step::Forge { from, to, bytes } => {
+            let bytes = bytes.clone()?;
+            keep_forgery(state, *from, *to, bytes)
+        }
+        Step::Settle => settle(alloc, state),
+        _ => Ok(()),
+    }
+}
+
+#[tactic(auto, unfolding(crate::specs::Follows::performed))]
 pub fn do_step(
     alloc: Global,
     plan: &Plan,
@@ -162,25 +167,8 @@ pub fn do_step(
     requires legal { is_step_of plan.now step.now ≡ true }
     ensures { IsStateOf plan.now state.old → OnOk result (Becomes plan.now (performed plan.now (events_in state.old) step.now) state.new) }
 {
-    match step {
-        Step::Peer(s) => keep_step(alloc, state, *s),
-        Step::Settle => settle(alloc, state),
-        Step::SayVote {
-            from,
-            to,
-            number,
-            au,
-            blocks,
-        } => say_vote(
-            alloc,
-            plan,
-            state,
-            *from,
-            *to,
-            *number,
-            *au,
-            blocks.as_slice(),
-        ),
-        _ => Ok(()),
+    match what_is_said(alloc, plan, step)? {
+        Some(said) => speak(alloc, state, &said),
+        None => act(alloc, state, step),
     }
 }

@@ -1,22 +1,23 @@
-//! The votes that corrupt peers forge.
+//! What corrupt peers say.
 
-ghost use Rattle.std.specs.Prelude.{◌≡◌, ◌≤◌, ◌==◌, IfOk, find, length};
+ghost use Rattle.std.specs.Prelude.{◌≡◌, ◌≤◌, ◌==◌, true, Some, None, IfOk, IfSome, find, length};
 ghost use Rattle.std.specs.Option.{option_copied};
-ghost use Rattle.lks_base.specs.Kinds.{is_second};
+ghost use Rattle.lks_base.specs.Checking.{plan_fault};
 ghost use Rattle.lks_hash.specs.Counting.{Opens};
 ghost use Rattle.lks_hash.specs.Running.{hashes_of};
-ghost use Rattle.lks_message.specs.Spelling.{spelling};
-ghost use Rattle.lks_world.specs.Follows.{count_for, vote_over, planned};
+ghost use Rattle.lks_message.specs.Spelling.{IsWithin};
+ghost use Rattle.lks_script.specs.StepRules.{is_step_of};
+ghost use Rattle.lks_world.specs.Follows.{saying, planned, proof_by, count_for, vote_over, vote_by, said_by};
 
 use lks_base::{AuId, AuPlan, Bytes, Hashes, Message, OutOfMemory, PeerId, PeerPlan, Plan, Seq};
 use lks_hash::{Chain, Steps, key, nonce_of};
-use lks_message::encode;
+use lks_script::Step;
 use std::alloc::Global;
-use std::marker::Brand;
+use std::marker::{Brand, Model};
 use std::sync::ledger::{Blank, Ledger};
 
 /// The declared peer of this number.
-pub fn find_planned(plan: &Plan, id: PeerId) -> Option<&PeerPlan>
+fn find_planned(plan: &Plan, id: PeerId) -> Option<&PeerPlan>
     ensures { option_copied result ≡ planned plan.now id }
 {
     plan.peers.as_slice().iter().find(|p| p.id == id)
@@ -78,9 +79,31 @@ fn hash_blocks(
     hash_counted::<Brand>(alloc, second, key, blocks, Blank::new(1))
 }
 
-/// The bytes of the vote that `voter` would send to `poller` if it held these blocks.
+/// What a corrupt peer says to another.
+#[derive(Drop)]
+pub struct Saying {
+    pub from: PeerId,
+    pub to: PeerId,
+    pub message: Message,
+}
+
+impl Model for Saying {
+    ghost use Rattle.lks_world.specs.Follows.{Saying as Said};
+
+    ghost Value = { Said };
+
+    ghost view = { λ a. record { from = a.from; to = a.to; message = a.message } };
+}
+
+fn say(from: PeerId, to: PeerId, message: Message) -> Option<Saying>
+    ensures { result ≡ Some (saying from to message) }
+{
+    Some(Saying { from, to, message })
+}
+
+/// The vote that `voter` would send to `poller` if it held these blocks.
 #[tactic(auto, using(lks_hash::proofs::RunningLaws::hashes_length))]
-pub fn forge_vote(
+fn vote(
     alloc: Global,
     plan: &Plan,
     voter: &PeerPlan,
@@ -88,10 +111,11 @@ pub fn forge_vote(
     number: u32,
     au: AuId,
     blocks: &[Bytes],
-) -> Result<Bytes, OutOfMemory>
+) -> Result<Message, OutOfMemory>
     requires blocks { length blocks.now ≤ 512 }
     requires proof { length voter.now.proof ≤ 64 }
-    ensures { IfOk result (λ bytes. bytes ≡ spelling (vote_over (count_for plan.now au) voter.now poller.now number au blocks.now)) }
+    ensures vote { IfOk result (λ m. m ≡ vote_over (count_for plan.now au) voter.now poller.now number au blocks.now) }
+    ensures within { IfOk result (λ m. IsWithin m) }
 {
     let second = poller.hash.second();
     let nonce = nonce_of(&poller.seed, number);
@@ -104,10 +128,138 @@ pub fn forge_vote(
         au,
         count_of(plan, au),
     );
-    let vote = Message::Vote {
+    Ok(Message::Vote {
         number,
         hashes: hash_blocks(alloc, second, key, blocks)?,
         proof: voter.proof.clone()?,
+    })
+}
+
+#[tactic(auto, using(lks_base::proofs::PlanLaws::short_proof))]
+fn say_vote(
+    alloc: Global,
+    plan: &Plan,
+    from: PeerId,
+    to: PeerId,
+    number: u32,
+    au: AuId,
+    blocks: &[Bytes],
+) -> Result<Option<Saying>, OutOfMemory>
+    requires good { plan_fault plan.now ≡ None }
+    requires few { length blocks.now ≤ 512 }
+    ensures said { IfOk result (λ s. s ≡ vote_by plan.now (planned plan.now from) (planned plan.now to) number au blocks.now) }
+    ensures within { IfOk result (λ s. IfSome s (λ x. IsWithin x.message)) }
+{
+    let (Some(voter), Some(poller)) = (find_planned(plan, from), find_planned(plan, to)) else {
+        return Ok(None);
     };
-    Ok(Seq::from_vec(encode(alloc, &vote)?))
+    let message = vote(alloc, plan, voter, poller, number, au, blocks)?;
+    Ok(say(voter.id, poller.id, message))
+}
+
+#[tactic(auto, using(lks_base::proofs::PlanLaws::short_proof))]
+fn say_proof(
+    plan: &Plan,
+    from: PeerId,
+    to: PeerId,
+    number: u32,
+) -> Result<Option<Saying>, OutOfMemory>
+    requires { plan_fault plan.now ≡ None }
+    ensures said { IfOk result (λ s. s ≡ proof_by from to number (planned plan.now from)) }
+    ensures within { IfOk result (λ s. IfSome s (λ x. IsWithin x.message)) }
+{
+    let Some(sender) = find_planned(plan, from) else {
+        return Ok(None);
+    };
+    let message = Message::PollProof {
+        number,
+        nonce: nonce_of(&sender.seed, number),
+        kind: sender.hash,
+        proof: sender.proof.clone()?,
+    };
+    Ok(say(from, to, message))
+}
+
+/// What a corrupt peer says in a step, if it says something.
+#[tactic(auto, unfolding(crate::specs::Follows::said_by, lks_script::specs::StepRules::is_step_of, lks_script::specs::StepRules::is_said_vote, lks_script::specs::StepRules::is_request, lks_script::specs::StepRules::is_nomination, lks_script::specs::StepRules::is_repair))]
+pub fn what_is_said(alloc: Global, plan: &Plan, step: &Step) -> Result<Option<Saying>, OutOfMemory>
+    requires good { plan_fault plan.now ≡ None }
+    requires legal { is_step_of plan.now step.now ≡ true }
+    ensures said { IfOk result (λ s. s ≡ said_by plan.now step.now) }
+    ensures within { IfOk result (λ s. IfSome s (λ x. IsWithin x.message)) }
+{
+    match step {
+        Step::SayProof { from, to, number } => say_proof(plan, *from, *to, *number),
+        Step::SayRequest {
+            from,
+            to,
+            number,
+            block,
+        } => Ok(say(
+            *from,
+            *to,
+            Message::RepairRequest {
+                number: *number,
+                block: *block,
+            },
+        )),
+        Step::SayReceipt { from, to, number } => {
+            Ok(say(*from, *to, Message::Receipt { number: *number }))
+        }
+        Step::SayChallenge {
+            from,
+            to,
+            number,
+            yes,
+        } => Ok(say(
+            *from,
+            *to,
+            Message::PollChallenge {
+                number: *number,
+                yes: *yes,
+            },
+        )),
+        Step::SayNominate {
+            from,
+            to,
+            number,
+            nominees,
+        } => {
+            let nominees = nominees.clone()?;
+            Ok(say(
+                *from,
+                *to,
+                Message::Nominate {
+                    number: *number,
+                    nominees,
+                },
+            ))
+        }
+        Step::SayVote {
+            from,
+            to,
+            number,
+            au,
+            blocks,
+        } => say_vote(alloc, plan, *from, *to, *number, *au, blocks.as_slice()),
+        Step::SayRepair {
+            from,
+            to,
+            number,
+            block,
+            bytes,
+        } => {
+            let bytes = bytes.clone()?;
+            Ok(say(
+                *from,
+                *to,
+                Message::Repair {
+                    number: *number,
+                    block: *block,
+                    bytes,
+                },
+            ))
+        }
+        _ => Ok(None),
+    }
 }

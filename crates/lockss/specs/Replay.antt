@@ -4,6 +4,7 @@ use Rattle.std.specs.Str.{bytes_eq}
 use Rattle.lks_base.specs.declared.events.Event.{Event}
 use Rattle.lks_base.specs.declared.plans.Plan.{Plan}
 use Rattle.lks_law.specs.Entries.{entries}
+use Rattle.lks_law.specs.Safe.{Safe}
 use Rattle.lks_outside.specs.Streams.{AddsFront}
 use Rattle.lks_report.specs.Alarms.{is_alarmed}
 use Rattle.lks_report.specs.Text.{text_of}
@@ -17,17 +18,31 @@ use Rattle.lockss.specs.declared.statuses.Status.TheVariants.{Done, Alarmed, Usa
 abbrev pub history_of : Script → List Event
 history_of s = follow s.plan [] s.steps
 
--- what the sink has taken once the report of this history was written: all of it, or less
-abbrev pub Tells : Plan → List Event → List ℕ → Option (List ℕ) → Status → Type 0
-Tells plan history before after Done = (after ≡ Some (before ++ text_of plan (entries plan history))) × (is_alarmed (entries plan history) ≡ false)
-Tells plan history before after Alarmed = (after ≡ Some (before ++ text_of plan (entries plan history))) × (is_alarmed (entries plan history) ≡ true)
-Tells plan history before after WriteFault = AddsFront before (text_of plan (entries plan history)) after
-Tells plan history before after NoMemory = AddsFront before (text_of plan (entries plan history)) after
+abbrev pub report_of : Plan → List Event → List ℕ
+report_of plan history = text_of plan (entries plan history)
+
+-- What the sink has taken, where it tells: as before, a piece more, or a front of it.
+
+abbrev pub Stays : Option (List ℕ) → Option (List ℕ) → Type 0
+Stays before after = (taken : List ℕ) → before ≡ Some taken → after ≡ Some taken
+
+abbrev pub Adds : List ℕ → Option (List ℕ) → Option (List ℕ) → Type 0
+Adds piece before after = (taken : List ℕ) → before ≡ Some taken → after ≡ Some (taken ++ piece)
+
+abbrev pub AddsLess : List ℕ → Option (List ℕ) → Option (List ℕ) → Type 0
+AddsLess piece before after = (taken : List ℕ) → before ≡ Some taken → AddsFront taken piece after
+
+-- Once the report of a history was written, all of it or less: the history is safe, and it is alarmed or not.
+abbrev pub Tells : Plan → List Event → Option (List ℕ) → Option (List ℕ) → Status → Type 0
+Tells plan history before after Done = Safe plan history × (is_alarmed (entries plan history) ≡ false) × Adds (report_of plan history) before after
+Tells plan history before after Alarmed = Safe plan history × (is_alarmed (entries plan history) ≡ true) × Adds (report_of plan history) before after
+Tells plan history before after WriteFault = Safe plan history × AddsLess (report_of plan history) before after
+Tells plan history before after NoMemory = AddsLess (report_of plan history) before after
 Tells plan history before after _ = ⊥
 
--- what the sink has taken once a script was played: the report of the history that follows it, or less
-abbrev pub Plays : Script → List ℕ → Option (List ℕ) → Status → Type 0
-Plays s before after NoMemory = (after ≡ Some before) ⊎ Tells s.plan (history_of s) before after NoMemory
+-- once a script was played: the report is of the history that follows it
+abbrev pub Plays : Script → Option (List ℕ) → Option (List ℕ) → Status → Type 0
+Plays s before after NoMemory = Stays before after ⊎ Tells s.plan (history_of s) before after NoMemory
 Plays s before after answer = Tells s.plan (history_of s) before after answer
 
 -- the most bytes of a script
@@ -39,23 +54,30 @@ abbrev pub is_replay : List (List ℕ) → Bool
 is_replay (word ∷ []) = bytes_eq word (codes "replay")
 is_replay _ = false
 
--- the bytes are those of a script that isn't too long, and what it makes of the sink is this
-pub record PlaysScript (bytes before : List ℕ) (after : Option (List ℕ)) (answer : Status) : Type 0 where
+-- the bytes are those of a script, and what it makes of the sink is this
+pub record PlaysScript (bytes : List ℕ) (before after : Option (List ℕ)) (answer : Status) : Type 0 where
   pub script : Script
   pub read : script_of bytes ≡ Ok script
   pub played : Plays script before after answer
 
 -- what the bytes, which aren't too many, make of the sink
-abbrev pub PlaysBytes : List ℕ → List ℕ → Option (List ℕ) → Status → Type 0
-PlaysBytes bytes before after (BadScript line) = (script_of bytes ≡ Err line) × (after ≡ Some before)
-PlaysBytes bytes before after NoMemory = (after ≡ Some before) ⊎ PlaysScript bytes before after NoMemory
+abbrev pub PlaysBytes : List ℕ → Option (List ℕ) → Option (List ℕ) → Status → Type 0
+PlaysBytes bytes before after (BadScript line) = (script_of bytes ≡ Err line) × Stays before after
+PlaysBytes bytes before after NoMemory = Stays before after ⊎ PlaysScript bytes before after NoMemory
 PlaysBytes bytes before after answer = PlaysScript bytes before after answer
 
--- What each answer of `replay` says, of a source with these bytes and a sink that took those before: in each case but
--- want of memory and the two faults the bytes alone decide it.
-abbrev pub Replays : List ℕ → Option (List ℕ) → List ℕ → Option (List ℕ) → Status → Type 0
-Replays bytes left before after TooLong = (most_bytes < length bytes) × (after ≡ Some before)
-Replays bytes left before after ReadFault = after ≡ Some before
+-- What each answer of `replay` says, of a source with these bytes: in each case but want of memory and the two faults the
+-- bytes alone decide it.
+abbrev pub Replays : List ℕ → Option (List ℕ) → Option (List ℕ) → Option (List ℕ) → Status → Type 0
+Replays bytes left before after TooLong = (most_bytes < length bytes) × Stays before after
+Replays bytes left before after ReadFault = Stays before after
 Replays bytes left before after NoMemory = PlaysBytes bytes before after NoMemory
 Replays bytes left before after Usage = ⊥
 Replays bytes left before after answer = (left ≡ Some []) × (length bytes ≤ most_bytes) × PlaysBytes bytes before after answer
+
+-- the answers of a replay of this script while no fault is counted: by its alarms, or want of memory
+abbrev pub Completes : Script → Status → Type 0
+Completes s Done = is_alarmed (entries s.plan (history_of s)) ≡ false
+Completes s Alarmed = is_alarmed (entries s.plan (history_of s)) ≡ true
+Completes s NoMemory = Unit {0}
+Completes s _ = ⊥

@@ -1,6 +1,6 @@
 //! A script is played, and the report of its history is written.
 
-ghost use Rattle.std.specs.Prelude.{◌≡◌, ◌≢◌, ◌≤◌, ℕ, List, [], true, false, None, Some, OnOk, is_err};
+ghost use Rattle.std.specs.Prelude.{◌≡◌, ◌≢◌, ◌≤◌, true, false, None, OnOk, is_err};
 ghost use Rattle.lks_base.specs.Checking.{plan_fault};
 ghost use Rattle.lks_outside.specs.Counts.{Rose};
 ghost use Rattle.lks_script.specs.StepRules.{are_steps_of};
@@ -30,7 +30,7 @@ fn perform_all(world: &mut World, steps: &[Step]) -> Result<(), WorldFault>
 /// Writes the report of what happened in the world.
 fn tell<K: Sink>(alloc: Global, world: &World, sink: &mut K) -> Status
     requires { world.now.stopped ≡ false }
-    ensures tells { (taken : List ℕ) → K.taken sink.old ≡ Some taken → Tells world.now.plan world.now.history taken (K.taken sink.new) result }
+    ensures tells { Tells world.now.plan world.now.history (K.taken sink.old) (K.taken sink.new) result }
     ensures failed { result ≡ Status.WriteFault → Rose (K.faults sink.old) (K.faults sink.new) }
     ensures count { K.faults sink.old ≤ K.faults sink.new }
     ensures not_usage { result ≢ Status.Usage }
@@ -54,7 +54,7 @@ fn tell<K: Sink>(alloc: Global, world: &World, sink: &mut K) -> Status
 pub fn play<K: Sink>(alloc: Global, script: Script, sink: &mut K) -> Status
     requires good { plan_fault script.plan ≡ None }
     requires legal { are_steps_of script.plan script.steps ≡ true }
-    ensures plays { (taken : List ℕ) → K.taken sink.old ≡ Some taken → Plays script taken (K.taken sink.new) result }
+    ensures plays { Plays script (K.taken sink.old) (K.taken sink.new) result }
     ensures failed { result ≡ Status.WriteFault → Rose (K.faults sink.old) (K.faults sink.new) }
     ensures count { K.faults sink.old ≤ K.faults sink.new }
     ensures not_usage { result ≢ Status.Usage }

@@ -1,8 +1,10 @@
 //! The command `replay`.
 
-ghost use Rattle.std.specs.Prelude.{◌≡◌, ◌≢◌, ◌≤◌, ◌↔◌, ℕ, List, true, false, Some, map, string_bytes};
+ghost use Rattle.std.specs.Prelude.{◌≡◌, ◌≢◌, ◌≤◌, ◌↔◌, ℕ, List, true, false, Some, Ok, length, map, string_bytes};
 ghost use Rattle.lks_outside.specs.Counts.{Rose};
-ghost use Rattle.lockss.specs.Replay.{is_replay, PlaysBytes, Replays};
+ghost use Rattle.lks_script.specs.Grammar.{script_of};
+ghost use Rattle.lks_script.specs.declared.steps.Script.{Script as Read};
+ghost use Rattle.lockss.specs.Replay.{is_replay, most_bytes, PlaysBytes, Replays, Completes};
 
 use crate::playing::play;
 use crate::statuses::Status;
@@ -23,7 +25,7 @@ fn names_replay(words: &[String]) -> bool
 }
 
 fn play_bytes<K: Sink>(alloc: Global, bytes: &[u8], sink: &mut K) -> Status
-    ensures plays { (taken : List ℕ) → K.taken sink.old ≡ Some taken → PlaysBytes bytes.now taken (K.taken sink.new) result }
+    ensures plays { PlaysBytes bytes.now (K.taken sink.old) (K.taken sink.new) result }
     ensures failed { result ≡ Status.WriteFault → Rose (K.faults sink.old) (K.faults sink.new) }
     ensures count { K.faults sink.old ≤ K.faults sink.new }
     ensures not_usage { result ≢ Status.Usage }
@@ -37,7 +39,7 @@ fn play_bytes<K: Sink>(alloc: Global, bytes: &[u8], sink: &mut K) -> Status
 }
 
 fn replay<S: Source, K: Sink>(alloc: Global, source: &mut S, sink: &mut K) -> Status
-    ensures replays { (bytes taken : List ℕ) → S.left source.old ≡ Some bytes → K.taken sink.old ≡ Some taken → Replays bytes (S.left source.new) taken (K.taken sink.new) result }
+    ensures replays { (bytes : List ℕ) → S.left source.old ≡ Some bytes → Replays bytes (S.left source.new) (K.taken sink.old) (K.taken sink.new) result }
     ensures read_fault { result ≡ Status.ReadFault → Rose (S.faults source.old) (S.faults source.new) }
     ensures write_fault { result ≡ Status.WriteFault → Rose (K.faults sink.old) (K.faults sink.new) }
     ensures source_count { S.faults source.old ≤ S.faults source.new }
@@ -62,7 +64,9 @@ pub fn run<S: Source, K: Sink>(
 ) -> Status
     ensures usage { (result ≡ Status.Usage) ↔ (is_replay (map string_bytes words.now) ≡ false) }
     ensures untouched { result ≡ Status.Usage → (source.new ≡ source.old) × (sink.new ≡ sink.old) }
-    ensures replays { is_replay (map string_bytes words.now) ≡ true → (bytes taken : List ℕ) → S.left source.old ≡ Some bytes → K.taken sink.old ≡ Some taken → Replays bytes (S.left source.new) taken (K.taken sink.new) result }
+    ensures replays { is_replay (map string_bytes words.now) ≡ true → (bytes : List ℕ) → S.left source.old ≡ Some bytes → Replays bytes (S.left source.new) (K.taken sink.old) (K.taken sink.new) result }
+    ensures complete { is_replay (map string_bytes words.now) ≡ true → (bytes : List ℕ) (script : Read) → S.left source.old ≡ Some bytes → length bytes ≤ most_bytes → script_of bytes ≡ Ok script
+        → (Rose (S.faults source.old) (S.faults source.new) → ⊥) → (Rose (K.faults sink.old) (K.faults sink.new) → ⊥) → Completes script result }
     ensures read_fault { result ≡ Status.ReadFault → Rose (S.faults source.old) (S.faults source.new) }
     ensures write_fault { result ≡ Status.WriteFault → Rose (K.faults sink.old) (K.faults sink.new) }
     ensures source_count { S.faults source.old ≤ S.faults source.new }

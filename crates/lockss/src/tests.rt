@@ -1,11 +1,18 @@
 //! Whole runs: a script goes in, and a status and a report come out.
 
 use super::*;
+use lks_base::{Input, Judged, Message, Outgoing, Record, Seq};
 use lks_outside::{MemSink, MemSource};
+use lks_peer::Peer;
+use lks_script::read_script;
 use std::alloc::Global;
 use std::test::Fail;
 
 const REPLAY: &[&str] = &["replay"];
+
+// The nonce of poll 1 of a peer whose seed is the byte 01 and 31 zero bytes, by another implementation of SHA-256.
+const NONCE: [u8; 32] =
+    *b"\x0d\x00\xe5\xe6\xa8\xa8\x16\xce\x10\x26\x5b\xd3\x71\xe0\x54\x0c\xe6\x12\x67\xae\xae\x9a\x83\x5e\x35\xde\x02\x48\x49\x3c\x5d\x44";
 
 // Peer 1 is honest and audits two blocks; peers 2, 3 and 4 are corrupt, and their accepted votes count like any others.
 const HEAD: &str = "\
@@ -44,7 +51,8 @@ shut 1 1
 settle
 ";
 
-const AGREED_REPORT: &str = "\
+// Three votes come in, and the poll is shut.
+const VOTED: &str = "\
 lockss report 1
 1 open 1 1 | opened 1 1 | 3
 2 forge 2 1 74 | - | 1
@@ -57,6 +65,9 @@ lockss report 1
 9 deliver 4 3 1 accepted | vote-in 1 3 | 0
 10 deliver 5 4 1 accepted | vote-in 1 4 | 0
 11 shut 1 1 | shut 1 | 0
+";
+
+const AGREED_REPORT: &str = "\
 12 tally 1 1 | closed 1 agreed | 3
 13 deliver 6 1 2 | - | 0
 14 deliver 7 1 3 | - | 0
@@ -208,18 +219,6 @@ settle
 ";
 
 const LOST_REPORT: &str = "\
-lockss report 1
-1 open 1 1 | opened 1 1 | 3
-2 forge 2 1 74 | - | 1
-3 forge 3 1 74 | - | 1
-4 forge 4 1 74 | - | 1
-5 deliver 0 1 2 | - | 0
-6 deliver 1 1 3 | - | 0
-7 deliver 2 1 4 | - | 0
-8 deliver 3 2 1 accepted | vote-in 1 2 | 0
-9 deliver 4 3 1 accepted | vote-in 1 3 | 0
-10 deliver 5 4 1 accepted | vote-in 1 4 | 0
-11 shut 1 1 | shut 1 | 0
 12 tally 1 1 | asked 1 1 3 | 1
 13 deliver 6 1 3 | - | 0
 copy 1 1 0
@@ -227,12 +226,220 @@ poll 1 1 1 3 0 running
 end 13
 ";
 
-/// A script in two parts, one behind the other, and what its replay answers and writes.
+// All are against block 1, and peer 2 sends the block that they voted for.
+const REPAIRED: &str = "\
+open 1 1
+say 2 vote 1 1 1 of 41,43
+say 3 vote 1 1 1 of 41,43
+say 4 vote 1 1 1 of 41,43
+settle
+shut 1 1
+settle
+say 2 repair 1 1 1 43
+settle
+";
+
+const REPAIRED_REPORT: &str = "\
+12 tally 1 1 | asked 1 1 2 | 1
+13 deliver 6 1 2 | - | 0
+14 forge 2 1 11 | - | 1
+15 deliver 7 2 1 | replaced 1 1 1 1 | 0
+16 tally 1 1 | closed 1 agreed | 3
+17 deliver 8 1 2 | - | 0
+18 deliver 9 1 3 | - | 0
+19 deliver 10 1 4 | - | 0
+copy 1 1 1
+poll 1 1 1 3 0 agreed
+end 19
+";
+
+// It sends another block, against which the votes speak.
+const FALSE_REPAIR: &str = "\
+open 1 1
+say 2 vote 1 1 1 of 41,43
+say 3 vote 1 1 1 of 41,43
+say 4 vote 1 1 1 of 41,43
+settle
+shut 1 1
+settle
+say 2 repair 1 1 1 44
+settle
+";
+
+const FALSE_REPAIR_REPORT: &str = "\
+12 tally 1 1 | asked 1 1 2 | 1
+13 deliver 6 1 2 | - | 0
+14 forge 2 1 11 | - | 1
+15 deliver 7 2 1 | repair-bad 1 1 2 | 0
+16 tally 1 1 | asked 1 1 3 | 1
+17 deliver 8 1 3 | - | 0
+copy 1 1 0
+poll 1 1 1 3 0 running
+end 17
+";
+
+// A bad first block makes all hashes behind it differ too.
+const HEAD_OF_BAD_FIRST: &str = "\
+lockss 1
+rules inner 4 quorum 3 minority 1 outer 0 repairs 2 pace 0 refractory 0 overdue 100 unknown 100 debt 100 churn 0
+au 1 2
+peer 1 honest 01 01
+peer 2 corrupt 02 01
+peer 3 corrupt 03 01
+peer 4 corrupt 04 01
+refs 1 2 3 4
+copy 1 1 99,42
+";
+
+const FIRST_REPAIRED: &str = "\
+open 1 1
+say 2 vote 1 1 1 of 41,42
+say 3 vote 1 1 1 of 41,42
+say 4 vote 1 1 1 of 41,42
+settle
+shut 1 1
+settle
+say 2 repair 1 1 0 41
+settle
+";
+
+const FIRST_REPAIRED_REPORT: &str = "\
+12 tally 1 1 | asked 1 0 2 | 1
+13 deliver 6 1 2 | - | 0
+14 forge 2 1 11 | - | 1
+15 deliver 7 2 1 | replaced 1 1 0 1 | 0
+16 tally 1 1 | closed 1 agreed | 3
+17 deliver 8 1 2 | - | 0
+18 deliver 9 1 3 | - | 0
+19 deliver 10 1 4 | - | 0
+copy 1 1 1
+poll 1 1 1 3 0 agreed
+end 19
+";
+
+// One vote is a quorum, and one against is a landslide.
+const HEAD_OF_ONE: &str = "\
+lockss 1
+rules inner 1 quorum 1 minority 0 outer 0 repairs 2 pace 0 refractory 0 overdue 100 unknown 100 debt 100 churn 0
+au 1 2
+peer 1 honest 01 01
+peer 2 corrupt 02 01
+peer 3 corrupt 03 01
+peer 4 corrupt 04 01
+refs 1 2
+copy 1 1 41,42
+";
+
+const ONE: &str = "\
+open 1 1
+say 2 vote 1 1 1 of 41,43
+settle
+shut 1 1
+settle
+say 2 repair 1 1 1 43
+settle
+";
+
+const ONE_REPORT: &str = "\
+lockss report 1
+1 open 1 1 | opened 1 1 | 1
+2 forge 2 1 74 | - | 1
+3 deliver 0 1 2 | - | 0
+4 deliver 1 2 1 accepted | vote-in 1 2 | 0
+5 shut 1 1 | shut 1 | 0
+6 tally 1 1 | asked 1 1 2 | 1
+7 deliver 2 1 2 | - | 0
+8 forge 2 1 11 | - | 1
+9 deliver 3 2 1 | replaced 1 1 1 1 | 0
+10 tally 1 1 | closed 1 agreed | 1
+11 deliver 4 1 2 | - | 0
+copy 1 1 1
+poll 1 1 1 1 0 agreed
+end 11
+";
+
+// No bytes, a receipt with a byte behind it, and a tag that no message has.
+const NO_MESSAGES: &str = "\
+forge 2 1 -
+forge 2 1 01080000000100
+forge 2 1 010900000001
+settle
+";
+
+const NO_MESSAGES_REPORT: &str = "\
+lockss report 1
+1 forge 2 1 0 | - | 1
+2 forge 2 1 7 | - | 1
+3 forge 2 1 6 | - | 1
+4 deliver 0 2 1 | - | 0
+5 deliver 1 2 1 | - | 0
+6 deliver 2 2 1 | - | 0
+copy 1 1 0
+end 6
+";
+
+// Peer 2 agrees to vote and is sent the poll's proof, peer 3 doesn't.
+const CHALLENGES: &str = "\
+open 1 1
+say 2 challenge 1 1 yes
+say 3 challenge 1 1 no
+settle
+";
+
+const CHALLENGES_REPORT: &str = "\
+lockss report 1
+1 open 1 1 | opened 1 1 | 3
+2 forge 2 1 7 | - | 1
+3 forge 3 1 7 | - | 1
+4 deliver 0 1 2 | - | 0
+5 deliver 1 1 3 | - | 0
+6 deliver 2 1 4 | - | 0
+7 deliver 3 2 1 | - | 1
+8 deliver 4 3 1 | - | 0
+9 deliver 5 1 2 | - | 0
+copy 1 1 0
+poll 1 1 1 0 0 running
+end 9
+";
+
+// Of what peer 2 says, one nomination is written down. No session is open for the rest.
+const SAYINGS: &str = "\
+open 1 1
+say 2 nominate 1 1 5 6
+say 2 nominate 1 1
+say 2 proof 1 7
+say 2 request 1 7 1
+say 2 receipt 1 7
+settle
+";
+
+const SAYINGS_REPORT: &str = "\
+lockss report 1
+1 open 1 1 | opened 1 1 | 3
+2 forge 2 1 11 | - | 1
+3 forge 2 1 7 | - | 1
+4 forge 2 1 40 | - | 1
+5 forge 2 1 8 | - | 1
+6 forge 2 1 6 | - | 1
+7 deliver 0 1 2 | - | 0
+8 deliver 1 1 3 | - | 0
+9 deliver 2 1 4 | - | 0
+10 deliver 3 2 1 | nominated 1 2 | 0
+11 deliver 4 2 1 | - | 0
+12 deliver 5 2 1 accepted | - | 0
+13 deliver 6 2 1 | - | 0
+14 deliver 7 2 1 | - | 0
+copy 1 1 0
+poll 1 1 1 0 0 running
+end 14
+";
+
+/// A script in two parts, one behind the other, and what its replay answers and writes, in two parts too.
 #[derive(Drop)]
 struct Row<'a> {
     script: [&'a str; 2],
     status: Status,
-    report: &'a str,
+    report: [&'a str; 2],
 }
 
 /// A run that writes nothing, perhaps since a call of its source or its sink fails.
@@ -253,56 +460,58 @@ fn words_of(alloc: Global, words: &[&str]) -> Result<Vec<String>, Fail> {
     Ok(all)
 }
 
-fn source_of(alloc: Global, script: [&str; 2], fail: &[u32]) -> Result<MemSource, Fail> {
+fn joined(alloc: Global, pieces: [&str; 2]) -> Result<Vec<u8>, Fail> {
     let mut bytes = Vec::new(alloc);
-    for piece in script {
+    for piece in pieces {
         bytes.extend_from_slice(piece.as_bytes())?;
     }
-    Ok(MemSource::new(alloc, bytes, fail.to_vec(alloc)?))
+    Ok(bytes)
+}
+
+fn done<'a>(script: [&'a str; 2], report: [&'a str; 2]) -> Row<'a> {
+    Row {
+        script,
+        status: Status::Done,
+        report,
+    }
 }
 
 #[test]
 fn reports(rt: HostRuntime) -> Result<(), Fail> {
     let alloc = rt.alloc();
     let rows = [
-        Row {
-            script: [HEAD, AGREED],
-            status: Status::Done,
-            report: AGREED_REPORT,
-        },
-        Row {
-            script: [HEAD, INQUORATE],
-            status: Status::Done,
-            report: INQUORATE_REPORT,
-        },
-        Row {
-            script: [HEAD, TWICE],
-            status: Status::Done,
-            report: TWICE_REPORT,
-        },
-        Row {
-            script: [HEAD, LENGTHS],
-            status: Status::Done,
-            report: LENGTHS_REPORT,
-        },
+        done([HEAD, AGREED], [VOTED, AGREED_REPORT]),
+        done([HEAD, REPAIRED], [VOTED, REPAIRED_REPORT]),
+        done([HEAD, FALSE_REPAIR], [VOTED, FALSE_REPAIR_REPORT]),
+        done([HEAD, LOST], [VOTED, LOST_REPORT]),
+        done(
+            [HEAD_OF_BAD_FIRST, FIRST_REPAIRED],
+            [VOTED, FIRST_REPAIRED_REPORT],
+        ),
+        done([HEAD_OF_ONE, ONE], [ONE_REPORT, ""]),
         Row {
             script: [HEAD_OF_FIVE, SPLIT],
             status: Status::Alarmed,
-            report: SPLIT_REPORT,
+            report: [SPLIT_REPORT, ""],
         },
-        Row {
-            script: [HEAD, LOST],
-            status: Status::Done,
-            report: LOST_REPORT,
-        },
+        done([HEAD, INQUORATE], [INQUORATE_REPORT, ""]),
+        done([HEAD, TWICE], [TWICE_REPORT, ""]),
+        done([HEAD, LENGTHS], [LENGTHS_REPORT, ""]),
+        done([HEAD, NO_MESSAGES], [NO_MESSAGES_REPORT, ""]),
+        done([HEAD, CHALLENGES], [CHALLENGES_REPORT, ""]),
+        done([HEAD, SAYINGS], [SAYINGS_REPORT, ""]),
     ];
     let words = words_of(alloc, REPLAY)?;
     for (at, row) in rows.iter().enumerate() {
-        let mut source = source_of(alloc, row.script, &[])?;
+        let mut source = MemSource::new(alloc, joined(alloc, row.script)?, [].to_vec(alloc)?);
         let mut sink = MemSink::new(alloc, [].to_vec(alloc)?);
         let status = run(alloc, &words, &mut source, &mut sink);
         assert_eq!(rt; status, row.status, "row {at}");
-        assert_eq!(rt; sink.bytes(), row.report.as_bytes(), "row {at}");
+        assert_eq!(rt;
+            sink.bytes(),
+            joined(alloc, row.report)?.as_slice(),
+            "row {at}"
+        );
     }
     Ok(())
 }
@@ -349,16 +558,79 @@ fn refusals(rt: HostRuntime) -> Result<(), Fail> {
         bad([HEAD.trim_end(), ""], 9),
         bad([HEAD, "forge 1 2 00\n"], 10),
         bad([HEAD, "# nothing\n"], 10),
+        bad([HEAD, "forge 2 1 0101000000010001\n"], 10),
+        bad([HEAD, "say 2 poll 1 1 1\n"], 10),
         failing(&[1], &[], Status::ReadFault),
         failing(&[], &[1], Status::WriteFault),
     ];
     for (at, row) in rows.iter().enumerate() {
         let words = words_of(alloc, row.words)?;
-        let mut source = source_of(alloc, row.script, row.failing_reads)?;
+        let script = joined(alloc, row.script)?;
+        let mut source = MemSource::new(alloc, script, row.failing_reads.to_vec(alloc)?);
         let mut sink = MemSink::new(alloc, row.failing_writes.to_vec(alloc)?);
         let status = run(alloc, &words, &mut source, &mut sink);
         assert_eq!(rt; status, row.status, "row {at}");
         assert!(rt; sink.bytes().is_empty(), "row {at}");
     }
+    Ok(())
+}
+
+#[test]
+fn too_long(rt: HostRuntime) -> Result<(), Fail> {
+    let alloc = rt.alloc();
+    let words = words_of(alloc, REPLAY)?;
+    let bytes = vec![in alloc; b'#'; 16_777_217]?;
+    let mut source = MemSource::new(alloc, bytes, [].to_vec(alloc)?);
+    let mut sink = MemSink::new(alloc, [].to_vec(alloc)?);
+    let status = run(alloc, &words, &mut source, &mut sink);
+    assert_eq!(rt; status, Status::TooLong);
+    assert!(rt; sink.bytes().is_empty());
+    Ok(())
+}
+
+// Poll 1, its nonce, and the poller's proof of effort, of one byte.
+fn is_proof(sent: &[Outgoing]) -> bool {
+    match sent {
+        [Outgoing { to: 2, bytes }] => match bytes.as_slice() {
+            [1, 3, 0, 0, 0, 1, nonce @ .., 1, 1] => nonce == NONCE.as_slice(),
+            _ => false,
+        },
+        _ => false,
+    }
+}
+
+#[test]
+fn proof_after_challenge(rt: HostRuntime) -> Result<(), Fail> {
+    let alloc = rt.alloc();
+    let script = read_script(alloc, joined(alloc, [HEAD, ""])?.as_slice())
+        .ok()
+        .ok_or("the head is a script")?;
+    let [planned, ..] = script.plan.peers.as_slice() else {
+        return Err("four peers".into());
+    };
+    if planned.proof.as_slice().len() > 64 {
+        return Err("a proof of one byte".into());
+    }
+    let mut list = Vec::new(alloc);
+    list.push(Record::Deposit {
+        au: 1,
+        blocks: Seq::from_vec(Vec::new(alloc)),
+    })?;
+    let mut peer = Peer::begin(alloc, &script.plan, planned, list)
+        .ok()
+        .ok_or("memory")?;
+    let opened = peer.step(0, &Input::OpenPoll { au: 1 });
+    assert!(rt; opened.is_ok());
+    let agreed = Input::Got {
+        from: 2,
+        message: Message::PollChallenge {
+            number: 1,
+            yes: true,
+        },
+        judged: Judged::NotAsked,
+    };
+    let answer = peer.step(0, &agreed).ok().ok_or("memory")?;
+    assert!(rt; answer.records.as_slice().is_empty());
+    assert!(rt; is_proof(answer.sends.as_slice()));
     Ok(())
 }

@@ -1,12 +1,40 @@
-use Rattle.lockss.proofs.Telling.{added_front}
+use Rattle.std.proofs.Common.{sym, ◌∙◌, true, false}
+use Rattle.lks_law.proofs.Journals.{is_safe}
+use Rattle.lockss.proofs.Telling.{adds_all, adds_less, alarmed_as}
 use Rattle.lockss.proofs.playing.tell.Goals as goal
 
+pub returns-then-has_alarm-clause-tells : goal.returns-then-has_alarm-clause-tells
+returns-then-has_alarm-clause-tells g c =
+    let plan = c.args.world.now.plan in
+    let history = c.args.world.now.history in
+    let entries_are = c.history-history.ensures c.requires in (
+      is_safe plan history,
+      alarmed_as plan c.plan.result.now history c.history-history.result.now c.plan.ensures entries_are true (sym c.has_alarm.ensures ∙ c.if-has_alarm.true),
+      adds_all plan c.plan.result.now history c.history-history.result.now c.plan.ensures entries_are
+          (g.K.Sink.taken c.args.sink.now) (g.K.Sink.taken c.report.new.sink) c.in-Ok.ensures.whole,
+    )
+
+pub returns-else-has_alarm-clause-tells : goal.returns-else-has_alarm-clause-tells
+returns-else-has_alarm-clause-tells g c =
+    let plan = c.args.world.now.plan in
+    let history = c.args.world.now.history in
+    let entries_are = c.history-history.ensures c.requires in (
+      is_safe plan history,
+      alarmed_as plan c.plan.result.now history c.history-history.result.now c.plan.ensures entries_are false (sym c.has_alarm.ensures ∙ c.if-has_alarm.false),
+      adds_all plan c.plan.result.now history c.history-history.result.now c.plan.ensures entries_are
+          (g.K.Sink.taken c.args.sink.now) (g.K.Sink.taken c.report.new.sink) c.in-Ok.ensures.whole,
+    )
+
 pub returns-in-Err-Failed-clause-tells : goal.returns-in-Err-Failed-clause-tells
-returns-in-Err-Failed-clause-tells g c = λ taken told.
-    added_front c.args.world.now.plan c.plan.result.now c.args.world.now.history c.history-history.result.now taken (g.K.Sink.taken c.report.new.sink)
-    c.plan.ensures (c.history-history.ensures c.requires) (c.in-Err-Failed.ensures.part taken told)
+returns-in-Err-Failed-clause-tells g c =
+    let plan = c.args.world.now.plan in
+    let history = c.args.world.now.history in (
+      is_safe plan history,
+      adds_less plan c.plan.result.now history c.history-history.result.now c.plan.ensures (c.history-history.ensures c.requires)
+          (g.K.Sink.taken c.args.sink.now) (g.K.Sink.taken c.report.new.sink) c.in-Err-Failed.ensures.part,
+    )
 
 pub returns-in-Err-Memory-clause-tells : goal.returns-in-Err-Memory-clause-tells
-returns-in-Err-Memory-clause-tells g c = λ taken told.
-    added_front c.args.world.now.plan c.plan.result.now c.args.world.now.history c.history-history.result.now taken (g.K.Sink.taken c.report.new.sink)
-    c.plan.ensures (c.history-history.ensures c.requires) (c.in-Err-Memory.ensures.part taken told)
+returns-in-Err-Memory-clause-tells g c =
+    adds_less c.args.world.now.plan c.plan.result.now c.args.world.now.history c.history-history.result.now c.plan.ensures (c.history-history.ensures c.requires)
+    (g.K.Sink.taken c.args.sink.now) (g.K.Sink.taken c.report.new.sink) c.in-Err-Memory.ensures.part

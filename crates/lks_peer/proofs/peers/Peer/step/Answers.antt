@@ -12,4 +12,5 @@ invariant_of-self-2 c =
           (ap are_small (c.in_ok-added.ensures ∙ c.as_slice.ensures ∙ ap (λ r. r.records) c.in_ok-answer.ensures)
           ∙ reaction_small c.self.inside.own c.deref.result.now c.args.tick c.args.input.now);
       few = c.in_ok-append.ensures.few;
+      short = c.self.invariant.short;
     }

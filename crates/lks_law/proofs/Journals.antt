@@ -1,0 +1,243 @@
+-- What holds of every journal, and in every world.
+use Rattle.std.proofs.Common.{◌≡◌, ◌≢◌, ◌≤◌, ◌+◌, ◌∙◌, ◌⊎◌, inl, inr, ap, sym, subst, ℕ, zero, suc, Bool, true, false, cond, eqb, List, [], ◌∷◌, ◌++◌, length, filter, refl, arith}
+use Rattle.std.specs.Prelude.{Option, Some, None, slice_get, option_map, ◌&&◌}
+use Rattle.std.specs.List.{list_all, filter_map, cons_option}
+use Rattle.std.proofs.lemmas.List.Folds.{list_all-append}
+use Rattle.std.proofs.lemmas.Option.{slice_get-map}
+use Rattle.lks_base.specs.declared.events.Event.{Event}
+use Rattle.lks_base.specs.declared.events.Event.TheVariants.{Step, Cut, Tick, Lose, Forge, Crash}
+use Rattle.lks_base.specs.declared.messages.Message.{Message}
+use Rattle.lks_base.specs.declared.messages.Message.TheVariants as message
+use Rattle.lks_base.specs.declared.names.Judged.{Judged}
+use Rattle.lks_base.specs.declared.plans.AuPlan.{AuPlan}
+use Rattle.lks_base.specs.declared.plans.Holding.{Holding}
+use Rattle.lks_base.specs.declared.plans.PeerPlan.{PeerPlan}
+use Rattle.lks_base.specs.declared.plans.Plan.{Plan}
+use Rattle.lks_base.specs.declared.reactions.Input.{Input}
+use Rattle.lks_base.specs.declared.reactions.Input.TheVariants as input
+use Rattle.lks_base.specs.declared.records.Record.{Record}
+use Rattle.lks_base.specs.declared.records.Record.TheVariants.{Deposit, Replaced}
+use Rattle.lks_law.specs.Facts.{Heard, journal_after, AreInOrder, IsJournalOf, HasJournal, HaveJournals, HasPolls}
+use Rattle.lks_law.specs.Journal.{Opening, contents_of, opening_of, is_shut, is_closed, has_asked, unanswered, waiting}
+use Rattle.lks_law.specs.Polls.{Station, limits_of, ballot_of, votes, inner_votes, verdict_in}
+use Rattle.lks_law.specs.Reaction.{reaction, may_tally, on_message}
+use Rattle.lks_law.specs.Safe.{Safe}
+use Rattle.lks_law.specs.World.{Standing, World, Deed, is_honest, standing_of, deposit_for, deposits, start, deed_of, peer_at, reaction_at, effect_of, with_records, peers_after, after_step, happens, happen_all, world}
+use Rattle.lks_law.proofs.Kept.{Kept}
+use Rattle.lks_law.proofs.Openings.{kept_on_open}
+use Rattle.lks_law.proofs.PollStates.{Good, poll_of, blank, copies_in, good_poll}
+use Rattle.lks_law.proofs.Repairs.{kept_on_repair}
+use Rattle.lks_law.proofs.Rows.{KeptBy, kept_nothing, kept_on_challenge, kept_on_nominate, kept_on_vote, kept_on_shut, kept_on_tally, tally_parts}
+use Rattle.lks_tally.specs.declared.ballots.Verdict.TheVariants as verdict
+use Rattle.lks_tally.proofs.Deciding.{inquorate_votes}
+
+-- Every reaction.
+
+kept_message : (own : Station) (js : List Record) (from : ℕ) (m : Message) (judged : Judged) → Kept own js → KeptBy own js (on_message own js from m judged)
+kept_message own js from (message.PollChallenge n agrees) judged kept = kept_on_challenge own js from n agrees kept
+kept_message own js from (message.Nominate n nominees) judged kept = kept_on_nominate own js from n nominees kept
+kept_message own js from (message.Vote n hashes proof) judged kept = kept_on_vote own js from n hashes judged kept
+kept_message own js from (message.Repair n b bytes) judged kept = kept_on_repair own js from n b bytes kept
+kept_message own js from m judged kept = kept_nothing own js kept
+
+kept_reaction : (own : Station) (js : List Record) (tick : ℕ) (i : Input) → Kept own js → KeptBy own js (reaction own js tick i)
+unfolding reaction
+kept_reaction own js tick (input.OpenPoll au) kept = kept_on_open own js tick au kept
+kept_reaction own js tick (input.Shut n) kept = kept_on_shut own js tick n kept
+kept_reaction own js tick (input.Tally n) kept = kept_on_tally own js tick n kept
+kept_reaction own js tick (input.Got from m judged) kept = kept_message own js from m judged kept
+kept_reaction own js tick i kept = kept_nothing own js kept
+
+-- The beginning: deposits alone.
+
+abbrev is_deposit : Record → Bool
+is_deposit (Deposit au blocks) = true
+is_deposit _ = false
+
+AreDeposits : List Record → Type 0
+AreDeposits js = list_all is_deposit js ≡ true
+
+deposits_say : (n : ℕ) (js : List Record) → AreDeposits js → poll_of n js ≡ blank
+unfolding AreDeposits opening_of votes is_shut is_closed has_asked unanswered waiting
+deposits_say n [] all = refl
+deposits_say n (Deposit au blocks ∷ js) all = deposits_say n js all
+deposits_say n (r ∷ js) all = absurd cc
+
+none_replaced : (js : List Record) → AreDeposits js → (i n au b : ℕ) (bytes : List ℕ) → slice_get js i ≡ Some (Replaced n au b bytes) → ⊥
+unfolding AreDeposits
+none_replaced [] all i n au b bytes e = absurd cc
+none_replaced (Deposit a blocks ∷ js) all zero n au b bytes e = absurd cc
+none_replaced (Deposit a blocks ∷ js) all (suc i) n au b bytes e = none_replaced js all i n au b bytes e
+none_replaced (r ∷ js) all i n au b bytes e = absurd cc
+
+good_blank : (own : Station) (n : ℕ) (copy : ℕ → List (List ℕ)) → Good own n copy blank
+good_blank own n copy = record {
+  unopened = λ e. refl;
+  distinct = λ i j d low high. absurd (omega arith);
+  quorum = λ o e runs over. absurd cc;
+  asked = λ o e asked. absurd cc;
+  single = refl;
+  runs = λ r waits. absurd cc;
+  lost = λ o r e waits. absurd cc;
+}
+
+kept_deposits : (own : Station) (js : List Record) → AreDeposits js → Kept own js
+kept_deposits own js all =
+    let none : (n : ℕ) → opening_of n js ≡ None = λ n. ap (λ p. p.opening) (deposits_say n js all) in
+    record {
+      good = λ n. subst (Good own n (copies_in js)) (sym (deposits_say n js all)) (good_blank own n (copies_in js));
+      rest = record {
+        numbered = λ n o is. absurd (no_opening (opening_of n js) o (none n) is);
+        alone = λ m n o p is too runs also au. absurd (no_opening (opening_of m js) o (none m) is);
+        evidence = λ i n au b bytes at. absurd (none_replaced js all i n au b bytes at);
+      };
+    }
+  where
+    no_opening : (o : Option Opening) (x : Opening) → o ≡ None → o ≡ Some x → ⊥
+    no_opening o x none some = let both : None ≡ Some x = sym none ∙ some in absurd cc
+
+held_is : (au : AuPlan) (copy : Holding) (b : Bool) → list_all is_deposit (cons_option (cond b (Some (Deposit au.id copy.blocks)) None) []) ≡ true
+held_is au copy true = refl
+held_is au copy false = refl
+
+held_are : (au : AuPlan) (copies : List Holding) → AreDeposits (filter_map (deposit_for au) copies)
+unfolding AreDeposits
+held_are au [] = refl
+held_are au (copy ∷ copies) = first (eqb copy.au au.id) (held_are au copies)
+  where
+    first : (b : Bool) → list_all is_deposit (filter_map (deposit_for au) copies) ≡ true
+        → list_all is_deposit (cons_option (cond b (Some (Deposit au.id copy.blocks)) None) (filter_map (deposit_for au) copies)) ≡ true
+    first true rest = rest
+    first false rest = rest
+
+deposits_are : (aus : List AuPlan) (copies : List Holding) → AreDeposits (deposits aus copies)
+unfolding AreDeposits deposits
+deposits_are [] copies = refl
+deposits_are (au ∷ aus) copies =
+    list_all-append is_deposit (filter_map (deposit_for au) copies) (deposits aus copies)
+    ∙ ap (λ b. b && list_all is_deposit (deposits aus copies)) (held_are au copies) ∙ deposits_are aus copies
+
+-- Every journal.
+
+kept_journal : (own : Station) (aus : List AuPlan) (copies : List Holding) (heard : List Heard) → Kept own (journal_after own (deposits aus copies) heard)
+kept_journal own aus copies [] = kept_deposits own (deposits aus copies) (deposits_are aus copies)
+kept_journal own aus copies (h ∷ hs) = kept_reaction own (journal_after own (deposits aus copies) hs) h.tick h.input (kept_journal own aus copies hs)
+
+kept_of : (own : Station) (aus : List AuPlan) (copies : List Holding) (tick : ℕ) (js : List Record) → IsJournalOf own (deposits aus copies) tick js → Kept own js
+kept_of own aus copies tick js is = subst (Kept own) (sym is.made) (kept_journal own aus copies is.heard)
+
+polls_of : (own : Station) (js : List Record) → Kept own js → HasPolls own js
+polls_of own js kept = record { each = λ n. good_poll own js n (kept.good n); alone = kept.rest.alone }
+
+-- Every world.
+
+record Extended (id : ℕ) (added : List Record) (ss : List Standing) (place : ℕ) (after : Standing) : Type 0 where
+  before : Standing
+  there : slice_get ss place ≡ Some before
+  found : peer_at id ss ≡ Some before
+  is : record { own = before.own; journal = before.journal ++ added } ≡ after
+
+-- each peer stands as before, but the one that adds records
+records_at : (id : ℕ) (added : List Record) (ss : List Standing) (place : ℕ) (after : Standing) → slice_get (with_records id added ss) place ≡ Some after
+    → (slice_get ss place ≡ Some after) ⊎ Extended id added ss place after
+unfolding peer_at
+records_at id added [] place after e = absurd cc
+records_at id added (s ∷ ss) place after e = by_id (eqb s.own.id id) refl place e (λ k. records_at id added ss k after)
+  where
+    by_id : (b : Bool) → eqb s.own.id id ≡ b → (place : ℕ) → slice_get (cond b (record { own = s.own; journal = s.journal ++ added } ∷ ss) (s ∷ with_records id added ss)) place ≡ Some after
+        → ((k : ℕ) → slice_get (with_records id added ss) k ≡ Some after → (slice_get ss k ≡ Some after) ⊎ Extended id added ss k after)
+        → (slice_get (s ∷ ss) place ≡ Some after) ⊎ Extended id added (s ∷ ss) place after
+    by_id true here zero e rest = inr (record { before = s; there = refl; found = ap (λ b. cond b (Some s) (peer_at id ss)) here; is = cc })
+    by_id true here (suc k) e rest = inl e
+    by_id false here zero e rest = inl e
+    by_id false here (suc k) e rest = elim (rest k e) [
+      | inl same ↦ inl same
+      | inr more ↦ inr (record { before = more.before; there = more.there; found = ap (λ b. cond b (Some s) (peer_at id ss)) here ∙ more.found; is = more.is })
+    ]
+
+journal_more : (plan : Plan) (tick : ℕ) (p : Option PeerPlan) (s : Standing) (i : Input) → HasJournal plan tick p s
+    → HasJournal plan tick p (record { own = s.own; journal = s.journal ++ (reaction s.own s.journal tick i).records })
+journal_more plan tick None s i has = has
+journal_more plan tick (Some p) s i has = (
+  has.0,
+  record {
+    heard = record { tick = tick; input = i } ∷ has.1.heard;
+    in_order = (omega arith, has.1.in_order);
+    made = ap (λ js. js ++ (reaction s.own js tick i).records) has.1.made;
+  },
+)
+
+ordered_later : (tick later : ℕ) (heard : List Heard) → tick ≤ later → AreInOrder tick heard → AreInOrder later heard
+ordered_later tick later [] le order = tt
+ordered_later tick later (h ∷ hs) le order = let first = order.0 in (omega (arith, le, first), order.1)
+
+journal_later : (plan : Plan) (tick by : ℕ) (p : Option PeerPlan) (s : Standing) → HasJournal plan tick p s → HasJournal plan (tick + by) p s
+journal_later plan tick by None s has = has
+journal_later plan tick by (Some p) s has =
+    (has.0, record { heard = has.1.heard; in_order = ordered_later tick (tick + by) has.1.heard (omega arith) has.1.in_order; made = has.1.made })
+
+abbrev PeersHave : Plan → ℕ → List Standing → Type 0
+PeersHave plan tick peers = (place : ℕ) (s : Standing) → slice_get peers place ≡ Some s → HasJournal plan tick (slice_get (filter is_honest plan.peers) place) s
+
+deed_keeps : (plan : Plan) (tick : ℕ) (peers : List Standing) (d : Option Deed) → PeersHave plan tick peers → PeersHave plan tick (peers_after tick peers d)
+deed_keeps plan tick peers None has place s at = has place s at
+deed_keeps plan tick peers (Some d) has place s at = elim (records_at d.peer (effect_of tick peers (Some d)).records peers place s at) [
+  | inl same ↦ has place s same
+  | inr more ↦
+      subst (HasJournal plan tick (slice_get (filter is_honest plan.peers) place)) more.is
+      (subst (λ o. HasJournal plan tick (slice_get (filter is_honest plan.peers) place) (record { own = more.before.own; journal = more.before.journal ++ (reaction_at tick o d.input).records })) (sym more.found)
+      (journal_more plan tick (slice_get (filter is_honest plan.peers) place) more.before d.input (has place more.before more.there)))
+]
+
+happens_keeps : (plan : Plan) (w : World) (e : Event) → HaveJournals plan w → HaveJournals plan (happens w e)
+unfolding happens after_step
+happens_keeps plan w (Step s) has = deed_keeps plan w.tick w.peers (deed_of w.bag s) has
+happens_keeps plan w (Cut s true) has = deed_keeps plan w.tick w.peers (deed_of w.bag s) has
+happens_keeps plan w (Cut s false) has = has
+happens_keeps plan w (Tick by) has = λ place s at. journal_later plan w.tick by (slice_get (filter is_honest plan.peers) place) s (has place s at)
+happens_keeps plan w (Lose envelope) has = has
+happens_keeps plan w (Forge from to bytes) has = has
+happens_keeps plan w (Crash peer) has = has
+
+all_keep : (plan : Plan) (w : World) (history : List Event) → HaveJournals plan w → HaveJournals plan (happen_all w history)
+all_keep plan w [] has = has
+all_keep plan w (e ∷ es) has = all_keep plan (happens w e) es (happens_keeps plan w e has)
+
+start_has : (plan : Plan) → HaveJournals plan (start plan)
+unfolding start
+start_has plan place s at = standing (slice_get (filter is_honest plan.peers) place) (sym (slice_get-map (standing_of plan) (filter is_honest plan.peers) place) ∙ at)
+  where
+    standing : (p : Option PeerPlan) → option_map (standing_of plan) p ≡ Some s → HasJournal plan 0 p s
+    standing None e = absurd cc
+    standing (Some p) e =
+        let same : standing_of plan p ≡ s = cc in
+        subst (HasJournal plan 0 (Some p)) same (refl, record { heard = []; in_order = tt; made = refl })
+
+pub journals_are_own : (plan : Plan) (history : List Event) → HaveJournals plan (world plan history)
+unfolding world
+journals_are_own plan history = all_keep plan (start plan) history (start_has plan)
+
+kept_at : (plan : Plan) (tick : ℕ) (p : Option PeerPlan) (s : Standing) → HasJournal plan tick p s → Kept s.own s.journal
+kept_at plan tick None s has = absurd has
+kept_at plan tick (Some p) s has = kept_of s.own plan.aus p.copies tick s.journal has.1
+
+pub kept_in : (plan : Plan) (history : List Event) (place : ℕ) (s : Standing) → slice_get (world plan history).peers place ≡ Some s → Kept s.own s.journal
+kept_in plan history place s at = kept_at plan (world plan history).tick (slice_get (filter is_honest plan.peers) place) s (journals_are_own plan history place s at)
+
+pub polls_keep : (plan : Plan) (history : List Event) (place : ℕ) (s : Standing) → slice_get (world plan history).peers place ≡ Some s → HasPolls s.own s.journal
+polls_keep plan history place s at = polls_of s.own s.journal (kept_in plan history place s at)
+
+pub is_safe : (plan : Plan) (history : List Event) → Safe plan history
+is_safe plan history = record { evidence = λ place s at. (kept_in plan history place s at).rest.evidence }
+
+pub tallies_have_quorum : (plan : Plan) (history : List Event) (place : ℕ) (s : Standing) → slice_get (world plan history).peers place ≡ Some s
+    → (n : ℕ) (opening : Opening) → may_tally n s.journal ≡ true → opening_of n s.journal ≡ Some opening → verdict_in s.own n opening s.journal ≢ verdict.Inquorate
+unfolding verdict_in
+tallies_have_quorum plan history place s at n opening may opened lacks =
+    let state = (polls_keep plan history place s at).each n in
+    let parts = tally_parts n s.journal may in
+    let limits = limits_of s.own.rules opening in
+    let copy = contents_of opening.au s.journal in
+    let enough = state.quorum opening opened parts.runs parts.over in
+    let few = inquorate_votes limits.minority (ballot_of s.own n opening (length copy)) (inner_votes n opening.inner s.journal) copy limits.quorum lacks in
+    absurd (omega (arith, enough, few))

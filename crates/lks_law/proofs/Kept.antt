@@ -1,0 +1,130 @@
+-- What every record that the rules add keeps.
+use Rattle.std.proofs.Common.{◌≡◌, ◌≢◌, ◌≤◌, ◌<◌, ◌+◌, ◌∙◌, inl, inr, ap, sym, subst, ℕ, zero, suc, Bool, true, false, cond, eqb, List, [], ◌∷◌, ◌++◌, length, get_or, refl, arith}
+use Rattle.std.specs.Prelude.{Option, Some, None, ◌&&◌}
+use Rattle.std.specs.List.{cons_option}
+use Rattle.std.proofs.lemmas.Bool.{eq-eqb, and_from, both_ways, or_parts}
+use Rattle.std.proofs.lemmas.List.{take-append-le, take_at}
+use Rattle.lks_base.specs.declared.names.Outcome.{Outcome}
+use Rattle.lks_base.specs.declared.records.Record.{Record}
+use Rattle.lks_base.specs.declared.records.Record.TheVariants.{Nominated, VoteIn, Shut, Asked, RepairBad, Replaced, Closed}
+use Rattle.lks_law.specs.Journal.{Opening, deposit_in, replacement_in, contents_of, opening_in, opening_of, is_opening, openings, vote_in, is_vote_of, has_voted, is_closed}
+use Rattle.lks_law.specs.Polls.{Station, votes}
+use Rattle.lks_law.specs.Safe.{Evidence, HasEvidence}
+use Rattle.lks_law.proofs.Grown.{first_opening, opening_more, openings_more, closed_more, contents_more, replaced_if, last_or_before}
+use Rattle.lks_law.proofs.PollStates.{Good, poll_of, poll_after, poll_more, copies_in}
+use Rattle.lks_tally.specs.declared.ballots.Vote.{Vote}
+
+-- the polls of a journal, apart from what each is
+pub record Rest (own : Station) (js : List Record) : Type 0 where
+  pub numbered : (n : ℕ) (o : Opening) → opening_of n js ≡ Some o → n ≤ openings js
+  pub alone : (m n : ℕ) (o p : Opening) → opening_of m js ≡ Some o → opening_of n js ≡ Some p → is_closed m js ≡ false → is_closed n js ≡ false → o.au ≡ p.au → m ≡ n
+  pub evidence : HasEvidence own js
+
+abbrev pub AllGood : Station → List Record → Type 0
+AllGood own js = (n : ℕ) → Good own n (copies_in js) (poll_of n js)
+
+pub record Kept (own : Station) (js : List Record) : Type 0 where
+  pub good : AllGood own js
+  pub rest : Rest own js
+
+-- a record that opens no poll and changes no AU
+pub record IsPlain (r : Record) : Type 0 where
+  pub deposit : (au : ℕ) → deposit_in au r ≡ None
+  pub replacement : (au : ℕ) → replacement_in au r ≡ None
+  pub opening : (n : ℕ) → opening_in n r ≡ None
+  pub counted : is_opening r ≡ false
+  pub other : (n au b : ℕ) (bytes : List ℕ) → r ≡ Replaced n au b bytes → ⊥
+
+first_stays : (o : Option Opening) → first_opening o None ≡ o
+first_stays None = refl
+first_stays (Some o) = refl
+
+pub same_opening : (n : ℕ) (js : List Record) (r : Record) → opening_in n r ≡ None → opening_of n (js ++ r ∷ []) ≡ opening_of n js
+same_opening n js r none = opening_more n js r ∙ ap (first_opening (opening_of n js)) none ∙ first_stays (opening_of n js)
+
+-- a poll that isn't closed wasn't closed before
+pub was_running : (n : ℕ) (js : List Record) (r : Record) → is_closed n (js ++ r ∷ []) ≡ false → is_closed n js ≡ false
+was_running n js r later = by_close _ (is_closed n js) (sym (closed_more n js r) ∙ later)
+  where
+    by_close : (b closed : Bool) → cond b true closed ≡ false → closed ≡ false
+    by_close true closed e = absurd cc
+    by_close false closed e = e
+
+-- evidence stands in the journal before its record, so it stays
+pub evidence_more : (own : Station) (js : List Record) (r : Record) → HasEvidence own js
+    → ((n au b : ℕ) (bytes : List ℕ) → r ≡ Replaced n au b bytes → Evidence own js n au b bytes) → HasEvidence own (js ++ r ∷ [])
+evidence_more own js r has last i n au b bytes at = elim (last_or_before js r i (Replaced n au b bytes) at) [
+  | inl before ↦ let low = before.0 in subst (λ front. Evidence own front n au b bytes) (sym (take-append-le i js (r ∷ []) (omega (arith, low)))) (has i n au b bytes before.1)
+  | inr here ↦ let place = here.0 in subst (λ front. Evidence own front n au b bytes) (sym (take_at js (r ∷ []) i (sym place))) (last n au b bytes here.1)
+]
+
+-- a record that opens no poll leaves their numbers, and at most one runs on an AU
+pub rest_after : (own : Station) (js : List Record) (r : Record) → ((n : ℕ) → opening_in n r ≡ None) → is_opening r ≡ false → HasEvidence own (js ++ r ∷ []) → Rest own js
+    → Rest own (js ++ r ∷ [])
+rest_after own js r none counted evidence rest =
+    let same : (n : ℕ) → opening_of n (js ++ r ∷ []) ≡ opening_of n js = λ n. same_opening n js r (none n) in
+    let count : openings (js ++ r ∷ []) ≡ openings js + 0 = openings_more js r ∙ ap (λ b. openings js + cond b 1 0) counted in
+    record {
+      numbered = λ n o opened. let low = rest.numbered n o (sym (same n) ∙ opened) in omega (arith, low, count);
+      alone = λ m n o p first second runs also au.
+          rest.alone m n o p (sym (same m) ∙ first) (sym (same n) ∙ second) (was_running m js r runs) (was_running n js r also) au;
+      evidence = evidence;
+    }
+
+pub rest_more : (own : Station) (js : List Record) (r : Record) → IsPlain r → Rest own js → Rest own (js ++ r ∷ [])
+rest_more own js r plain rest =
+    rest_after own js r plain.opening plain.counted (evidence_more own js r rest.evidence (λ n au b bytes is. absurd (plain.other n au b bytes is))) rest
+
+pub same_copies : (js : List Record) (r : Record) → IsPlain r → copies_in (js ++ r ∷ []) ≡ copies_in js
+same_copies js r plain = λ i au. (contents_more au js r (plain.deposit au) ∙ ap (replaced_if (contents_of au js)) (plain.replacement au)) i
+
+pub good_more : (own : Station) (js : List Record) (r : Record) → IsPlain r → ((n : ℕ) → Good own n (copies_in js) (poll_after n (poll_of n js) r)) → AllGood own (js ++ r ∷ [])
+good_more own js r plain good n =
+    subst (λ copies. Good own n copies (poll_of n (js ++ r ∷ []))) (sym (same_copies js r plain))
+    (subst (Good own n (copies_in js)) (sym (poll_more n js r)) (good n))
+
+pub kept_more : (own : Station) (js : List Record) (r : Record) → IsPlain r → Kept own js → ((n : ℕ) → Good own n (copies_in js) (poll_after n (poll_of n js) r)) → Kept own (js ++ r ∷ [])
+kept_more own js r plain kept good = record { good = good_more own js r plain good; rest = rest_more own js r plain kept.rest }
+
+pub plain_nominated : (n v : ℕ) (nominees : List ℕ) → IsPlain (Nominated n v nominees)
+plain_nominated n v nominees = record { deposit = λ au. refl; replacement = λ au. refl; opening = λ m. refl; counted = refl; other = λ m au b bytes e. absurd cc }
+
+pub plain_vote : (n v : ℕ) (hashes : List (List ℕ)) → IsPlain (VoteIn n v hashes)
+plain_vote n v hashes = record { deposit = λ au. refl; replacement = λ au. refl; opening = λ m. refl; counted = refl; other = λ m au b bytes e. absurd cc }
+
+pub plain_shut : (n : ℕ) → IsPlain (Shut n)
+plain_shut n = record { deposit = λ au. refl; replacement = λ au. refl; opening = λ m. refl; counted = refl; other = λ m au b bytes e. absurd cc }
+
+pub plain_asked : (n b v : ℕ) → IsPlain (Asked n b v)
+plain_asked n b v = record { deposit = λ au. refl; replacement = λ au. refl; opening = λ m. refl; counted = refl; other = λ m au c bytes e. absurd cc }
+
+pub plain_bad : (n b v : ℕ) → IsPlain (RepairBad n b v)
+plain_bad n b v = record { deposit = λ au. refl; replacement = λ au. refl; opening = λ m. refl; counted = refl; other = λ m au c bytes e. absurd cc }
+
+pub plain_closed : (n : ℕ) (how : Outcome) (tick : ℕ) → IsPlain (Closed n how tick)
+plain_closed n how tick = record { deposit = λ au. refl; replacement = λ au. refl; opening = λ m. refl; counted = refl; other = λ m au b bytes e. absurd cc }
+
+-- Who hasn't voted has no vote.
+
+is_by : (n v : ℕ) (r : Record) (w : Vote) → vote_in n r ≡ Some w → w.voter ≡ v → is_vote_of n v r ≡ true
+is_by n v (VoteIn number voter hashes) w is of = by_number (eqb number n) refl is
+  where
+    by_number : (b : Bool) → eqb number n ≡ b → cond b (Some (record { voter = voter; hashes = hashes })) None ≡ Some w → (eqb number n && eqb voter v) ≡ true
+    by_number true e is = let same : voter ≡ w.voter = ap (λ (x : Option Vote). elim x as (λ _. ℕ) [ None ↦ 0 | Some y ↦ y.voter ]) is in and_from (eqb number n) (eqb voter v) e (eq-eqb voter v (same ∙ of))
+    by_number false e is = absurd cc
+is_by n v r w is of = absurd cc
+
+abbrev AreNotBy : ℕ → List Vote → Type 0
+AreNotBy v votes = (k : ℕ) (d : Vote) → k < length votes → (get_or votes k d).voter ≢ v
+
+one_more : (v : ℕ) (w : Option Vote) (ws : List Vote) → ((x : Vote) → w ≡ Some x → x.voter ≢ v) → AreNotBy v ws → AreNotBy v (cons_option w ws)
+one_more v None ws first rest k d low = rest k d low
+one_more v (Some w) ws first rest zero d low = first w refl
+one_more v (Some w) ws first rest (suc k) d low = rest k d (omega arith)
+
+pub unvoted : (n v : ℕ) (js : List Record) → has_voted n v js ≡ false → AreNotBy v (votes n js)
+unfolding has_voted votes
+unvoted n v [] none = λ k d low. absurd (omega arith)
+unvoted n v (r ∷ rs) none =
+    let parts = or_parts (is_vote_of n v r) (has_voted n v rs) none in
+    one_more v (vote_in n r) (votes n rs) (λ x is of. both_ways (is_vote_of n v r) parts.0 (is_by n v r x is of)) (unvoted n v rs parts.1)
