@@ -64,15 +64,20 @@ abbrev pub vote_by : Plan → Option PeerPlan → Option PeerPlan → ℕ → �
 vote_by plan (Some voter) (Some poller) number au blocks = Some (saying voter.id poller.id (vote_over (count_for plan au) voter poller number au blocks))
 vote_by plan _ _ number au blocks = None
 
+-- what is said in a poll of the receiver's
+unfoldable pub said_to_poller : Plan → Step → Option Saying
+said_to_poller plan (step.SayChallenge from to number agrees) = Some (saying from to (message.PollChallenge number agrees))
+said_to_poller plan (step.SayNominate from to number nominees) = Some (saying from to (message.Nominate number nominees))
+said_to_poller plan (step.SayVote from to number au blocks) = vote_by plan (planned plan from) (planned plan to) number au blocks
+said_to_poller plan (step.SayRepair from to number block bytes) = Some (saying from to (message.Repair number block bytes))
+said_to_poller plan _ = None
+
+-- what is said in a poll of the sender's, or in one of the receiver's
 unfoldable pub said_by : Plan → Step → Option Saying
 said_by plan (step.SayProof from to number) = proof_by from to number (planned plan from)
 said_by plan (step.SayRequest from to number block) = Some (saying from to (message.RepairRequest number block))
 said_by plan (step.SayReceipt from to number) = Some (saying from to (message.Receipt number))
-said_by plan (step.SayChallenge from to number agrees) = Some (saying from to (message.PollChallenge number agrees))
-said_by plan (step.SayNominate from to number nominees) = Some (saying from to (message.Nominate number nominees))
-said_by plan (step.SayVote from to number au blocks) = vote_by plan (planned plan from) (planned plan to) number au blocks
-said_by plan (step.SayRepair from to number block bytes) = Some (saying from to (message.Repair number block bytes))
-said_by plan _ = None
+said_by plan s = said_to_poller plan s
 
 -- any other step
 unfoldable pub acted : Plan → List Event → Step → List Event

@@ -3,13 +3,16 @@
 ghost use Rattle.std.specs.Prelude.{◌≡◌, ◌≤◌, ◌==◌, true, Some, None, IfOk, IfSome, find, length};
 ghost use Rattle.std.specs.Option.{option_copied};
 ghost use Rattle.lks_base.specs.Checking.{plan_fault};
+ghost use Rattle.lks_base.specs.declared.messages.Message.TheVariants as message;
 ghost use Rattle.lks_hash.specs.Counting.{Opens};
 ghost use Rattle.lks_hash.specs.Running.{hashes_of};
 ghost use Rattle.lks_message.specs.Spelling.{IsWithin};
 ghost use Rattle.lks_script.specs.StepRules.{is_step_of};
-ghost use Rattle.lks_world.specs.Follows.{saying, planned, proof_by, count_for, vote_over, vote_by, said_by};
+ghost use Rattle.lks_world.specs.Follows.{saying, planned, proof_by, count_for, vote_over, vote_by, said_to_poller, said_by};
 
-use lks_base::{AuId, AuPlan, Bytes, Hashes, Message, OutOfMemory, PeerId, PeerPlan, Plan, Seq};
+use lks_base::{
+    AuId, AuPlan, Bytes, Hashes, Ids, Message, OutOfMemory, PeerId, PeerPlan, Plan, Seq,
+};
 use lks_hash::{Chain, Steps, key, nonce_of};
 use lks_script::Step;
 use std::alloc::Global;
@@ -180,61 +183,73 @@ fn say_proof(
     Ok(say(from, to, message))
 }
 
-/// What a corrupt peer says in a step, if it says something.
-#[tactic(auto, unfolding(crate::specs::Follows::said_by, lks_script::specs::StepRules::is_step_of, lks_script::specs::StepRules::is_said_vote, lks_script::specs::StepRules::is_request, lks_script::specs::StepRules::is_nomination, lks_script::specs::StepRules::is_repair))]
-pub fn what_is_said(alloc: Global, plan: &Plan, step: &Step) -> Result<Option<Saying>, OutOfMemory>
+fn say_request(from: PeerId, to: PeerId, number: u32, block: u16) -> Option<Saying>
+    ensures { result ≡ Some (saying from to (message.RepairRequest number block)) }
+{
+    say(from, to, Message::RepairRequest { number, block })
+}
+
+fn say_challenge(from: PeerId, to: PeerId, number: u32, yes: bool) -> Option<Saying>
+    ensures { result ≡ Some (saying from to (message.PollChallenge number yes)) }
+{
+    say(from, to, Message::PollChallenge { number, yes })
+}
+
+fn say_nominees(
+    from: PeerId,
+    to: PeerId,
+    number: u32,
+    nominees: &Ids,
+) -> Result<Option<Saying>, OutOfMemory>
+    requires { length nominees.now ≤ 8 }
+    ensures said { IfOk result (λ s. s ≡ Some (saying from to (message.Nominate number nominees.now))) }
+    ensures within { IfOk result (λ s. IfSome s (λ x. IsWithin x.message)) }
+{
+    let nominees = nominees.clone()?;
+    Ok(say(from, to, Message::Nominate { number, nominees }))
+}
+
+fn say_repair(
+    from: PeerId,
+    to: PeerId,
+    number: u32,
+    block: u16,
+    bytes: &Bytes,
+) -> Result<Option<Saying>, OutOfMemory>
+    requires block { block ≤ 511 }
+    requires bytes { length bytes.now ≤ 16384 }
+    ensures said { IfOk result (λ s. s ≡ Some (saying from to (message.Repair number block bytes.now))) }
+    ensures within { IfOk result (λ s. IfSome s (λ x. IsWithin x.message)) }
+{
+    let bytes = bytes.clone()?;
+    let message = Message::Repair {
+        number,
+        block,
+        bytes,
+    };
+    Ok(say(from, to, message))
+}
+
+#[tactic(auto, unfolding(crate::specs::Follows::said_to_poller, lks_script::specs::StepRules::is_step_of, lks_script::specs::StepRules::is_said_vote, lks_script::specs::StepRules::is_nomination, lks_script::specs::StepRules::is_repair))]
+fn say_to_poller(alloc: Global, plan: &Plan, step: &Step) -> Result<Option<Saying>, OutOfMemory>
     requires good { plan_fault plan.now ≡ None }
     requires legal { is_step_of plan.now step.now ≡ true }
-    ensures said { IfOk result (λ s. s ≡ said_by plan.now step.now) }
+    ensures said { IfOk result (λ s. s ≡ said_to_poller plan.now step.now) }
     ensures within { IfOk result (λ s. IfSome s (λ x. IsWithin x.message)) }
 {
     match step {
-        Step::SayProof { from, to, number } => say_proof(plan, *from, *to, *number),
-        Step::SayRequest {
-            from,
-            to,
-            number,
-            block,
-        } => Ok(say(
-            *from,
-            *to,
-            Message::RepairRequest {
-                number: *number,
-                block: *block,
-            },
-        )),
-        Step::SayReceipt { from, to, number } => {
-            Ok(say(*from, *to, Message::Receipt { number: *number }))
-        }
         Step::SayChallenge {
             from,
             to,
             number,
             yes,
-        } => Ok(say(
-            *from,
-            *to,
-            Message::PollChallenge {
-                number: *number,
-                yes: *yes,
-            },
-        )),
+        } => Ok(say_challenge(*from, *to, *number, *yes)),
         Step::SayNominate {
             from,
             to,
             number,
             nominees,
-        } => {
-            let nominees = nominees.clone()?;
-            Ok(say(
-                *from,
-                *to,
-                Message::Nominate {
-                    number: *number,
-                    nominees,
-                },
-            ))
-        }
+        } => say_nominees(*from, *to, *number, nominees),
         Step::SayVote {
             from,
             to,
@@ -248,18 +263,30 @@ pub fn what_is_said(alloc: Global, plan: &Plan, step: &Step) -> Result<Option<Sa
             number,
             block,
             bytes,
-        } => {
-            let bytes = bytes.clone()?;
-            Ok(say(
-                *from,
-                *to,
-                Message::Repair {
-                    number: *number,
-                    block: *block,
-                    bytes,
-                },
-            ))
-        }
+        } => say_repair(*from, *to, *number, *block, bytes),
         _ => Ok(None),
+    }
+}
+
+/// What a corrupt peer says in a step, if it says something.
+#[tactic(auto, unfolding(crate::specs::Follows::said_by, lks_script::specs::StepRules::is_step_of, lks_script::specs::StepRules::is_request))]
+pub fn what_is_said(alloc: Global, plan: &Plan, step: &Step) -> Result<Option<Saying>, OutOfMemory>
+    requires good { plan_fault plan.now ≡ None }
+    requires legal { is_step_of plan.now step.now ≡ true }
+    ensures said { IfOk result (λ s. s ≡ said_by plan.now step.now) }
+    ensures within { IfOk result (λ s. IfSome s (λ x. IsWithin x.message)) }
+{
+    match step {
+        Step::SayProof { from, to, number } => say_proof(plan, *from, *to, *number),
+        Step::SayRequest {
+            from,
+            to,
+            number,
+            block,
+        } => Ok(say_request(*from, *to, *number, *block)),
+        Step::SayReceipt { from, to, number } => {
+            Ok(say(*from, *to, Message::Receipt { number: *number }))
+        }
+        _ => say_to_poller(alloc, plan, step),
     }
 }

@@ -1,0 +1,5 @@
+mod Counting
+mod Garbled
+mod Images
+pub mod Runs
+pub mod TornWrites

@@ -1,0 +1,19 @@
+//! Disks whose crashes are part of their contracts, and one in memory that can be cut off.
+//!
+//! A disk that tells its bytes has exact contracts: what a read gives, and what a crash may leave, now or
+//! at any moment since an earlier one. A fault is answered only where the disk's count of faults rose,
+//! and a cut only where a fuse has burned.
+#![tactic(auto)]
+
+mod calls;
+mod contents;
+mod controls;
+mod disks;
+mod memory;
+mod ranges;
+
+pub use disks::{CrashDisk, Disk, DiskFail};
+pub use memory::MemDisk;
+
+#[cfg(test)]
+mod tests;

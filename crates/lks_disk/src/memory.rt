@@ -1,0 +1,202 @@
+//! A disk in memory, with calls that fail and a fuse.
+ghost use Rattle.std.specs.Prelude.{◌≡◌, ◌↔◌, ◌+◌, ◌^◌, ◌<◌, ◌≤◌, ℕ, List, [], true, false, length, IfOk, OnOk, OnErr, IsErrOf};
+ghost use Rattle.lks_disk.specs.Device.{Wrote, ReadAt, Torn, Follows, Only, Elapses, Same, HasCause, NoMemory, Fused, SameFuse};
+ghost use Rattle.lks_disk.specs.Counts.{next_fails};
+ghost use Rattle.lks_disk.specs.Crash.{may_leave, moment, left_since, left_by, WritesBy, synced_by};
+ghost use Rattle.lks_disk.specs.Fuse.{is_set, is_burned, lets, choice_of, fate_of, answer_of, settled, read_answer, after_read, AnswersBy, CountsBy, RefusedBy, Starts};
+ghost use Rattle.lks_disk.specs.Moments.{counts_now, only_now};
+ghost use Rattle.lks_disk.specs.MemDisk.{set_is_burned_out};
+
+use crate::contents::Content;
+use crate::controls::{Control, Fate, Fuse};
+use crate::disks::{CrashDisk, Disk, DiskFail};
+use std::alloc::Global;
+
+/// Bytes in memory that are kept as a disk keeps them, with calls that fail and a fuse.
+#[derive(Drop)]
+pub struct MemDisk {
+    content: Content,
+    control: Control,
+}
+
+impl MemDisk {
+    /// An empty disk. The numbers name the calls of `write_at` and `sync` that fail, counted from 1.
+    pub fn new(alloc: Global, fail: Vec<u32>) -> Self
+        ensures content { result.content ≡ record { bytes = []; calls = [] } }
+        ensures control { Starts fail.items [] result.control }
+    {
+        Self::faulty(alloc, fail, Vec::new(alloc))
+    }
+
+    /// An empty disk of which also the named calls of `len` and `read_at` fail, counted from 1.
+    pub fn faulty(alloc: Global, fail: Vec<u32>, fail_reads: Vec<u32>) -> Self
+        ensures content { result.content ≡ record { bytes = []; calls = [] } }
+        ensures control { Starts fail.items fail_reads.items result.control }
+    {
+        MemDisk {
+            content: Content::new(alloc),
+            control: Control::new(fail, fail_reads),
+        }
+    }
+
+    /// The bytes that a read gives.
+    pub fn bytes(&self) -> &[u8]
+        ensures { result.now ≡ self.now.content.bytes }
+    {
+        self.content.bytes()
+    }
+}
+
+impl Disk for MemDisk {
+    ghost told = { λ _. Unit {0} };
+
+    ghost seen = { λ m. m.content.bytes };
+
+    ghost may_leave = { λ m. may_leave m.content };
+
+    ghost moment = { λ m. moment m.content };
+
+    ghost left_since = { λ m. left_since m.content };
+
+    ghost faults = { λ m. m.control.faults };
+
+    ghost burns = { λ m. m.control.burns };
+
+    ghost fused = { λ m. is_set m.control.fuse };
+
+    ghost burned = { λ m. is_burned m.control.fuse };
+
+    ghost left = { λ m. lets m.control.fuse };
+
+    ghost counts_now = { λ m t c told le now. counts_now m.content t c now };
+
+    ghost only_now = { λ m c told left. only_now m.content c left };
+
+    ghost burned_out = { λ m burned. set_is_burned_out m.control.fuse burned };
+
+    fn len(&mut self) -> Result<u64, DiskFail>
+        ensures value { Unit {0} → IfOk result (λ n. n ≡ length self.old.content.bytes) }
+        ensures same { Same (λ _. Unit {0}) (λ m. m.content.bytes) (λ m. may_leave m.content) (λ m. moment m.content) (λ m. left_since m.content) self.old self.new }
+        ensures cause { HasCause self.old.control.faults self.new.control.faults result }
+        ensures memory { NoMemory result }
+        ensures fuse { SameFuse (is_set self.old.control.fuse) (is_set self.new.control.fuse) (is_burned self.old.control.fuse) (is_burned self.new.control.fuse)
+            (lets self.old.control.fuse) (lets self.new.control.fuse) self.old.control.burns self.new.control.burns result }
+
+        ensures answer { RefusedBy (read_answer self.old.control.fuse (next_fails self.old.control.fail_reads.items self.old.control.reads)) result }
+        ensures content { self.new.content ≡ self.old.content }
+        ensures control { self.new.control ≡ after_read self.old.control result }
+    {
+        self.control.settle_read()?;
+        Ok(self.content.bytes().len() as u64)
+    }
+
+    fn read_at(&mut self, at: u64, buf: &mut [u8]) -> Result<usize, DiskFail>
+        ensures within { IfOk result (λ n. n ≤ length buf.new) }
+        ensures value { Unit {0} → IfOk result (λ n. ReadAt self.old.content.bytes at n buf.old buf.new) }
+        ensures same { Same (λ _. Unit {0}) (λ m. m.content.bytes) (λ m. may_leave m.content) (λ m. moment m.content) (λ m. left_since m.content) self.old self.new }
+        ensures cause { HasCause self.old.control.faults self.new.control.faults result }
+        ensures fuse { SameFuse (is_set self.old.control.fuse) (is_set self.new.control.fuse) (is_burned self.old.control.fuse) (is_burned self.new.control.fuse)
+            (lets self.old.control.fuse) (lets self.new.control.fuse) self.old.control.burns self.new.control.burns result }
+
+        ensures memory { NoMemory result }
+        ensures untouched { OnErr result (buf.new ≡ buf.old) }
+        ensures answer { RefusedBy (read_answer self.old.control.fuse (next_fails self.old.control.fail_reads.items self.old.control.reads)) result }
+        ensures content { self.new.content ≡ self.old.content }
+        ensures control { self.new.control ≡ after_read self.old.control result }
+    {
+        self.control.settle_read()?;
+        Ok(give(self.content.bytes(), at, buf))
+    }
+
+    fn write_at(&mut self, at: u64, piece: &[u8]) -> Result<(), DiskFail>
+        requires within { Unit {0} → at ≤ length self.old.content.bytes }
+        requires ends { at + length piece.now < 2 ^ 63 }
+        ensures told { Unit {0} ↔ Unit {0} }
+        ensures wrote { Unit {0} → Wrote self.old.content.bytes at piece.now self.new.content.bytes result }
+        ensures crash { Unit {0} → Follows (Torn at (length piece.now)) (may_leave self.old.content) (may_leave self.new.content) }
+        ensures memory { Unit {0} → IsErrOf result DiskFail.Memory → (c : List ℕ) → may_leave self.new.content c → may_leave self.old.content c }
+        ensures time { Unit {0} → Elapses (moment self.old.content) (moment self.new.content) (left_since self.old.content) (left_since self.new.content) (may_leave self.new.content) }
+        ensures cause { HasCause self.old.control.faults self.new.control.faults result }
+        ensures fuse { Fused (is_set self.old.control.fuse) (is_set self.new.control.fuse) (is_burned self.old.control.fuse) (is_burned self.new.control.fuse)
+            (lets self.old.control.fuse) (lets self.new.control.fuse) self.old.control.burns self.new.control.burns result }
+
+        ensures answer { AnswersBy (fate_of self.old.control) result }
+        ensures content { WritesBy (fate_of self.old.control) at piece.now self.old.content self.new.content result }
+        ensures control { CountsBy (fate_of self.old.control) self.old.control self.new.control result }
+    {
+        if matches!(self.control.fate(), Fate::Passes | Fate::Burns) {
+            self.content.write(at as usize, piece)?;
+        }
+        self.control.settle()
+    }
+
+    fn sync(&mut self) -> Result<(), DiskFail>
+        ensures told { Unit {0} ↔ Unit {0} }
+        ensures bytes { Unit {0} → self.new.content.bytes ≡ self.old.content.bytes }
+        ensures durable { Unit {0} → OnOk result (Only self.old.content.bytes (may_leave self.new.content)) }
+        ensures crash { Unit {0} → (c : List ℕ) → may_leave self.new.content c → may_leave self.old.content c }
+        ensures time { Unit {0} → Elapses (moment self.old.content) (moment self.new.content) (left_since self.old.content) (left_since self.new.content) (may_leave self.new.content) }
+        ensures cause { HasCause self.old.control.faults self.new.control.faults result }
+        ensures memory { NoMemory result }
+        ensures fuse { Fused (is_set self.old.control.fuse) (is_set self.new.control.fuse) (is_burned self.old.control.fuse) (is_burned self.new.control.fuse)
+            (lets self.old.control.fuse) (lets self.new.control.fuse) self.old.control.burns self.new.control.burns result }
+
+        ensures answer { result ≡ answer_of (fate_of self.old.control) }
+        ensures content { self.new.content ≡ synced_by (fate_of self.old.control) self.old.content }
+        ensures control { self.new.control ≡ settled (fate_of self.old.control) self.old.control }
+    {
+        if matches!(self.control.fate(), Fate::Passes) {
+            self.content.sync();
+        }
+        self.control.settle()
+    }
+}
+
+impl CrashDisk for MemDisk {
+    fn fuse(&mut self, calls: u32, choice: u64)
+        ensures same { Same (λ _. Unit {0}) (λ m. m.content.bytes) (λ m. may_leave m.content) (λ m. moment m.content) (λ m. left_since m.content) self.old self.new }
+        ensures set { (is_set self.new.control.fuse ≡ true) × (is_burned self.new.control.fuse ≡ false) }
+        ensures left { lets self.new.control.fuse ≡ calls }
+        ensures faults { self.new.control.faults ≡ self.old.control.faults }
+        ensures burns { self.new.control.burns ≡ self.old.control.burns }
+
+        ensures content { self.new.content ≡ self.old.content }
+        ensures control { self.new.control ≡ record self.old.control { fuse = Fuse.Set calls choice } }
+    {
+        self.control.set_fuse(Fuse::Set {
+            left: calls,
+            choice,
+        });
+    }
+
+    fn power_cut(&mut self)
+        ensures left { may_leave self.old.content self.new.content.bytes }
+        ensures settled { Only self.new.content.bytes (may_leave self.new.content) }
+        ensures fuse { (is_set self.new.control.fuse ≡ false) × (is_burned self.new.control.fuse ≡ false) }
+        ensures faults { self.new.control.faults ≡ self.old.control.faults }
+        ensures burns { self.new.control.burns ≡ self.old.control.burns }
+
+        ensures content { self.new.content ≡ record { bytes = left_by (choice_of self.old.control.fuse) self.old.content.calls self.old.content.bytes; calls = [] } }
+        ensures control { self.new.control ≡ record self.old.control { fuse = Fuse.Unset } }
+    {
+        self.content.cut(self.control.choice());
+        self.control.set_fuse(Fuse::Unset);
+    }
+
+    ghost tells = { λ _. tt };
+}
+
+/// Copies what stands from an offset on into the buffer, as far as it goes.
+fn give(bytes: &[u8], at: u64, buf: &mut [u8]) -> usize
+    ensures { ReadAt bytes.now at result buf.old buf.new }
+{
+    if at >= bytes.len() as u64 {
+        return 0;
+    }
+    let (_, tail) = bytes.split_at(at as usize);
+    let n = tail.len().min(buf.len());
+    let (front, _) = tail.split_at(n);
+    let (room, _) = buf.split_at_mut(n);
+    room.copy_from_slice(front);
+    n
+}

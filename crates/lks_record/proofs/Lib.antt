@@ -1,0 +1,5 @@
+pub mod Loops
+pub mod Steps
+pub mod Parts
+pub mod Headings
+pub mod Laws

@@ -1,0 +1,15 @@
+-- How a field's fault is told of a batch.
+use Rattle.std.specs.Prelude.{Result}
+use Rattle.lks_field.specs.declared.fault.FieldFault.{FieldFault}
+use Rattle.lks_field.specs.declared.fault.FieldFault.TheVariants as fields
+use Rattle.lks_field.specs.Reading.{told}
+use Rattle.lks_record.specs.declared.fault.RecFault.{RecFault}
+use Rattle.lks_record.specs.declared.fault.RecFault.TheVariants.{Short, Limit, Trailing}
+
+abbrev pub told_as : FieldFault → RecFault
+told_as fields.Short = Short
+told_as fields.Value = Limit
+told_as fields.Long = Trailing
+
+abbrev pub field : {X : Type 0} → Result X FieldFault → Result X RecFault
+field read = told told_as read

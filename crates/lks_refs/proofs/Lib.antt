@@ -1,0 +1,4 @@
+pub mod Candidates
+pub mod Filling
+pub mod Members
+pub mod Shares

@@ -1,0 +1,34 @@
+-- The reference list of a peer, and what an agreed poll makes of it.
+use Rattle.std.specs.Prelude.{◌≢◌, ℕ, Bool, not, ◌||◌, ◌==◌, if◌then◌else◌, List, [], ◌∷◌, ◌++◌, filter, All, AllPairs}
+use Rattle.std.specs.List.{list_any}
+
+-- what contracts see: whose lists these are, the reference list, and the friends
+pub record Lists : Type 0 where
+  pub own : ℕ
+  pub list : List ℕ
+  pub friends : List ℕ
+
+abbrev pub has : List ℕ → ℕ → Bool
+has list p = list_any (λ q. q == p) list
+
+-- a list without these peers
+abbrev pub without : List ℕ → List ℕ → List ℕ
+without out list = filter (λ p. not (has out p)) list
+
+-- a peer joins the list of `own` at its end, unless it is there or is `own` itself
+abbrev pub joined : ℕ → List ℕ → ℕ → List ℕ
+joined own list p = if p == own || has list p then list else list ++ p ∷ []
+
+-- peers join one after another
+abbrev pub all_joined : ℕ → List ℕ → List ℕ → List ℕ
+all_joined own list [] = list
+all_joined own list (p ∷ ps) = all_joined own (joined own list p) ps
+
+-- the reference list after an agreed poll: without those against, then with those who join and those who were picked
+unfoldable pub list_after : ℕ → List ℕ → List ℕ → List ℕ → List ℕ → List ℕ
+list_after own list against joining picked = all_joined own (all_joined own (without against list) joining) picked
+
+-- a list fit for `own`: it names no peer twice, and not `own`
+pub record IsReferenceList (own : ℕ) (list : List ℕ) : Type 0 where
+  pub once : AllPairs ◌≢◌ list
+  pub others : All (λ p. p ≢ own) list
