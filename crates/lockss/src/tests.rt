@@ -1,7 +1,7 @@
 //! Whole runs: a script goes in, and a status and a report come out.
 
 use super::*;
-use lks_base::{Input, Judged, Message, Outgoing, Record, Seq};
+use lks_base::{Input, Judged, Message, Record, Seq};
 use lks_outside::{MemSink, MemSource};
 use lks_peer::Peer;
 use lks_script::read_script;
@@ -589,14 +589,11 @@ fn too_long(rt: HostRuntime) -> Result<(), Fail> {
 }
 
 // Poll 1, its nonce, and the poller's proof of effort, of one byte.
-fn is_proof(sent: &[Outgoing]) -> bool {
-    match sent {
-        [Outgoing { to: 2, bytes }] => match bytes.as_slice() {
-            [1, 3, 0, 0, 0, 1, nonce @ .., 1, 1] => nonce == NONCE.as_slice(),
-            _ => false,
-        },
-        _ => false,
-    }
+fn proof(alloc: Global) -> Result<Vec<u8>, Fail> {
+    let mut bytes = Vec::from_slice(alloc, &[1, 3, 0, 0, 0, 1])?;
+    bytes.extend_from_slice(&NONCE)?;
+    bytes.extend_from_slice(&[1, 1])?;
+    Ok(bytes)
 }
 
 #[test]
@@ -631,6 +628,10 @@ fn proof_after_challenge(rt: HostRuntime) -> Result<(), Fail> {
     };
     let answer = peer.step(0, &agreed).ok().ok_or("memory")?;
     assert!(rt; answer.records.as_slice().is_empty());
-    assert!(rt; is_proof(answer.sends.as_slice()));
+    let [outgoing] = answer.sends.as_slice() else {
+        return Err("one message".into());
+    };
+    assert_eq!(rt; outgoing.to, 2);
+    assert_eq!(rt; outgoing.bytes.as_slice(), proof(alloc)?.as_slice());
     Ok(())
 }
