@@ -1,2 +1,3 @@
 pub mod FirstBlocks
 pub mod PlanLaws
+pub mod PlanBounds

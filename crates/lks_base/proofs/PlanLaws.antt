@@ -12,20 +12,20 @@ use Rattle.lks_base.specs.declared.plans.Plan.{Plan}
 use Rattle.lks_base.specs.declared.plans.PlanFault.{PlanFault}
 use Rattle.lks_base.specs.declared.plans.PlanFault.TheVariants.{Bounds, RulesOrder, Repeat}
 
-no_first : (a b : Option PlanFault) → (a ▹ b) ≡ None → a ≡ None
+pub no_first : (a b : Option PlanFault) → (a ▹ b) ≡ None → a ≡ None
 no_first None b e = refl
 no_first (Some fault) b e = e
 
-no_second : (a b : Option PlanFault) → (a ▹ b) ≡ None → b ≡ None
+pub no_second : (a b : Option PlanFault) → (a ▹ b) ≡ None → b ≡ None
 no_second None b e = e
 no_second (Some fault) b e = absurd cc
 
-stands : (test : Bool) (fault : PlanFault) → unless test fault ≡ None → test ≡ true
+pub stands : (test : Bool) (fault : PlanFault) → unless test fault ≡ None → test ≡ true
 stands true fault e = refl
 stands false fault e = absurd cc
 
 -- where a rule fails of no element, what it asks of each holds of all
-all_of : {X : Type 0} (rule : List X → X → Option PlanFault) (test : X → Bool) → ((before : List X) (x : X) → rule before x ≡ None → test x ≡ true) → (before xs : List X) → each rule before xs ≡ None → list_all test xs ≡ true
+pub all_of : {X : Type 0} (rule : List X → X → Option PlanFault) (test : X → Bool) → ((before : List X) (x : X) → rule before x ≡ None → test x ≡ true) → (before xs : List X) → each rule before xs ≡ None → list_all test xs ≡ true
 all_of rule test h before [] e = refl
 all_of rule test h before (x ∷ xs) e =
     ap (λ b. b && list_all test xs) (h before x (no_first (rule before x) (each rule (before ++ x ∷ []) xs) e))
@@ -52,7 +52,7 @@ small_copy : (aus : List AuPlan) → list_all is_small_au aus ≡ true → (befo
 unfolding copy_fault
 small_copy aus small before copy e = counted_small aus copy.au (length copy.blocks) (stands _ _ (no_first _ _ e)) small
 
-fifth : (a b c d e : Option PlanFault) → (a ▹ b ▹ c ▹ d ▹ e) ≡ None → e ≡ None
+pub fifth : (a b c d e : Option PlanFault) → (a ▹ b ▹ c ▹ d ▹ e) ≡ None → e ≡ None
 fifth a b c d e h = no_second d e (no_second c (d ▹ e) (no_second b (c ▹ d ▹ e) (no_second a (b ▹ c ▹ d ▹ e) h)))
 
 small_peer : (aus : List AuPlan) (peers : List PeerPlan) → list_all is_small_au aus ≡ true → (before : List PeerPlan) (p : PeerPlan) → peer_fault aus peers before p ≡ None → is_small_peer p ≡ true
@@ -71,7 +71,7 @@ aus_and_peers a b c d e f g h none =
     let from_e = fifth a b c d (e ▹ f ▹ g ▹ h) none in
     (no_first e (f ▹ g ▹ h) from_e, no_first g h (no_second f (g ▹ h) (no_second e (f ▹ g ▹ h) from_e)))
 
-lists_stand : (plan : Plan) → plan_fault plan ≡ None → (each au_fault [] plan.aus ≡ None) × (each (peer_fault plan.aus plan.peers) [] plan.peers ≡ None)
+pub lists_stand : (plan : Plan) → plan_fault plan ≡ None → (each au_fault [] plan.aus ≡ None) × (each (peer_fault plan.aus plan.peers) [] plan.peers ≡ None)
 unfolding plan_fault
 lists_stand plan good =
     aus_and_peers (unless (are_bounded plan.rules) Bounds) (unless (are_ordered plan.rules) RulesOrder) (unless (nat_le plan.turns 4096) Bounds)

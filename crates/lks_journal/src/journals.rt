@@ -1,5 +1,5 @@
 //! Journals.
-ghost use Rattle.std.specs.Prelude.{◌≡◌, ◌↔◌, ◌+◌, ◌-◌, ◌<◌, ◌≤◌, ◌∷◌, ◌++◌, [], ℕ, List, length, true, false, IfOk, OnOk, IsErrOf};
+ghost use Rattle.std.specs.Prelude.{◌≡◌, ◌↔◌, ◌+◌, ◌-◌, ◌<◌, ◌≤◌, ◌∷◌, ◌++◌, [], ℕ, List, length, true, false, IfOk, OnOk, OnErr, IsErrOf};
 ghost use Rattle.lks_disk.specs.Device.{Only, LeavesOnly, Same};
 ghost use Rattle.lks_journal.specs.Faults.{IsOfDisk, HasCause, FuseRun};
 ghost use Rattle.lks_journal.specs.Frames.{frames, HoldsBodies, HoldsBeforeOrAfter, IsDamagedAt};
@@ -31,6 +31,7 @@ impl<D: Disk> Journal<D> {
         requires empty { D.told disk → D.seen disk ≡ [] }
         requires settled { D.told disk → Only [] (D.may_leave disk) }
         ensures ok { D.told disk → IfOk result (λ journal. IsSettled D.seen D.may_leave journal [] × (D.seen journal.disk ≡ 0 ∷ [])) }
+        ensures end { IfOk result (λ journal. journal.end ≡ 0) }
         ensures told { D.told disk ↔ D.told (disk_made result) }
         ensures memory { D.told disk → IsErrOf (plain result) JournalFault.Memory →
             (D.seen (disk_made result) ≡ []) × Only [] (D.may_leave (disk_made result)) }
@@ -79,6 +80,8 @@ impl<D: Disk> Journal<D> {
         ensures told { D.told self.old.disk ↔ D.told self.new.disk }
         ensures full { IsErrOf result JournalFault.Full ↔ (MOST < self.old.end + 6 + length body.now) }
         ensures full_same { IsErrOf result JournalFault.Full → self.new ≡ self.old }
+        ensures end { OnOk result (self.new.end ≡ self.old.end + 5 + length body.now) }
+        ensures end_err { OnErr result (self.new.end ≡ self.old.end) }
         ensures ok { D.told self.old.disk → (bodies : List (List ℕ)) → IsSettled D.seen D.may_leave self.old bodies →
             OnOk result (IsSettled D.seen D.may_leave self.new (bodies ++ body.now ∷ [])) }
         ensures memory { D.told self.old.disk → (bodies : List (List ℕ)) → IsSettled D.seen D.may_leave self.old bodies →

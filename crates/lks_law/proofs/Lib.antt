@@ -1,3 +1,4 @@
+pub mod Batches
 pub mod Grown
 pub mod Histories
 pub mod Kept

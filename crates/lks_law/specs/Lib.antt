@@ -1,3 +1,4 @@
+pub mod Batches
 pub mod Due
 pub mod Entries
 pub mod Facts

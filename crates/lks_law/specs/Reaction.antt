@@ -17,7 +17,7 @@ use Rattle.lks_base.specs.declared.records.Record.{Record}
 use Rattle.lks_base.specs.declared.records.Record.TheVariants as records
 use Rattle.lks_hash.specs.Hashes.{nonce_from}
 use Rattle.lks_law.specs.Journal.{Opening, Request, deposit_of, contents_of, opening_of, openings, opens_running, opens_open, opens_lately, is_voting, is_running, is_shut, is_widened, has_nominated, has_voted, unanswered}
-use Rattle.lks_law.specs.Polls.{Station, limits_in_force, limits_of, votes, inner_votes, is_invited, verdict_in, candidate, restores}
+use Rattle.lks_law.specs.Polls.{Station, inner_circle, limits_in_force, limits_of, votes, inner_votes, is_invited, verdict_in, candidate, restores}
 use Rattle.lks_message.specs.Spelling.{spelling}
 use Rattle.lks_tally.specs.declared.ballots.Verdict.{Verdict}
 use Rattle.lks_tally.specs.declared.ballots.Verdict.TheVariants as verdict
@@ -30,7 +30,7 @@ abbrev pub letter : Message → ℕ → Outgoing
 letter m to = record { to = to; bytes = spelling m }
 
 -- A poll is opened on a held AU with no running poll on it, while fewer than 8 polls run, and not within `pace` ticks of
--- the last one. Its inner circle is the whole reference list, each member of which is invited.
+-- the last one. Its inner circle is sampled from the reference list, and each member is invited.
 
 unfoldable pub may_open : Station → List Record → ℕ → ℕ → Bool
 may_open own journal tick au =
@@ -40,8 +40,8 @@ may_open own journal tick au =
 abbrev pub opened : Station → List Record → ℕ → ℕ → ℕ → Reaction
 opened own journal tick au n =
     record {
-      records = records.PollOpened n au (nonce_from own.seed n) own.refs tick (Some (limits_in_force own.rules journal)) own.hash ∷ [];
-      sends = map (letter (message.Poll n au)) own.refs;
+      records = records.PollOpened n au (nonce_from own.seed n) (inner_circle own n) tick (Some (limits_in_force own.rules journal)) own.hash ∷ [];
+      sends = map (letter (message.Poll n au)) (inner_circle own n);
     }
 
 unfoldable pub on_open : Station → List Record → ℕ → ℕ → Reaction

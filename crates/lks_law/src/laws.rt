@@ -4,6 +4,7 @@ ghost use Rattle.std.specs.Prelude.{◌≡◌, ◌≢◌, ℕ, true, Some, List,
 ghost use Rattle.lks_base.specs.declared.entries.Entry.{Entry};
 ghost use Rattle.lks_base.specs.declared.events.Event.{Event};
 ghost use Rattle.lks_base.specs.declared.plans.Plan.{Plan};
+ghost use Rattle.lks_law.specs.Batches.{together, journal_at, batches_at};
 ghost use Rattle.lks_law.specs.Entries.{entries};
 ghost use Rattle.lks_law.specs.Facts.{HaveJournals, HasPolls};
 ghost use Rattle.lks_law.specs.Journal.{Opening, opening_of};
@@ -22,6 +23,12 @@ pub fn every_event_has_its_entry()
 /// what the rules add for what it did and was told, at ticks that don't fall.
 pub fn every_journal_is_its_peers_own()
     ensures { (plan : Plan) (history : List Event) → HaveJournals plan (world plan history) }
+{}
+
+/// The journal of an honest peer is its batches one after another: one for each deposit, and one for each event
+/// that added records to it.
+pub fn every_journal_is_its_batches()
+    ensures { (plan : Plan) (history : List Event) (place : ℕ) → together (batches_at place plan history) ≡ journal_at place (world plan history) }
 {}
 
 /// At most one poll of an honest peer runs on an AU. A poll that runs and is shut has its quorum, and so has each

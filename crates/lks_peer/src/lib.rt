@@ -13,4 +13,4 @@ mod stations;
 mod steps;
 
 pub use lks_base::{Input, Outgoing, Reaction};
-pub use peers::Peer;
+pub use peers::{Peer, find_honest};

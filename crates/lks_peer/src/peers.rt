@@ -46,7 +46,8 @@ impl Model for Peer {
     ghost invariant = { λ a. IsSound a.own a.list.items };
 }
 
-fn find_honest(peers: &[PeerPlan], id: PeerId) -> Option<&PeerPlan>
+/// The honest peer of this number.
+pub fn find_honest(peers: &[PeerPlan], id: PeerId) -> Option<&PeerPlan>
     ensures { option_copied result ≡ find (is_honest_at id) peers.now }
 {
     peers.iter().find(|p| p.id == id && !p.corrupt)

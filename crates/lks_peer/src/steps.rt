@@ -1,7 +1,7 @@
 //! What a peer adds to its journal and sends, one function for each step of its own.
 
 ghost use Rattle.std.specs.Prelude.{◌≡◌, ◌≤◌, ◌<◌, true, IfOk, length};
-ghost use Rattle.lks_law.specs.Polls.{verdict_in};
+ghost use Rattle.lks_law.specs.Polls.{inner_circle, verdict_in};
 ghost use Rattle.lks_law.specs.Reaction.{may_open, opened, on_open, shut, shut_inquorate, on_shut, may_tally, closed, asked, tallied, on_tally, reaction};
 ghost use Rattle.lks_peer.specs.Small.{are_small, most_records};
 
@@ -14,7 +14,8 @@ use crate::letters::{give_receipts, invite, write};
 use crate::polls::{find_candidate, judge, lacks_quorum};
 use crate::reactions::{adding, no_reaction, no_sends};
 use crate::stations::Own;
-use lks_base::{AuId, Input, Message, OutOfMemory, Outcome, PeerId, Reaction, Record, Seq};
+use lks_base::{AuId, Ids, Input, Message, OutOfMemory, Outcome, PeerId, Reaction, Record, Seq};
+use lks_draw::Draws;
 use lks_hash::{Steps, nonce_of};
 use lks_tally::Verdict;
 use std::alloc::Global;
@@ -22,6 +23,9 @@ use std::sync::ledger::Ledger;
 
 /// The most polls of a peer that run at once.
 const MOST_POLLS: usize = 8;
+
+/// The label of the draws of inner circles.
+const INNER_CIRCLE: u8 = 1;
 
 #[tactic(auto, unfolding(lks_law::specs::Reaction::may_open))]
 fn may_be_opened(own: &Own, journal: &[Record], tick: u32, au: AuId) -> bool
@@ -31,6 +35,22 @@ fn may_be_opened(own: &Own, journal: &[Record], tick: u32, au: AuId) -> bool
         && !audits(journal, au)
         && count_running(journal) < MOST_POLLS
         && !audited_lately(journal, au, tick, own.rules.pace)
+}
+
+/// The inner circle of a poll. A reference list that no plan has counts as one that is refused memory.
+#[tactic(auto, unfolding(lks_law::specs::Polls::inner_circle))]
+fn sample_inner(alloc: Global, own: &Own, number: u32) -> Result<Ids, OutOfMemory>
+    ensures { IfOk result (λ inner. inner ≡ inner_circle own.now number) }
+{
+    let refs = own.refs.as_slice();
+    if refs.len() > u32::MAX as usize {
+        return Err(OutOfMemory);
+    }
+    let mut draws = Draws::new(&own.seed, INNER_CIRCLE, number);
+    match draws.pick(alloc, refs, own.rules.inner as usize) {
+        Ok(members) => Ok(Seq::from_vec(members)),
+        Err(_) => Err(OutOfMemory),
+    }
 }
 
 fn open_as(
@@ -43,8 +63,8 @@ fn open_as(
 ) -> Result<Reaction, OutOfMemory>
     ensures { IfOk result (λ r. r ≡ opened own.now journal.now tick au number) }
 {
-    let inner = own.refs.clone()?;
-    let sends = invite(alloc, number, au, own.refs.as_slice())?;
+    let inner = sample_inner(alloc, own, number)?;
+    let sends = invite(alloc, number, au, inner.as_slice())?;
     let item = Record::PollOpened {
         number,
         au,

@@ -3,3 +3,4 @@ pub mod Steps
 pub mod Parts
 pub mod Headings
 pub mod Laws
+pub mod Sizes

@@ -3,6 +3,7 @@
 ghost use Rattle.std.specs.Prelude.{◌≡◌, ◌≤◌, ◌++◌, length, OnOk, IfOk, All};
 ghost use Rattle.lks_record.specs.Spelling.{opening_form, joined_form, committed_form, spelling, batch_spelling, IsWithin, IsSized, IsCounted};
 ghost use Rattle.lks_record.specs.Reading.{decode_of};
+ghost use Rattle.lks_record.specs.Sizes.{most_batch_bytes};
 
 use crate::writing::{
     Written, put_blocks, put_content, put_flag, put_hashes, put_kind, put_limits,
@@ -360,6 +361,8 @@ pub fn encode_batch(alloc: Global, list: &[Record]) -> Result<Vec<u8>, OutOfMemo
     ensures spelled { IfOk result (λ v. v.items ≡ batch_spelling list.now) }
     // The batch is read again from it.
     ensures read { IfOk result (λ v. decode_of v.items ≡ Ok list.now) }
+    // It isn't longer than its records may be.
+    ensures short { IfOk result (λ v. length v.items ≤ most_batch_bytes list.now) }
 {
     let mut out = Vec::new(alloc);
     match put_batch(&mut out, list) {

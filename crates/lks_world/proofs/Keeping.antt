@@ -1,6 +1,6 @@
 -- How a history grows, up to its limit.
-use Rattle.std.proofs.Common.{◌≡◌, ◌-◌, ◌≤◌, ◌<◌, ◌∙◌, ap, sym, ℕ, suc, List, [], ◌∷◌, ◌++◌, length, refl, arith}
-use Rattle.std.specs.Prelude.{Some, None, map, filter}
+use Rattle.std.proofs.Common.{◌≡◌, ◌-◌, ◌≤◌, ◌<◌, ◌∙◌, ap, sym, subst, ℕ, suc, Bool, List, [], ◌∷◌, ◌++◌, length, refl, arith}
+use Rattle.std.specs.Prelude.{Some, None, map, filter, slice_get}
 use Rattle.std.specs.Option.{option_map_or}
 use Rattle.std.proofs.lemmas.Bool.{lt-ltb, le-ltb}
 use Rattle.std.proofs.lemmas.List.{length-map}
@@ -9,15 +9,18 @@ use Rattle.lks_base.specs.declared.events.Event.{Event}
 use Rattle.lks_base.specs.declared.events.Event.TheVariants.{Step}
 use Rattle.lks_base.specs.declared.events.PeerStep.{PeerStep}
 use Rattle.lks_base.specs.declared.plans.Plan.{Plan}
+use Rattle.lks_host.specs.Hosted.{StandsFor}
+use Rattle.lks_host.specs.declared.hosts.Host.{Host}
+use Rattle.lks_law.specs.Batches.{alone, batches_at}
 use Rattle.lks_law.specs.Due.{is_pending, pending as waiting, ready, first_of, next_to_settle}
 use Rattle.lks_law.specs.Entries.{entries}
 use Rattle.lks_law.specs.World.{Standing, world, start, standing_of, is_honest}
+use Rattle.lks_world.proofs.HostLaws.{journal_there}
+use Rattle.lks_world.specs.Begun.{HaveBegun}
+use Rattle.lks_world.specs.Hosts.{peers_of, AreReady, IsHostAt}
 use Rattle.lks_world.specs.Follows.{most_events, kept, settled_within, settled}
 use Rattle.lks_world.specs.declared.states.State.{State}
 use Rattle.lks_world.specs.States.{world_in, events_in, IsStateOf, Becomes}
-
-count_events : (s : State) → length (events_in s) ≡ length s.history.items
-count_events s = length-map s.history.items (λ (e : Entry). e.event)
 
 kept_room : (history : List Event) (e : Event) → length history < 4096 → kept history e ≡ history ++ e ∷ []
 unfolding most_events
@@ -26,13 +29,6 @@ kept_room history e room = rw (lt-ltb (length history) 4096 room) refl
 kept_full : (history : List Event) (e : Event) → 4096 ≤ length history → kept history e ≡ history
 unfolding most_events
 kept_full history e full = rw (le-ltb (length history) 4096 full) refl
-
-pub room_kept : (plan : Plan) (s t : State) (e : Event) → length s.history.items < 4096 → Becomes plan (events_in s ++ e ∷ []) t → Becomes plan (kept (events_in s) e) t
-room_kept plan s t e room b =
-    record { state = b.state; events = b.events ∙ sym (kept_room (events_in s) e (omega (arith, count_events s))) }
-
-pub full_kept : (plan : Plan) (s : State) (e : Event) → 4096 ≤ length s.history.items → IsStateOf plan s → Becomes plan (kept (events_in s) e) s
-full_kept plan s e full is = record { state = is; events = sym (kept_full (events_in s) e (omega (arith, count_events s))) }
 
 begun_world : (plan : Plan) (peers : List Standing) → peers ≡ map (standing_of plan) (filter is_honest plan.peers) → record { peers = peers; bag = []; tick = 0 } ≡ world plan []
 unfolding world start
@@ -46,51 +42,88 @@ begun_pending : (plan : Plan) → [] ≡ waiting plan []
 unfolding waiting world start
 begun_pending plan = refl
 
--- the state with which a world begins
-pub begun : (plan : Plan) (s : State) → s.peers.items ≡ map (standing_of plan) (filter is_honest plan.peers) → s.bag.items ≡ [] → s.pending.items ≡ [] → s.history.items ≡ [] → s.tick ≡ 0 → IsStateOf plan s
-begun plan s peers bag pending history tick =
-    let events : events_in s ≡ [] = ap (map (λ (e : Entry). e.event)) history in
-    record {
-      world = (λ i. record { peers = s.peers.items; bag = bag i; tick = tick i }) ∙ begun_world plan s.peers.items peers ∙ ap (world plan) (sym events);
-      entries = history ∙ begun_entries plan ∙ ap (entries plan) (sym events);
-      pending = pending ∙ begun_pending plan ∙ ap (waiting plan) (sym events);
-      fresh = λ i le. ap (λ h. is_pending h i) events;
-    }
+module _ {D : Type 0} (seen : D → List ℕ) (may_leave : D → List ℕ → Type 0) (fused : D → Bool) where
+  count_events : (s : State D) → length (events_in s) ≡ length s.history.items
+  count_events s = length-map s.history.items (λ (e : Entry). e.event)
 
--- Settling: what is left to do from this state is what was to be done from the first.
-pub record Settles (plan : Plan) (first now : State) (left : ℕ) : Type 0 where
-  pub state : IsStateOf plan now
-  pub rest : settled_within left plan (events_in now) ≡ settled plan (events_in first)
+  pub room_kept : (plan : Plan) (s t : State D) (e : Event) → length s.history.items < 4096 → Becomes seen may_leave fused plan (events_in s ++ e ∷ []) t → Becomes seen may_leave fused plan (kept (events_in s) e) t
+  room_kept plan s t e room b =
+      record { state = b.state; events = b.events ∙ sym (kept_room (events_in s) e (omega (arith, count_events s))) }
 
-next_is : (plan : Plan) (s : State) → IsStateOf plan s → next_to_settle plan (events_in s) ≡ first_of (world_in s) s.pending.items (ready (world_in s))
-unfolding next_to_settle
-next_is plan s is = let w = sym is.world in let p = sym is.pending in λ i. first_of (w i) (p i) (ready (w i))
+  pub full_kept : (plan : Plan) (s : State D) (e : Event) → 4096 ≤ length s.history.items → IsStateOf seen may_leave fused plan s → Becomes seen may_leave fused plan (kept (events_in s) e) s
+  full_kept plan s e full is = record { state = is; events = sym (kept_full (events_in s) e (omega (arith, count_events s))) }
 
-pub settles_first : (plan : Plan) (s : State) (left : ℕ) → IsStateOf plan s → left ≡ 4096 - length s.history.items → Settles plan s s left
-unfolding settled most_events
-settles_first plan s left is e =
-    record { state = is; rest = ap (λ n. settled_within n plan (events_in s)) (e ∙ ap (λ n. 4096 - n) (sym (count_events s))) }
+  -- the state with which a world begins
+  pub begun : (plan : Plan) (s : State D) → peers_of s.hosts.items ≡ map (standing_of plan) (filter is_honest plan.peers) → s.bag.items ≡ [] → s.pending.items ≡ [] → s.history.items ≡ [] → s.tick ≡ 0
+      → ((place : ℕ) (h : Host D) → slice_get s.hosts.items place ≡ Some h → IsHostAt seen may_leave fused (batches_at place plan []) 0 h) → IsStateOf seen may_leave fused plan s
+  begun plan s peers bag pending history tick hosts =
+      let events : events_in s ≡ [] = ap (map (λ (e : Entry). e.event)) history in
+      record {
+        world = (λ i. record { peers = peers_of s.hosts.items; bag = bag i; tick = tick i }) ∙ begun_world plan (peers_of s.hosts.items) peers ∙ ap (world plan) (sym events);
+        entries = history ∙ begun_entries plan ∙ ap (entries plan) (sym events);
+        pending = pending ∙ begun_pending plan ∙ ap (waiting plan) (sym events);
+        fresh = λ i le. ap (λ h. is_pending h i) events;
+        hosts = λ place h at.
+            subst (λ (n : ℕ). IsHostAt seen may_leave fused (batches_at place plan (events_in s)) n h) (sym (ap length history))
+            (subst (λ es. IsHostAt seen may_leave fused (batches_at place plan es) 0 h) (sym events) (hosts place h at));
+      }
 
-pub settles_on : (plan : Plan) (first s t : State) (left m : ℕ) (p : PeerStep) → Settles plan first s left → left ≡ suc m → Some (Step p) ≡ first_of (world_in s) s.pending.items (ready (world_in s)) → Becomes plan (events_in s ++ Step p ∷ []) t → Settles plan first t m
-settles_on plan first s t left m p so_far e next b =
-    record {
-      state = b.state;
-      rest =
-          ap (settled_within m plan) b.events
-          ∙ ap (λ o. option_map_or (λ d. settled_within m plan (events_in s ++ d ∷ [])) o (events_in s)) (next ∙ sym (next_is plan s so_far.state))
-          ∙ ap (λ n. settled_within n plan (events_in s)) (sym e)
-          ∙ so_far.rest;
-    }
+  begun_journal : (plan : Plan) (hosts : List (Host D)) (place : ℕ) (h : Host D) → peers_of hosts ≡ map (standing_of plan) (filter is_honest plan.peers) → slice_get hosts place ≡ Some h → batches_at place plan [] ≡ map alone h.peer.journal
+  unfolding batches_at start
+  begun_journal plan hosts place h peers at = ap (map alone) (journal_there (start plan) hosts place h peers at)
 
-pub settles_none : (plan : Plan) (first s : State) (left m : ℕ) → Settles plan first s left → left ≡ suc m → None ≡ first_of (world_in s) s.pending.items (ready (world_in s)) → Becomes plan (settled plan (events_in first)) s
-settles_none plan first s left m so_far e next =
-    record {
-      state = so_far.state;
-      events =
-          ap (λ o. option_map_or (λ d. settled_within m plan (events_in s ++ d ∷ [])) o (events_in s)) (next ∙ sym (next_is plan s so_far.state))
-          ∙ ap (λ n. settled_within n plan (events_in s)) (sym e) ∙ so_far.rest;
-    }
+  -- a world begins with the batches of its deposits
+  pub begun_host : (plan : Plan) (hosts : List (Host D)) → peers_of hosts ≡ map (standing_of plan) (filter is_honest plan.peers) → HaveBegun seen may_leave fused hosts
+      → (place : ℕ) (h : Host D) → slice_get hosts place ≡ Some h → IsHostAt seen may_leave fused (batches_at place plan []) 0 h
+  begun_host plan hosts peers begun place h at =
+      let begins = begun place h at in
+      record {
+        stands = subst (StandsFor seen may_leave h) (sym (begun_journal plan hosts place h peers at)) begins.stands;
+        whole = begins.whole;
+        room = omega (arith, begins.room);
+        unfused = begins.unfused;
+      }
 
-pub settles_end : (plan : Plan) (first s : State) (left : ℕ) → Settles plan first s left → left ≡ 0 → Becomes plan (settled plan (events_in first)) s
-settles_end plan first s left so_far e =
-    record { state = so_far.state; events = ap (λ n. settled_within n plan (events_in s)) (sym e) ∙ so_far.rest }
+  -- while there is room for an event, each host can take a step
+  pub can_step : (plan : Plan) (s : State D) → IsStateOf seen may_leave fused plan s → length s.history.items < 4096 → AreReady seen may_leave fused s.hosts.items
+  can_step plan s is room place h at =
+      let host = is.hosts place h at in
+      record { whole = host.whole; room = omega (arith, host.room, room); unfused = host.unfused; batches = batches_at place plan (events_in s); stands = host.stands }
+
+  -- Settling: what is left to do from this state is what was to be done from the first.
+  pub record Settles (plan : Plan) (first now : State D) (left : ℕ) : Type 0 where
+    pub state : IsStateOf seen may_leave fused plan now
+    pub rest : settled_within left plan (events_in now) ≡ settled plan (events_in first)
+
+  next_is : (plan : Plan) (s : State D) → IsStateOf seen may_leave fused plan s → next_to_settle plan (events_in s) ≡ first_of (world_in s) s.pending.items (ready (world_in s))
+  unfolding next_to_settle
+  next_is plan s is = let w = sym is.world in let p = sym is.pending in λ i. first_of (w i) (p i) (ready (w i))
+
+  pub settles_first : (plan : Plan) (s : State D) (left : ℕ) → IsStateOf seen may_leave fused plan s → left ≡ 4096 - length s.history.items → Settles plan s s left
+  unfolding settled most_events
+  settles_first plan s left is e =
+      record { state = is; rest = ap (λ n. settled_within n plan (events_in s)) (e ∙ ap (λ n. 4096 - n) (sym (count_events s))) }
+
+  pub settles_on : (plan : Plan) (first s t : State D) (left m : ℕ) (p : PeerStep) → Settles plan first s left → left ≡ suc m → Some (Step p) ≡ first_of (world_in s) s.pending.items (ready (world_in s)) → Becomes seen may_leave fused plan (events_in s ++ Step p ∷ []) t → Settles plan first t m
+  settles_on plan first s t left m p so_far e next b =
+      record {
+        state = b.state;
+        rest =
+            ap (settled_within m plan) b.events
+            ∙ ap (λ o. option_map_or (λ d. settled_within m plan (events_in s ++ d ∷ [])) o (events_in s)) (next ∙ sym (next_is plan s so_far.state))
+            ∙ ap (λ n. settled_within n plan (events_in s)) (sym e)
+            ∙ so_far.rest;
+      }
+
+  pub settles_none : (plan : Plan) (first s : State D) (left m : ℕ) → Settles plan first s left → left ≡ suc m → None ≡ first_of (world_in s) s.pending.items (ready (world_in s)) → Becomes seen may_leave fused plan (settled plan (events_in first)) s
+  settles_none plan first s left m so_far e next =
+      record {
+        state = so_far.state;
+        events =
+            ap (λ o. option_map_or (λ d. settled_within m plan (events_in s ++ d ∷ [])) o (events_in s)) (next ∙ sym (next_is plan s so_far.state))
+            ∙ ap (λ n. settled_within n plan (events_in s)) (sym e) ∙ so_far.rest;
+      }
+
+  pub settles_end : (plan : Plan) (first s : State D) (left : ℕ) → Settles plan first s left → left ≡ 0 → Becomes seen may_leave fused plan (settled plan (events_in first)) s
+  settles_end plan first s left so_far e =
+      record { state = so_far.state; events = ap (λ n. settled_within n plan (events_in s)) (sym e) ∙ so_far.rest }

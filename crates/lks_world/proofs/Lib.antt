@@ -1,7 +1,11 @@
 mod BeginLaws
+pub mod CountLaws
+pub mod DiskLaws
+mod HostLaws
 mod Keeping
 mod OwnSteps
 mod PlaceLaws
 mod ReadyLaws
 mod Sending
+pub mod ServingLaws
 mod StateLaws

@@ -1,6 +1,8 @@
 -- The state is that of the kept events after each event.
-use Rattle.std.proofs.Common.{◌≡◌, ◌+◌, ◌≤◌, ◌<◌, ◌==◌, ◌∙◌, ap, sym, ℕ, true, false, List, [], ◌∷◌, ◌++◌, length, refl, arith, length-append}
-use Rattle.std.specs.Prelude.{not, filter, map}
+use Rattle.std.proofs.Common.{◌≡◌, ◌+◌, ◌≤◌, ◌<◌, ◌==◌, ◌∙◌, ap, sym, subst, ℕ, Bool, true, false, List, [], ◌∷◌, ◌++◌, length, drop, refl, arith, length-append}
+use Rattle.std.specs.Prelude.{Some, slice_get, not, filter, map}
+use Rattle.lks_world.proofs.HostLaws.{stayed, journal_there}
+use Rattle.lks_world.specs.Hosts.{HaveGoneOn, IsHostAt}
 use Rattle.std.specs.List.{range_with_len}
 use Rattle.std.proofs.lemmas.Bool.Decides.{nat_tests}
 use Rattle.std.proofs.lemmas.List.{length-map, map-append}
@@ -10,49 +12,16 @@ use Rattle.lks_base.specs.declared.events.Event.TheVariants.{Step, Forge}
 use Rattle.lks_base.specs.declared.events.PeerStep.{PeerStep}
 use Rattle.lks_base.specs.declared.events.PeerStep.TheVariants.{Deliver}
 use Rattle.lks_base.specs.declared.plans.Plan.{Plan}
+use Rattle.lks_host.specs.Hosted.{StandsFor}
+use Rattle.lks_host.specs.declared.hosts.Host.{Host}
+use Rattle.lks_law.proofs.Batches.{batches_more}
 use Rattle.lks_law.proofs.Histories.{world_more, entries_more, pending_more, fresh_more, pass_true}
+use Rattle.lks_law.specs.Batches.{with_batch, journal_at, batches_at}
 use Rattle.lks_law.specs.Due.{takes_out, is_pending, pending}
 use Rattle.lks_law.specs.Entries.{entry_of, entries}
 use Rattle.lks_law.specs.World.{World, world, happens, after_step, sent, effect_of, deed_of, sent_by, actor_of}
 use Rattle.lks_world.specs.declared.states.State.{State}
 use Rattle.lks_world.specs.States.{left_after, world_in, sends_in, events_in, IsStateOf, Becomes, DeliversBelow}
-
--- an event that put k envelopes into the bag
-record Happened (s t : State) (e : Event) (k : ℕ) : Type 0 where
-  world : world_in t ≡ happens (world_in s) e
-  event : (entry_of (world_in s) e).event ≡ e
-  history : t.history.items ≡ s.history.items ++ entry_of (world_in s) e ∷ []
-  pending : t.pending.items ≡ filter (λ i. not (takes_out i e)) s.pending.items ++ range_with_len (length s.bag.items) k
-  grown : length t.bag.items ≡ length s.bag.items + k
-  untouched : (i : ℕ) → length s.bag.items ≤ i → takes_out i e ≡ false
-
-more_events : (s t : State) (e : Event) → (entry_of (world_in s) e).event ≡ e → t.history.items ≡ s.history.items ++ entry_of (world_in s) e ∷ [] → events_in t ≡ events_in s ++ e ∷ []
-more_events s t e event history =
-    ap (map (λ (x : Entry). x.event)) history ∙ map-append (λ (x : Entry). x.event) s.history.items (entry_of (world_in s) e ∷ [])
-    ∙ ap (λ d. events_in s ++ d ∷ []) event
-
-kept : (plan : Plan) (s t : State) (e : Event) (k : ℕ) → IsStateOf plan s → Happened s t e k → IsStateOf plan t
-kept plan s t e k is h =
-    let events = more_events s t e h.event h.history in
-    let size : length s.bag.items ≡ length (world plan (events_in s)).bag = ap (λ (w : World). length w.bag) is.world in
-    let worlds : world_in t ≡ world plan (events_in s ++ e ∷ []) = h.world ∙ ap (λ w. happens w e) is.world ∙ sym (world_more plan (events_in s) e) in
-    let grown : length (world plan (events_in s ++ e ∷ [])).bag ≡ length (world plan (events_in s)).bag + k =
-    sym (ap (λ (w : World). length w.bag) worlds) ∙ h.grown ∙ ap (λ n. n + k) size in
-    let fresh : (i : ℕ) → length (world plan (events_in s)).bag ≤ i → is_pending (events_in s) i ≡ true = λ i le. is.fresh i (omega (arith, size)) in
-    let untouched : (i : ℕ) → length (world plan (events_in s)).bag ≤ i → takes_out i e ≡ false = λ i le. h.untouched i (omega (arith, size)) in
-    record {
-      world = worlds ∙ ap (world plan) (sym events);
-      entries =
-          h.history ∙ ap (λ es. es ++ entry_of (world_in s) e ∷ []) is.entries ∙ ap (λ w. entries plan (events_in s) ++ entry_of w e ∷ []) is.world
-          ∙ sym (entries_more plan (events_in s) e) ∙ ap (entries plan) (sym events);
-      pending =
-          h.pending ∙ ap (λ is. filter (λ i. not (takes_out i e)) is ++ range_with_len (length s.bag.items) k) is.pending
-          ∙ ap (λ n. filter (λ i. not (takes_out i e)) (pending plan (events_in s)) ++ range_with_len n k) size
-          ∙ sym (pending_more plan (events_in s) e k grown fresh untouched) ∙ ap (pending plan) (sym events);
-      fresh = λ i le.
-          ap (λ es. is_pending es i) events
-          ∙ fresh_more (events_in s) e (length s.bag.items) (length t.bag.items) (omega (arith, h.grown)) is.fresh h.untouched i le;
-    }
 
 left_by : (p : PeerStep) (waiting : List ℕ) → left_after p waiting ≡ filter (λ i. not (takes_out i (Step p))) waiting
 left_by (Deliver envelope judged) waiting = refl
@@ -75,17 +44,6 @@ step_event : (w : World) (p : PeerStep) → (entry_of w (Step p)).event ≡ Step
 unfolding entry_of
 step_event w p = refl
 
-kept_step : (plan : Plan) (s t : State) (p : PeerStep) → IsStateOf plan s → DeliversBelow (length s.bag.items) p → world_in t ≡ happens (world_in s) (Step p) → t.history.items ≡ s.history.items ++ entry_of (world_in s) (Step p) ∷ [] → t.pending.items ≡ left_after p s.pending.items ++ range_with_len (length s.bag.items) (sends_in (world_in s) p) → IsStateOf plan t
-kept_step plan s t p is known world history pending =
-    kept plan s t (Step p) (sends_in (world_in s) p) is (record {
-      world = world;
-      event = step_event (world_in s) p;
-      history = history;
-      pending = pending ∙ ap (λ is. is ++ range_with_len (length s.bag.items) (sends_in (world_in s) p)) (left_by p s.pending.items);
-      grown = ap (λ (w : World). length w.bag) world ∙ grown_by (world_in s) p;
-      untouched = untouched_by p (length s.bag.items) known;
-    })
-
 forge_event : (w : World) (from to : ℕ) (bytes : List ℕ) → (entry_of w (Forge from to bytes)).event ≡ Forge from to bytes
 unfolding entry_of
 forge_event w from to bytes = refl
@@ -94,27 +52,99 @@ grown_by_one : (w : World) (from to : ℕ) (bytes : List ℕ) → length (happen
 unfolding happens
 grown_by_one w from to bytes = length-append w.bag (record { from = from; to = to; bytes = bytes } ∷ [])
 
-kept_forge : (plan : Plan) (s t : State) (from to : ℕ) (bytes : List ℕ) → IsStateOf plan s → world_in t ≡ happens (world_in s) (Forge from to bytes) → t.history.items ≡ s.history.items ++ entry_of (world_in s) (Forge from to bytes) ∷ [] → t.pending.items ≡ s.pending.items ++ length s.bag.items ∷ [] → IsStateOf plan t
-kept_forge plan s t from to bytes is world history pending =
-    kept plan s t (Forge from to bytes) 1 is (record {
-      world = world;
-      event = forge_event (world_in s) from to bytes;
-      history = history;
-      pending = pending ∙ ap (λ is. is ++ length s.bag.items ∷ []) (sym (pass_true s.pending.items));
-      grown = ap (λ (w : World). length w.bag) world ∙ grown_by_one (world_in s) from to bytes;
-      untouched = λ i le. refl;
-    })
+module _ {D : Type 0} (seen : D → List ℕ) (may_leave : D → List ℕ → Type 0) (fused : D → Bool) where
+  -- an event that put k envelopes into the bag
+  record Happened (s t : State D) (e : Event) (k : ℕ) : Type 0 where
+    world : world_in t ≡ happens (world_in s) e
+    event : (entry_of (world_in s) e).event ≡ e
+    history : t.history.items ≡ s.history.items ++ entry_of (world_in s) e ∷ []
+    pending : t.pending.items ≡ filter (λ i. not (takes_out i e)) s.pending.items ++ range_with_len (length s.bag.items) k
+    grown : length t.bag.items ≡ length s.bag.items + k
+    untouched : (i : ℕ) → length s.bag.items ≤ i → takes_out i e ≡ false
+    on : HaveGoneOn seen may_leave fused s.hosts.items t.hosts.items
 
-pub became_step : (plan : Plan) (s t : State) (p : PeerStep) → IsStateOf plan s → DeliversBelow (length s.bag.items) p → world_in t ≡ happens (world_in s) (Step p) → t.history.items ≡ s.history.items ++ entry_of (world_in s) (Step p) ∷ [] → t.pending.items ≡ left_after p s.pending.items ++ range_with_len (length s.bag.items) (sends_in (world_in s) p) → Becomes plan (events_in s ++ Step p ∷ []) t
-became_step plan s t p is known world history pending =
-    record {
-      state = kept_step plan s t p is known world history pending;
-      events = more_events s t (Step p) (step_event (world_in s) p) history;
-    }
+  more_events : (s t : State D) (e : Event) → (entry_of (world_in s) e).event ≡ e → t.history.items ≡ s.history.items ++ entry_of (world_in s) e ∷ [] → events_in t ≡ events_in s ++ e ∷ []
+  more_events s t e event history =
+      ap (map (λ (x : Entry). x.event)) history ∙ map-append (λ (x : Entry). x.event) s.history.items (entry_of (world_in s) e ∷ [])
+      ∙ ap (λ d. events_in s ++ d ∷ []) event
 
-pub became_forge : (plan : Plan) (s t : State) (from to : ℕ) (bytes : List ℕ) → IsStateOf plan s → world_in t ≡ happens (world_in s) (Forge from to bytes) → t.history.items ≡ s.history.items ++ entry_of (world_in s) (Forge from to bytes) ∷ [] → t.pending.items ≡ s.pending.items ++ length s.bag.items ∷ [] → Becomes plan (events_in s ++ Forge from to bytes ∷ []) t
-became_forge plan s t from to bytes is world history pending =
-    record {
-      state = kept_forge plan s t from to bytes is world history pending;
-      events = more_events s t (Forge from to bytes) (forge_event (world_in s) from to bytes) history;
-    }
+  host_after : (plan : Plan) (s t : State D) (e : Event) {k : ℕ} → IsStateOf seen may_leave fused plan s → Happened s t e k → events_in t ≡ events_in s ++ e ∷ [] → world_in t ≡ world plan (events_in s ++ e ∷ [])
+      → (place : ℕ) (k : Host D) → slice_get t.hosts.items place ≡ Some k → IsHostAt seen may_leave fused (batches_at place plan (events_in t)) (length t.history.items) k
+  host_after plan s t e is happened events worlds place k at =
+      let went = happened.on place k at in
+      let before = is.hosts place went.host went.there in
+      let older : journal_at place (world plan (events_in s)) ≡ went.host.peer.journal = journal_there (world plan (events_in s)) s.hosts.items place went.host (ap (λ (w : World). w.peers) is.world) went.there in
+      let newer : journal_at place (happens (world plan (events_in s)) e) ≡ k.peer.journal =
+      journal_there (happens (world plan (events_in s)) e) t.hosts.items place k (ap (λ (w : World). w.peers) (worlds ∙ world_more plan (events_in s) e)) at in
+      let batches : with_batch (batches_at place plan (events_in s)) (drop (length went.host.peer.journal) k.peer.journal) ≡ batches_at place plan (events_in t) =
+      (λ i. with_batch (batches_at place plan (events_in s)) (drop (length (sym older i)) (sym newer i)))
+      ∙ sym (batches_more place plan (events_in s) e) ∙ ap (batches_at place plan) (sym events) in
+      let one : length t.history.items ≡ length s.history.items + 1 = ap length happened.history ∙ length-append s.history.items (entry_of (world_in s) e ∷ []) in
+      record {
+        stands = subst (StandsFor seen may_leave k) batches (went.on.stands (batches_at place plan (events_in s)) before.stands);
+        whole = went.on.whole before.whole;
+        room = omega (arith, went.on.room, before.room, one);
+        unfused = went.on.unfused ∙ before.unfused;
+      }
+
+  kept : (plan : Plan) (s t : State D) (e : Event) (k : ℕ) → IsStateOf seen may_leave fused plan s → Happened s t e k → IsStateOf seen may_leave fused plan t
+  kept plan s t e k is h =
+      let events = more_events s t e h.event h.history in
+      let size : length s.bag.items ≡ length (world plan (events_in s)).bag = ap (λ (w : World). length w.bag) is.world in
+      let worlds : world_in t ≡ world plan (events_in s ++ e ∷ []) = h.world ∙ ap (λ w. happens w e) is.world ∙ sym (world_more plan (events_in s) e) in
+      let grown : length (world plan (events_in s ++ e ∷ [])).bag ≡ length (world plan (events_in s)).bag + k =
+      sym (ap (λ (w : World). length w.bag) worlds) ∙ h.grown ∙ ap (λ n. n + k) size in
+      let fresh : (i : ℕ) → length (world plan (events_in s)).bag ≤ i → is_pending (events_in s) i ≡ true = λ i le. is.fresh i (omega (arith, size)) in
+      let untouched : (i : ℕ) → length (world plan (events_in s)).bag ≤ i → takes_out i e ≡ false = λ i le. h.untouched i (omega (arith, size)) in
+      record {
+        world = worlds ∙ ap (world plan) (sym events);
+        entries =
+            h.history ∙ ap (λ es. es ++ entry_of (world_in s) e ∷ []) is.entries ∙ ap (λ w. entries plan (events_in s) ++ entry_of w e ∷ []) is.world
+            ∙ sym (entries_more plan (events_in s) e) ∙ ap (entries plan) (sym events);
+        pending =
+            h.pending ∙ ap (λ is. filter (λ i. not (takes_out i e)) is ++ range_with_len (length s.bag.items) k) is.pending
+            ∙ ap (λ n. filter (λ i. not (takes_out i e)) (pending plan (events_in s)) ++ range_with_len n k) size
+            ∙ sym (pending_more plan (events_in s) e k grown fresh untouched) ∙ ap (pending plan) (sym events);
+        hosts = λ place k at. host_after plan s t e is h events worlds place k at;
+        fresh = λ i le.
+            ap (λ es. is_pending es i) events
+            ∙ fresh_more (events_in s) e (length s.bag.items) (length t.bag.items) (omega (arith, h.grown)) is.fresh h.untouched i le;
+      }
+
+  kept_step : (plan : Plan) (s t : State D) (p : PeerStep) → IsStateOf seen may_leave fused plan s → DeliversBelow (length s.bag.items) p → world_in t ≡ happens (world_in s) (Step p) → t.history.items ≡ s.history.items ++ entry_of (world_in s) (Step p) ∷ [] → t.pending.items ≡ left_after p s.pending.items ++ range_with_len (length s.bag.items) (sends_in (world_in s) p) → HaveGoneOn seen may_leave fused s.hosts.items t.hosts.items → IsStateOf seen may_leave fused plan t
+  kept_step plan s t p is known world history pending on =
+      kept plan s t (Step p) (sends_in (world_in s) p) is (record {
+        world = world;
+        event = step_event (world_in s) p;
+        history = history;
+        pending = pending ∙ ap (λ is. is ++ range_with_len (length s.bag.items) (sends_in (world_in s) p)) (left_by p s.pending.items);
+        grown = ap (λ (w : World). length w.bag) world ∙ grown_by (world_in s) p;
+        untouched = untouched_by p (length s.bag.items) known;
+        on = on;
+      })
+
+  kept_forge : (plan : Plan) (s t : State D) (from to : ℕ) (bytes : List ℕ) → IsStateOf seen may_leave fused plan s → world_in t ≡ happens (world_in s) (Forge from to bytes) → t.history.items ≡ s.history.items ++ entry_of (world_in s) (Forge from to bytes) ∷ [] → t.pending.items ≡ s.pending.items ++ length s.bag.items ∷ [] → t.hosts.items ≡ s.hosts.items → IsStateOf seen may_leave fused plan t
+  kept_forge plan s t from to bytes is world history pending hosts =
+      kept plan s t (Forge from to bytes) 1 is (record {
+        world = world;
+        event = forge_event (world_in s) from to bytes;
+        history = history;
+        pending = pending ∙ ap (λ is. is ++ length s.bag.items ∷ []) (sym (pass_true s.pending.items));
+        grown = ap (λ (w : World). length w.bag) world ∙ grown_by_one (world_in s) from to bytes;
+        untouched = λ i le. refl;
+        on = subst (HaveGoneOn seen may_leave fused s.hosts.items) (sym hosts) (stayed seen may_leave fused s.hosts.items);
+      })
+
+  pub became_step : (plan : Plan) (s t : State D) (p : PeerStep) → IsStateOf seen may_leave fused plan s → DeliversBelow (length s.bag.items) p → world_in t ≡ happens (world_in s) (Step p) → t.history.items ≡ s.history.items ++ entry_of (world_in s) (Step p) ∷ [] → t.pending.items ≡ left_after p s.pending.items ++ range_with_len (length s.bag.items) (sends_in (world_in s) p) → HaveGoneOn seen may_leave fused s.hosts.items t.hosts.items → Becomes seen may_leave fused plan (events_in s ++ Step p ∷ []) t
+  became_step plan s t p is known world history pending on =
+      record {
+        state = kept_step plan s t p is known world history pending on;
+        events = more_events s t (Step p) (step_event (world_in s) p) history;
+      }
+
+  pub became_forge : (plan : Plan) (s t : State D) (from to : ℕ) (bytes : List ℕ) → IsStateOf seen may_leave fused plan s → world_in t ≡ happens (world_in s) (Forge from to bytes) → t.history.items ≡ s.history.items ++ entry_of (world_in s) (Forge from to bytes) ∷ [] → t.pending.items ≡ s.pending.items ++ length s.bag.items ∷ [] → t.hosts.items ≡ s.hosts.items → Becomes seen may_leave fused plan (events_in s ++ Forge from to bytes ∷ []) t
+  became_forge plan s t from to bytes is world history pending hosts =
+      record {
+        state = kept_forge plan s t from to bytes is world history pending hosts;
+        events = more_events s t (Forge from to bytes) (forge_event (world_in s) from to bytes) history;
+      }

@@ -1,4 +1,11 @@
+pub mod Begun
+pub mod Blame
+pub mod Counts
+pub mod Disks
 pub mod Follows
+pub mod Held
+pub mod Hosts
+pub mod Made
 pub mod Places
 pub mod Seen
 pub mod States

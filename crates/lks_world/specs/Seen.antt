@@ -1,10 +1,12 @@
 -- A world as callers see it.
-use Rattle.std.specs.Prelude.{Bool, List}
+use Rattle.std.specs.Prelude.{Option, List}
 use Rattle.lks_base.specs.declared.events.Event.{Event}
 use Rattle.lks_base.specs.declared.plans.Plan.{Plan}
+use Rattle.lks_world.specs.declared.faults.WorldFault.{WorldFault}
 
--- what it began with, the events that it kept, and whether it was stopped by a fault
-pub record Seen : Type 0 where
+-- its plan, the events that it kept, the fault that stopped it, and all disks in the order in which they were handed in
+pub record Seen (D : Type 0) : Type 0 where
   pub plan : Plan
   pub history : List Event
-  pub stopped : Bool
+  pub stopped : Option WorldFault
+  pub disks : List D

@@ -1,8 +1,10 @@
 //! What a step is to the peer that takes it.
 
-ghost use Rattle.std.specs.Prelude.{◌≡◌, IfOk, slice_get};
+ghost use Rattle.std.specs.Prelude.{◌≡◌, IfOk, IfSome, slice_get};
+ghost use Rattle.lks_host.specs.Fits.{IsHeard};
 ghost use Rattle.lks_law.specs.Entries.{carried, sender_of, receiver_of};
 ghost use Rattle.lks_law.specs.World.{message_in, delivered, own_deed_of, deed_of};
+ghost use Rattle.lks_message.specs.Spelling.{IsWithin};
 
 use lks_base::{Envelope, Input, Judged, Message, OutOfMemory, PeerId, PeerStep};
 use lks_message::{MsgFault, decode};
@@ -26,7 +28,8 @@ impl Model for Deed {
 
 /// The message that these bytes spell, if they spell one.
 pub fn read(alloc: Global, bytes: &[u8]) -> Result<Option<Message>, OutOfMemory>
-    ensures { IfOk result (λ m. m ≡ message_in bytes.now) }
+    ensures message { IfOk result (λ m. m ≡ message_in bytes.now) }
+    ensures within { IfOk result (λ m. IfSome m IsWithin) }
 {
     match decode(alloc, bytes) {
         Ok(message) => Ok(Some(message)),
@@ -41,7 +44,8 @@ fn delivery(
     envelope: u32,
     judged: Judged,
 ) -> Result<Option<Deed>, OutOfMemory>
-    ensures { IfOk result (λ d. d ≡ delivered (slice_get bag.now envelope) judged) }
+    ensures deed { IfOk result (λ d. d ≡ delivered (slice_get bag.now envelope) judged) }
+    ensures heard { IfOk result (λ d. IfSome d (λ d. IsHeard d.input)) }
 {
     let Some(e) = bag.get(envelope as usize) else {
         return Ok(None);
@@ -62,7 +66,8 @@ fn delivery(
 /// A step other than a delivery.
 #[tactic(auto, unfolding(lks_law::specs::World::own_deed_of))]
 fn make_own_deed(s: PeerStep) -> Option<Deed>
-    ensures { result ≡ own_deed_of s }
+    ensures deed { result ≡ own_deed_of s }
+    ensures heard { IfSome result (λ d. IsHeard d.input) }
 {
     let (peer, input) = match s {
         PeerStep::OpenPoll { peer, au } => (peer, Input::OpenPoll { au }),
@@ -95,7 +100,8 @@ fn make_own_deed(s: PeerStep) -> Option<Deed>
 /// What a step is, and to whom. A delivery of bytes that spell no message is nothing.
 #[tactic(auto, unfolding(lks_law::specs::World::deed_of))]
 pub fn make_deed(alloc: Global, bag: &[Envelope], s: PeerStep) -> Result<Option<Deed>, OutOfMemory>
-    ensures { IfOk result (λ d. d ≡ deed_of bag.now s) }
+    ensures deed { IfOk result (λ d. d ≡ deed_of bag.now s) }
+    ensures heard { IfOk result (λ d. IfSome d (λ d. IsHeard d.input)) }
 {
     match s {
         PeerStep::Deliver { envelope, judged } => delivery(alloc, bag, envelope, judged),

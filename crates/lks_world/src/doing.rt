@@ -1,101 +1,38 @@
-//! How a world begins, and what a step of a script does to its state.
+//! What a step of a script does to the state of a world.
 
-ghost use Rattle.std.specs.Prelude.{◌≡◌, ◌++◌, ◌≤◌, [], true, None, IfOk, OnOk, map, length, filter};
-ghost use Rattle.std.specs.List.{filter_map, list_all};
-ghost use Rattle.lks_base.specs.Checking.{is_fit, plan_fault};
-ghost use Rattle.lks_base.specs.Sizes.{is_small_peer};
+ghost use Rattle.std.specs.Prelude.{◌≡◌, true, None, OnOk, length};
+ghost use Rattle.lks_base.specs.Checking.{plan_fault};
 ghost use Rattle.lks_base.specs.declared.events.Event.TheVariants as events;
 ghost use Rattle.lks_base.specs.declared.plans.Plan.{Plan as Planned};
-ghost use Rattle.lks_law.specs.World.{deposit_for, deposits, standing_of, is_honest};
 ghost use Rattle.lks_message.specs.Spelling.{IsWithin, spelling};
-ghost use Rattle.lks_world.specs.Follows.{kept, settled, acted, performed};
 ghost use Rattle.lks_script.specs.StepRules.{is_step_of};
+ghost use Rattle.lks_world.specs.Follows.{kept, settled, acted, performed};
+ghost use Rattle.lks_world.specs.Hosts.{Counted};
 ghost use Rattle.lks_world.specs.States.{IsStateOf, Becomes, DeliversBelow, events_in};
 
+use crate::faults::WorldFault;
 use crate::forging::{Saying, what_is_said};
 use crate::settling::next;
 use crate::states::{State, forge, step};
-use lks_base::{
-    AuPlan, Bytes, Holding, OutOfMemory, PeerId, PeerPlan, PeerStep, Plan, Record, Seq,
-};
+use lks_base::{Bytes, OutOfMemory, PeerId, PeerStep, Plan, Seq};
+use lks_disk::CrashDisk;
 use lks_message::encode;
-use lks_peer::Peer;
 use lks_script::Step;
 use std::alloc::Global;
 
 /// The most events of a history.
 const MOST_EVENTS: usize = 4096;
 
-fn deposit_au(list: &mut Vec<Record>, au: &AuPlan, copies: &[Holding]) -> Result<(), OutOfMemory>
-    ensures { OnOk result (list.new.items ≡ list.old.items ++ filter_map (deposit_for au.now) copies.now) }
-{
-    for copy in copies {
-        if copy.au == au.id {
-            let blocks = copy.blocks.clone()?;
-            list.push(Record::Deposit { au: au.id, blocks })?;
-        }
-    }
-    Ok(())
-}
-
-#[tactic(auto, unfolding(lks_law::specs::World::deposits))]
-fn deposit_all(
-    alloc: Global,
-    aus: &[AuPlan],
-    copies: &[Holding],
-) -> Result<Vec<Record>, OutOfMemory>
-    ensures { IfOk result (λ list. list.items ≡ deposits aus.now copies.now) }
-{
-    let mut list = Vec::new(alloc);
-    for au in aus {
-        deposit_au(&mut list, au, copies)?;
-    }
-    Ok(list)
-}
-
-#[tactic(auto, using(crate::proofs::BeginLaws::deposits_small, lks_base::proofs::PlanLaws::fit_proof))]
-fn begin_peer(alloc: Global, plan: &Plan, planned: &PeerPlan) -> Result<Peer, OutOfMemory>
-    requires small { is_small_peer planned.now ≡ true }
-    requires fit { is_fit planned.now ≡ true }
-    ensures { IfOk result (λ peer. peer ≡ standing_of plan.now planned.now) }
-{
-    let list = deposit_all(alloc, plan.aus.as_slice(), planned.copies.as_slice())?;
-    Peer::begin(alloc, plan, planned, list)
-}
-
-fn begin_all(alloc: Global, plan: &Plan, planned: &[PeerPlan]) -> Result<Vec<Peer>, OutOfMemory>
-    requires small { list_all is_small_peer planned.now ≡ true }
-    requires fit { list_all is_fit planned.now ≡ true }
-    ensures { IfOk result (λ peers. peers.items ≡ map (standing_of plan.now) (filter is_honest planned.now)) }
-{
-    let mut peers = Vec::new(alloc);
-    for p in planned {
-        if !p.corrupt {
-            peers.push(begin_peer(alloc, plan, p)?)?;
-        }
-    }
-    Ok(peers)
-}
-
-#[tactic(auto, using(lks_base::proofs::PlanLaws::small_copies, lks_base::proofs::PlanLaws::fit_peers))]
-pub fn begin(alloc: Global, plan: &Plan) -> Result<State, OutOfMemory>
-    requires { plan_fault plan.now ≡ None }
-    ensures kept { IfOk result (λ state. IsStateOf plan.now state) }
-    ensures nothing { IfOk result (λ state. state.history.items ≡ []) }
-{
-    let peers = begin_all(alloc, plan, plan.peers.as_slice())?;
-    Ok(State {
-        peers,
-        bag: Vec::new(alloc),
-        pending: Vec::new(alloc),
-        history: Vec::new(alloc),
-        tick: 0,
-    })
-}
-
 /// One step of a peer, unless the history is full.
-fn keep_step(alloc: Global, state: &mut State, s: PeerStep) -> Result<(), OutOfMemory>
-    ensures { (plan : Planned) → IsStateOf plan state.old → DeliversBelow (length state.old.bag.items) s → OnOk result (Becomes plan (kept (events_in state.old) (events.Step s)) state.new) }
+fn keep_step<D: CrashDisk>(
+    alloc: Global,
+    state: &mut State<D>,
+    s: PeerStep,
+) -> Result<(), WorldFault>
+    requires { (plan : Planned) × IsStateOf D.seen D.may_leave D.fused plan state.old }
+    ensures becomes { (plan : Planned) → IsStateOf D.seen D.may_leave D.fused plan state.old → DeliversBelow (length state.old.bag.items) s →
+        OnOk result (Becomes D.seen D.may_leave D.fused plan (kept (events_in state.old) (events.Step s)) state.new) }
+    ensures counted { Counted D.faults state.old.hosts.items state.new.hosts.items result }
 {
     if state.history.as_slice().len() < MOST_EVENTS {
         step(alloc, state, s)?;
@@ -104,13 +41,15 @@ fn keep_step(alloc: Global, state: &mut State, s: PeerStep) -> Result<(), OutOfM
 }
 
 /// A forgery, unless the history is full.
-fn keep_forgery(
-    state: &mut State,
+fn keep_forgery<D: CrashDisk>(
+    state: &mut State<D>,
     from: PeerId,
     to: PeerId,
     bytes: Bytes,
 ) -> Result<(), OutOfMemory>
-    ensures { (plan : Planned) → IsStateOf plan state.old → OnOk result (Becomes plan (kept (events_in state.old) (events.Forge from to bytes)) state.new) }
+    ensures becomes { (plan : Planned) → IsStateOf D.seen D.may_leave D.fused plan state.old →
+        OnOk result (Becomes D.seen D.may_leave D.fused plan (kept (events_in state.old) (events.Forge from to bytes)) state.new) }
+    ensures hosts { state.new.hosts.items ≡ state.old.hosts.items }
 {
     if state.history.as_slice().len() < MOST_EVENTS {
         forge(state, from, to, bytes)?;
@@ -119,8 +58,11 @@ fn keep_forgery(
 }
 
 /// Delivers what waits and does what is ready until there is neither.
-fn settle(alloc: Global, state: &mut State) -> Result<(), OutOfMemory>
-    ensures { (plan : Planned) → IsStateOf plan state.old → OnOk result (Becomes plan (settled plan (events_in state.old)) state.new) }
+fn settle<D: CrashDisk>(alloc: Global, state: &mut State<D>) -> Result<(), WorldFault>
+    requires { (plan : Planned) × IsStateOf D.seen D.may_leave D.fused plan state.old }
+    ensures becomes { (plan : Planned) → IsStateOf D.seen D.may_leave D.fused plan state.old →
+        OnOk result (Becomes D.seen D.may_leave D.fused plan (settled plan (events_in state.old)) state.new) }
+    ensures counted { Counted D.faults state.old.hosts.items state.new.hosts.items result }
 {
     for turn in state.history.as_slice().len()..MOST_EVENTS {
         match next(alloc, state)? {
@@ -132,9 +74,15 @@ fn settle(alloc: Global, state: &mut State) -> Result<(), OutOfMemory>
 }
 
 /// What a corrupt peer says is what it forges.
-fn speak(alloc: Global, state: &mut State, said: &Saying) -> Result<(), OutOfMemory>
+fn speak<D: CrashDisk>(
+    alloc: Global,
+    state: &mut State<D>,
+    said: &Saying,
+) -> Result<(), OutOfMemory>
     requires { IsWithin said.now.message }
-    ensures { (plan : Planned) → IsStateOf plan state.old → OnOk result (Becomes plan (kept (events_in state.old) (events.Forge said.now.from said.now.to (spelling said.now.message))) state.new) }
+    ensures becomes { (plan : Planned) → IsStateOf D.seen D.may_leave D.fused plan state.old →
+        OnOk result (Becomes D.seen D.may_leave D.fused plan (kept (events_in state.old) (events.Forge said.now.from said.now.to (spelling said.now.message))) state.new) }
+    ensures hosts { state.new.hosts.items ≡ state.old.hosts.items }
 {
     let bytes = encode(alloc, &said.message)?;
     keep_forgery(state, said.from, said.to, Seq::from_vec(bytes))
@@ -142,14 +90,17 @@ fn speak(alloc: Global, state: &mut State, said: &Saying) -> Result<(), OutOfMem
 
 /// A step in which no corrupt peer says something.
 #[tactic(auto, unfolding(crate::specs::Follows::acted))]
-fn act(alloc: Global, state: &mut State, step: &Step) -> Result<(), OutOfMemory>
-    ensures { (plan : Planned) → IsStateOf plan state.old → is_step_of plan step.now ≡ true → OnOk result (Becomes plan (acted plan (events_in state.old) step.now) state.new) }
+fn act<D: CrashDisk>(alloc: Global, state: &mut State<D>, step: &Step) -> Result<(), WorldFault>
+    requires { (plan : Planned) × IsStateOf D.seen D.may_leave D.fused plan state.old }
+    ensures becomes { (plan : Planned) → IsStateOf D.seen D.may_leave D.fused plan state.old → is_step_of plan step.now ≡ true →
+        OnOk result (Becomes D.seen D.may_leave D.fused plan (acted plan (events_in state.old) step.now) state.new) }
+    ensures counted { Counted D.faults state.old.hosts.items state.new.hosts.items result }
 {
     match step {
         Step::Peer(s) => keep_step(alloc, state, *s),
         Step::Forge { from, to, bytes } => {
             let bytes = bytes.clone()?;
-            keep_forgery(state, *from, *to, bytes)
+            Ok(keep_forgery(state, *from, *to, bytes)?)
         }
         Step::Settle => settle(alloc, state),
         _ => Ok(()),
@@ -157,18 +108,20 @@ fn act(alloc: Global, state: &mut State, step: &Step) -> Result<(), OutOfMemory>
 }
 
 #[tactic(auto, unfolding(crate::specs::Follows::performed))]
-pub fn do_step(
+pub fn do_step<D: CrashDisk>(
     alloc: Global,
     plan: &Plan,
-    state: &mut State,
+    state: &mut State<D>,
     step: &Step,
-) -> Result<(), OutOfMemory>
+) -> Result<(), WorldFault>
     requires good { plan_fault plan.now ≡ None }
     requires legal { is_step_of plan.now step.now ≡ true }
-    ensures { IsStateOf plan.now state.old → OnOk result (Becomes plan.now (performed plan.now (events_in state.old) step.now) state.new) }
+    requires state { IsStateOf D.seen D.may_leave D.fused plan.now state.old }
+    ensures becomes { OnOk result (Becomes D.seen D.may_leave D.fused plan.now (performed plan.now (events_in state.old) step.now) state.new) }
+    ensures counted { Counted D.faults state.old.hosts.items state.new.hosts.items result }
 {
     match what_is_said(alloc, plan, step)? {
-        Some(said) => speak(alloc, state, &said),
+        Some(said) => Ok(speak(alloc, state, &said)?),
         None => act(alloc, state, step),
     }
 }

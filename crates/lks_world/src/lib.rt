@@ -1,8 +1,12 @@
 //! A world of peers: it does the steps of a script, one event at a time, and keeps their history.
 #![tactic(auto)]
 
+mod beginning;
+mod blaming;
 mod deeds;
+mod disks;
 mod doing;
+mod faults;
 mod forging;
 mod notes;
 mod places;
@@ -10,4 +14,5 @@ mod settling;
 mod states;
 mod worlds;
 
-pub use worlds::{Parts, World, WorldFault};
+pub use faults::WorldFault;
+pub use worlds::{Parts, World};

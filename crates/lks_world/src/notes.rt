@@ -5,7 +5,8 @@ ghost use Rattle.std.specs.List.{filter_map};
 ghost use Rattle.lks_law.specs.Entries.{session_note_of, note_of};
 
 use lks_base::{Note, OutOfMemory, Record, Seq};
-use lks_peer::Peer;
+use lks_disk::Disk;
+use lks_host::Host;
 use std::alloc::Global;
 
 #[tactic(auto, unfolding(lks_law::specs::Entries::session_note_of))]
@@ -43,8 +44,8 @@ fn session_note(item: &Record) -> Option<Note>
 }
 
 #[tactic(auto, unfolding(lks_law::specs::Entries::note_of))]
-fn note(peer: &Peer, item: &Record) -> Option<Note>
-    ensures { result ≡ note_of peer.now.journal item.now }
+fn note<D: Disk>(host: &Host<D>, item: &Record) -> Option<Note>
+    ensures { result ≡ note_of host.now.peer.journal item.now }
 {
     match item {
         Record::PollOpened { number, au, .. } => Some(Note::Opened {
@@ -62,7 +63,7 @@ fn note(peer: &Peer, item: &Record) -> Option<Note>
         Record::VoteIn { number, voter, .. } => Some(Note::VoteIn {
             number: *number,
             voter: *voter,
-            inner: peer.has_inner(*number, *voter),
+            inner: host.has_inner(*number, *voter),
         }),
         Record::Shut { number } => Some(Note::Shut { number: *number }),
         Record::Asked {
@@ -107,12 +108,16 @@ fn note(peer: &Peer, item: &Record) -> Option<Note>
 }
 
 /// The notes of records that stand in the peer's journal.
-pub fn notes(alloc: Global, peer: &Peer, records: &[Record]) -> Result<Seq<Note>, OutOfMemory>
-    ensures { IfOk result (λ notes. notes ≡ filter_map (note_of peer.now.journal) records.now) }
+pub fn notes<D: Disk>(
+    alloc: Global,
+    host: &Host<D>,
+    records: &[Record],
+) -> Result<Seq<Note>, OutOfMemory>
+    ensures { IfOk result (λ notes. notes ≡ filter_map (note_of host.now.peer.journal) records.now) }
 {
     let mut notes = Vec::new(alloc);
     for item in records {
-        if let Some(note) = note(peer, item) {
+        if let Some(note) = note(host, item) {
             notes.push(note)?;
         }
     }

@@ -1,29 +1,35 @@
 //! The state of a world, and what an event does to it.
 
-ghost use Rattle.std.specs.Prelude.{◌≡◌, ◌++◌, ◌∷◌, [], IfOk, OnOk, ◌==◌, length, filter, map, not};
+ghost use Rattle.std.specs.Prelude.{◌≡◌, ◌≤◌, ◌++◌, ◌∷◌, [], ℕ, Some, IfOk, IfSome, OnOk, IsErrOf, ◌==◌, length, filter, map, not};
 ghost use Rattle.std.specs.List.{range_with_len};
 ghost use Rattle.lks_base.specs.declared.events.Event.TheVariants as events;
 ghost use Rattle.lks_law.specs.Entries.{notes_at, notes_of, entry_of};
 ghost use Rattle.lks_law.specs.Reaction.{reaction};
 ghost use Rattle.lks_law.specs.World.{Standing, reaction_at, with_records, peer_at, sent_by, actor_of, effect_of, peers_after, happens};
+ghost use Rattle.lks_disk.specs.Counts.{Rose};
+ghost use Rattle.lks_host.specs.Fits.{IsHeard};
+ghost use Rattle.lks_world.specs.Hosts.{peers_of, IsReady, AreReady, GoesOn, HaveGoneOn, Counted};
 ghost use Rattle.lks_world.specs.Places.{with_added};
 ghost use Rattle.lks_world.specs.States.{left_after, world_in, sends_in};
 
+use crate::blaming::blame;
 use crate::deeds::{Deed, ends_of, make_deed};
+use crate::faults::WorldFault;
 use crate::notes::notes;
 use crate::places::place_of;
 use lks_base::{
     Bytes, Entry, Envelope, Event, Input, Note, OutOfMemory, Outgoing, PeerId, PeerStep, Reaction,
     Seq,
 };
-use lks_peer::Peer;
+use lks_disk::CrashDisk;
+use lks_host::Host;
 use std::alloc::Global;
 
-/// The honest peers in the plan's order, the bag with the numbers of the envelopes that wait, the
+/// The hosts of the honest peers in the plan's order, the bag with the numbers of the envelopes that wait, the
 /// clock, and what happened.
 #[derive(Drop)]
-pub struct State {
-    pub peers: Vec<Peer>,
+pub struct State<D: CrashDisk> {
+    pub hosts: Vec<Host<D>>,
     pub bag: Vec<Envelope>,
     pub pending: Vec<u32>,
     pub history: Vec<Entry>,
@@ -47,25 +53,48 @@ fn nothing_done(alloc: Global) -> Done
     }
 }
 
-fn act_as(alloc: Global, peer: &mut Peer, tick: u32, input: &Input) -> Result<Done, OutOfMemory>
-    ensures sends { IfOk result (λ d. d.sends ≡ (reaction peer.old.own peer.old.journal tick input.now).sends) }
-    ensures notes { IfOk result (λ d. d.notes ≡ notes_at (Some peer.old) (reaction peer.old.own peer.old.journal tick input.now).records) }
-    ensures peer { OnOk result (peer.new ≡ with_added peer.old (reaction peer.old.own peer.old.journal tick input.now).records) }
+fn act_as<D: CrashDisk>(
+    alloc: Global,
+    host: &mut Host<D>,
+    tick: u32,
+    input: &Input,
+) -> Result<Done, WorldFault>
+    requires ready { IsReady D.seen D.may_leave D.fused host.old }
+    requires heard { IsHeard input.now }
+    ensures sends { IfOk result (λ d. d.sends ≡ (reaction host.old.peer.own host.old.peer.journal tick input.now).sends) }
+    ensures notes { IfOk result (λ d. d.notes ≡ notes_at (Some host.old.peer) (reaction host.old.peer.own host.old.peer.journal tick input.now).records) }
+    ensures peer { OnOk result (host.new.peer ≡ with_added host.old.peer (reaction host.old.peer.own host.old.peer.journal tick input.now).records) }
+    ensures on { OnOk result (GoesOn D.seen D.may_leave D.fused host.old host.new) }
+    ensures own { host.new.peer.own ≡ host.old.peer.own }
+    ensures later { D.faults host.old.journal.disk ≤ D.faults host.new.journal.disk }
+    ensures cause { (id : ℕ) → IsErrOf result (WorldFault.Disk id) → (host.old.peer.own.id ≡ id) × Rose (D.faults host.old.journal.disk) (D.faults host.new.journal.disk) }
 {
-    let Reaction { records, sends } = peer.step(tick, input)?;
-    let notes = notes(alloc, peer, records.as_slice())?;
+    let Reaction { records, sends } = match host.step(tick, input) {
+        Ok(reaction) => reaction,
+        Err(fault) => return Err(blame(host.id(), fault)),
+    };
+    let notes = notes(alloc, host, records.as_slice())?;
     Ok(Done { notes, sends })
 }
 
-fn act(alloc: Global, peers: &mut Vec<Peer>, tick: u32, deed: &Deed) -> Result<Done, OutOfMemory>
-    ensures sends { IfOk result (λ d. d.sends ≡ (reaction_at tick (peer_at deed.now.peer peers.old.items) deed.now.input).sends) }
-    ensures notes { IfOk result (λ d. d.notes ≡ notes_at (peer_at deed.now.peer peers.old.items) (reaction_at tick (peer_at deed.now.peer peers.old.items) deed.now.input).records) }
-    ensures peers { OnOk result (peers.new.items ≡ with_records deed.now.peer (reaction_at tick (peer_at deed.now.peer peers.old.items) deed.now.input).records peers.old.items) }
+fn act<D: CrashDisk>(
+    alloc: Global,
+    hosts: &mut Vec<Host<D>>,
+    tick: u32,
+    deed: &Deed,
+) -> Result<Done, WorldFault>
+    requires ready { AreReady D.seen D.may_leave D.fused hosts.old.items }
+    requires heard { IsHeard deed.now.input }
+    ensures sends { IfOk result (λ d. d.sends ≡ (reaction_at tick (peer_at deed.now.peer (peers_of hosts.old.items)) deed.now.input).sends) }
+    ensures notes { IfOk result (λ d. d.notes ≡ notes_at (peer_at deed.now.peer (peers_of hosts.old.items)) (reaction_at tick (peer_at deed.now.peer (peers_of hosts.old.items)) deed.now.input).records) }
+    ensures peers { OnOk result (peers_of hosts.new.items ≡ with_records deed.now.peer (reaction_at tick (peer_at deed.now.peer (peers_of hosts.old.items)) deed.now.input).records (peers_of hosts.old.items)) }
+    ensures on { OnOk result (HaveGoneOn D.seen D.may_leave D.fused hosts.old.items hosts.new.items) }
+    ensures counted { Counted D.faults hosts.old.items hosts.new.items result }
 {
-    let Some(place) = place_of(peers, deed.peer) else {
+    let Some(place) = place_of(hosts, deed.peer) else {
         return Ok(nothing_done(alloc));
     };
-    act_as(alloc, &mut peers[place], tick, &deed.input)
+    act_as(alloc, &mut hosts[place], tick, &deed.input)
 }
 
 fn forget(pending: &mut Vec<u32>, envelope: u32)
@@ -121,18 +150,22 @@ fn send(
     Ok(())
 }
 
-fn do_deed(
+fn do_deed<D: CrashDisk>(
     alloc: Global,
-    peers: &mut Vec<Peer>,
+    hosts: &mut Vec<Host<D>>,
     tick: u32,
     deed: &Option<Deed>,
-) -> Result<Done, OutOfMemory>
-    ensures sends { IfOk result (λ d. d.sends ≡ (effect_of tick peers.old.items deed.now).sends) }
-    ensures notes { IfOk result (λ d. d.notes ≡ notes_of tick peers.old.items deed.now) }
-    ensures peers { OnOk result (peers.new.items ≡ peers_after tick peers.old.items deed.now) }
+) -> Result<Done, WorldFault>
+    requires ready { AreReady D.seen D.may_leave D.fused hosts.old.items }
+    requires heard { IfSome deed.now (λ d. IsHeard d.input) }
+    ensures sends { IfOk result (λ d. d.sends ≡ (effect_of tick (peers_of hosts.old.items) deed.now).sends) }
+    ensures notes { IfOk result (λ d. d.notes ≡ notes_of tick (peers_of hosts.old.items) deed.now) }
+    ensures peers { OnOk result (peers_of hosts.new.items ≡ peers_after tick (peers_of hosts.old.items) deed.now) }
+    ensures on { OnOk result (HaveGoneOn D.seen D.may_leave D.fused hosts.old.items hosts.new.items) }
+    ensures counted { Counted D.faults hosts.old.items hosts.new.items result }
 {
     match deed {
-        Some(deed) => act(alloc, peers, tick, deed),
+        Some(deed) => act(alloc, hosts, tick, deed),
         None => Ok(nothing_done(alloc)),
     }
 }
@@ -149,17 +182,24 @@ fn actor(deed: &Option<Deed>) -> PeerId
 /// One step of a peer: its records are in its journal before its messages go into the bag. After want of
 /// memory the state is that of no history.
 #[tactic(auto, unfolding(lks_law::specs::World::happens, lks_law::specs::World::after_step, lks_law::specs::Entries::entry_of, crate::specs::States::sends_in))]
-pub fn step(alloc: Global, state: &mut State, s: PeerStep) -> Result<(), OutOfMemory>
+pub fn step<D: CrashDisk>(
+    alloc: Global,
+    state: &mut State<D>,
+    s: PeerStep,
+) -> Result<(), WorldFault>
+    requires ready { AreReady D.seen D.may_leave D.fused state.old.hosts.items }
     ensures world { OnOk result (world_in state.new ≡ happens (world_in state.old) (events.Step s)) }
     ensures history { OnOk result (state.new.history.items ≡ state.old.history.items ++ entry_of (world_in state.old) (events.Step s) ∷ []) }
     ensures pending { OnOk result (state.new.pending.items ≡ left_after s state.old.pending.items ++ range_with_len (length state.old.bag.items) (sends_in (world_in state.old) s)) }
+    ensures on { OnOk result (HaveGoneOn D.seen D.may_leave D.fused state.old.hosts.items state.new.hosts.items) }
+    ensures counted { Counted D.faults state.old.hosts.items state.new.hosts.items result }
 {
     let (from, to) = ends_of(&state.bag, s);
     let deed = make_deed(alloc, &state.bag, s)?;
-    let Done { notes, sends } = do_deed(alloc, &mut state.peers, state.tick, &deed)?;
+    let Done { notes, sends } = do_deed(alloc, &mut state.hosts, state.tick, &deed)?;
     let count = sends.as_slice().len();
     if count > u32::MAX as usize {
-        return Err(OutOfMemory);
+        return Err(WorldFault::Memory);
     }
     take_out(&mut state.pending, s);
     send(
@@ -180,7 +220,13 @@ pub fn step(alloc: Global, state: &mut State, s: PeerStep) -> Result<(), OutOfMe
 
 /// A corrupt peer sends bytes.
 #[tactic(auto, unfolding(lks_law::specs::World::happens, lks_law::specs::Entries::entry_of))]
-pub fn forge(state: &mut State, from: PeerId, to: PeerId, bytes: Bytes) -> Result<(), OutOfMemory>
+pub fn forge<D: CrashDisk>(
+    state: &mut State<D>,
+    from: PeerId,
+    to: PeerId,
+    bytes: Bytes,
+) -> Result<(), OutOfMemory>
+    ensures hosts { state.new.hosts.items ≡ state.old.hosts.items }
     ensures world { OnOk result (world_in state.new ≡ happens (world_in state.old) (events.Forge from to bytes)) }
     ensures history { OnOk result (state.new.history.items ≡ state.old.history.items ++ entry_of (world_in state.old) (events.Forge from to bytes) ∷ []) }
     ensures pending { OnOk result (state.new.pending.items ≡ state.old.pending.items ++ length state.old.bag.items ∷ []) }

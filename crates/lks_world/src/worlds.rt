@@ -1,87 +1,105 @@
 //! A world as its callers see it: a plan, and the history of the events that it kept.
 
-ghost use Rattle.std.specs.Prelude.{◌≡◌, [], true, false, None, IfOk, OnOk, is_err, is_some};
+ghost use Rattle.std.specs.Prelude.{◌≡◌, ◌≤◌, [], true, None, Some, IfOk, OnOk, length};
 ghost use Rattle.lks_base.specs.Checking.{plan_fault};
 ghost use Rattle.lks_law.specs.Entries.{entries};
 ghost use Rattle.lks_script.specs.StepRules.{is_step_of};
+ghost use Rattle.lks_world.specs.Counts.{fault_in, ServesHonest};
 ghost use Rattle.lks_world.specs.Follows.{performed};
+ghost use Rattle.lks_world.specs.Held.{AreFresh, HaveBatches};
 
-use crate::doing::{begin, do_step};
+use crate::beginning::{begin, take_back};
+use crate::disks::{Spare, join, split};
+use crate::doing::do_step;
+use crate::faults::WorldFault;
 use crate::states::State;
 use lks_base::{Entry, Plan};
+use lks_disk::CrashDisk;
 use lks_script::Step;
 use std::alloc::Global;
+use std::collections::VecDeque;
 use std::marker::Model;
 
-/// Why a world takes no further step.
-#[derive(Clone, Copy, Debug, PartialEq, Eq)]
-pub enum WorldFault {
-    Memory,
-}
-
-/// What a world gives back at its end.
+/// What a world gives back at its end: the history, and all disks in the order in which they were handed in.
 #[derive(Drop)]
-pub struct Parts {
+pub struct Parts<D> {
     pub history: Vec<Entry>,
+    pub disks: Vec<D>,
 }
 
-/// A world of peers: its plan and all that happened in it. Contracts see the plan, the history of
-/// events, and whether it was stopped by a fault.
+/// A world of peers: its plan and all that happened in it. Contracts see the plan, the history of events, the
+/// fault that stopped it, and the disks. The i-th disk is that of the i-th peer of the plan, and those of honest
+/// peers hold their journals.
 #[derive(Drop)]
-pub struct World {
+pub struct World<D: CrashDisk> {
     alloc: Global,
     plan: Plan,
-    state: State,
-    stopped: bool,
+    state: State<D>,
+    /// The room for the honest peers' disks.
+    honest: VecDeque<D>,
+    spare: Spare<D>,
+    stopped: Option<WorldFault>,
 }
 
-impl Model for World {
+impl<D: CrashDisk> Model for World<D> {
     ghost use Rattle.lks_world.specs.Seen.{Seen};
 
-    ghost Value = { Seen };
+    ghost Value = { Seen D };
 
     ghost use Rattle.lks_world.specs.Worlds.{seen_in, IsKept};
 
     ghost view = { seen_in };
 
-    ghost invariant = { IsKept };
+    ghost invariant = { IsKept D.seen D.may_leave D.fused };
 }
 
-impl World {
-    /// A world in which nothing happened yet. The plan is good.
-    pub fn new(alloc: Global, plan: Plan) -> Result<World, (Parts, WorldFault)>
-        requires { plan_fault plan ≡ None }
-        ensures { IfOk result (λ world. world ≡ record { plan = plan; history = []; stopped = false }) }
+impl<D: CrashDisk + Drop> World<D> {
+    ghost use Rattle.lks_world.specs.Made.{disks_made, fault_made};
+
+    /// A world in which nothing happened yet. The plan is good, and there is a fresh disk for each of its peers.
+    pub fn new(alloc: Global, plan: Plan, disks: Vec<D>) -> Result<World<D>, (Parts<D>, WorldFault)>
+        requires good { plan_fault plan ≡ None }
+        requires enough { length plan.peers ≤ length disks.items }
+        requires fresh { AreFresh D.seen D.may_leave D.fused disks.items }
+        ensures plan { IfOk result (λ world. world.plan ≡ plan) }
+        ensures history { IfOk result (λ world. world.history ≡ []) }
+        ensures running { IfOk result (λ world. world.stopped ≡ None) }
+        ensures disks { ServesHonest D.faults plan.peers disks.items (disks_made result) (fault_made result) }
     {
-        match begin(alloc, &plan) {
+        let (mut honest, spare) = match split(alloc, plan.peers.as_slice(), disks) {
+            Ok(parts) => parts,
+            Err(disks) => return Err((nothing_done(alloc, disks), WorldFault::Memory)),
+        };
+        match begin(alloc, &plan, &mut honest) {
             Ok(state) => Ok(World {
                 alloc,
                 plan,
                 state,
-                stopped: false,
+                honest,
+                spare,
+                stopped: None,
             }),
-            Err(_) => Err((
-                Parts {
-                    history: Vec::new(alloc),
-                },
-                WorldFault::Memory,
-            )),
+            Err(fault) => {
+                let disks = join(plan.peers.as_slice(), honest, spare);
+                Err((nothing_done(alloc, disks), fault))
+            }
         }
     }
 
     /// Does one step of a script whole. After a fault the world takes no further step.
     pub fn perform(&mut self, step: &Step) -> Result<(), WorldFault>
-        requires running { self.old.stopped ≡ false }
+        requires running { self.old.stopped ≡ None }
         requires legal { is_step_of self.old.plan step.now ≡ true }
         ensures plan { self.new.plan ≡ self.old.plan }
         ensures ok { OnOk result (self.new.history ≡ performed self.old.plan self.old.history step.now) }
-        ensures stopped { self.new.stopped ≡ is_err result }
+        ensures stopped { self.new.stopped ≡ fault_in result }
+        ensures disks { ServesHonest D.faults self.old.plan.peers self.old.disks self.new.disks (fault_in result) }
     {
         match do_step(self.alloc, &self.plan, &mut self.state, step) {
             Ok(()) => Ok(()),
-            Err(_) => {
-                self.stopped = true;
-                Err(WorldFault::Memory)
+            Err(fault) => {
+                self.stopped = Some(fault);
+                Err(fault)
             }
         }
     }
@@ -95,29 +113,43 @@ impl World {
 
     /// An entry for each event, in order, while the world isn't stopped.
     pub fn history(&self) -> &[Entry]
-        ensures { self.now.stopped ≡ false → result.now ≡ entries self.now.plan self.now.history }
+        ensures { self.now.stopped ≡ None → result.now ≡ entries self.now.plan self.now.history }
     {
         self.state.history.as_slice()
     }
 
     /// Why the world takes no further step, if it was stopped.
     pub fn stopped(&self) -> Option<WorldFault>
-        ensures { is_some result ≡ self.now.stopped }
+        ensures { result ≡ self.now.stopped }
     {
-        if self.stopped {
-            Some(WorldFault::Memory)
-        } else {
-            None
-        }
+        self.stopped
     }
 
-    /// Gives the history back.
-    pub fn into_parts(self) -> Parts
-        ensures { self.stopped ≡ false → result.history.items ≡ entries self.plan self.history }
+    /// Gives the history and the disks back. Unless a fault stopped it, the honest peers' disks hold their journals.
+    pub fn into_parts(self) -> Parts<D>
+        ensures history { self.stopped ≡ None → result.history.items ≡ entries self.plan self.history }
+        ensures disks { result.disks.items ≡ self.disks }
+        ensures holds { self.stopped ≡ None → HaveBatches D.seen D.may_leave self.plan self.history self.disks }
     {
-        let World { state, .. } = self;
-        Parts {
-            history: state.history,
-        }
+        let World {
+            plan,
+            state,
+            mut honest,
+            spare,
+            ..
+        } = self;
+        let State { hosts, history, .. } = state;
+        take_back(hosts, &mut honest);
+        let disks = join(plan.peers.as_slice(), honest, spare);
+        Parts { history, disks }
+    }
+}
+
+fn nothing_done<D>(alloc: Global, disks: Vec<D>) -> Parts<D>
+    ensures { result.disks.items ≡ disks.items }
+{
+    Parts {
+        history: Vec::new(alloc),
+        disks,
     }
 }

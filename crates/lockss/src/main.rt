@@ -1,12 +1,14 @@
 //! The program `lockss`: it plays a script of LOCKSS peers and reports what happened.
 #![tactic(auto)]
 
+mod fresh;
 mod playing;
 mod replays;
 mod statuses;
 #[cfg(test)]
 mod tests;
 
+use fresh::fresh_disks;
 use lks_outside::{StdSink, StdSource};
 pub use replays::run;
 pub use statuses::Status;
@@ -37,6 +39,7 @@ fn complain(rt: &impl Eprint, status: Status) -> io::Result<()> {
         Status::BadScript { line } => eprintln!(rt; "lockss: bad script: line {line}"),
         Status::ReadFault => eprintln!(rt; "lockss: read fault"),
         Status::WriteFault => eprintln!(rt; "lockss: write fault"),
+        Status::DiskFault { peer } => eprintln!(rt; "lockss: disk fault at peer {peer}"),
         Status::NoMemory => eprintln!(rt; "lockss: out of memory"),
         Status::TooLong => eprintln!(rt; "lockss: script too long"),
     }
@@ -45,9 +48,12 @@ fn complain(rt: &impl Eprint, status: Status) -> io::Result<()> {
 fn main(rt: HostRuntime) -> ExitCode {
     let mut source = StdSource::new(rt.stdin());
     let mut sink = StdSink::new(rt.stdout());
-    let status = match words_of(&rt) {
-        Ok(words) => run(rt.alloc(), &words, &mut source, &mut sink),
-        Err(status) => status,
+    let status = match (words_of(&rt), fresh_disks(rt.alloc())) {
+        (Ok(words), Ok(mut disks)) => {
+            run(rt.alloc(), &words, &mut source, &mut sink, &mut disks)
+        }
+        (Err(status), _) => status,
+        (_, Err(_)) => Status::NoMemory,
     };
     let _told = complain(&rt, status);
     ExitCode::from(status.code())

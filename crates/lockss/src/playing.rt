@@ -1,25 +1,30 @@
-//! A script is played, and the report of its history is written.
+//! A script is played on disks, and the report of its history is written.
 
-ghost use Rattle.std.specs.Prelude.{◌≡◌, ◌≢◌, ◌≤◌, true, false, None, OnOk, is_err};
+ghost use Rattle.std.specs.Prelude.{◌≡◌, ◌≢◌, ◌≤◌, true, None, OnOk, length};
 ghost use Rattle.lks_base.specs.Checking.{plan_fault};
 ghost use Rattle.lks_outside.specs.Counts.{Rose};
 ghost use Rattle.lks_script.specs.StepRules.{are_steps_of};
+ghost use Rattle.lks_world.specs.Counts.{fault_in, ServesHonest};
 ghost use Rattle.lks_world.specs.Follows.{follow};
-ghost use Rattle.lockss.specs.Replay.{Tells, Plays};
+ghost use Rattle.lks_world.specs.Held.{AreFresh};
+ghost use Rattle.lockss.specs.Replay.{stopped_as, fault_told, PlaysIn, TellsReport, Plays, IsServed};
 
 use crate::statuses::Status;
+use lks_disk::CrashDisk;
 use lks_outside::{Sink, WriteStop};
 use lks_report::{has_alarm, report};
 use lks_script::{Script, Step};
-use lks_world::{World, WorldFault};
+use lks_world::{Parts, World, WorldFault};
 use std::alloc::Global;
+use std::mem;
 
-fn perform_all(world: &mut World, steps: &[Step]) -> Result<(), WorldFault>
-    requires running { world.old.stopped ≡ false }
+fn perform_all<D: CrashDisk + Drop>(world: &mut World<D>, steps: &[Step]) -> Result<(), WorldFault>
+    requires running { world.old.stopped ≡ None }
     requires legal { are_steps_of world.old.plan steps.now ≡ true }
     ensures plan { world.new.plan ≡ world.old.plan }
     ensures follows { OnOk result (world.new.history ≡ follow world.old.plan world.old.history steps.now) }
-    ensures stopped { world.new.stopped ≡ is_err result }
+    ensures stopped { world.new.stopped ≡ fault_in result }
+    ensures serves { ServesHonest D.faults world.old.plan.peers world.old.disks world.new.disks (fault_in result) }
 {
     for step in steps {
         world.perform(step)?;
@@ -28,13 +33,11 @@ fn perform_all(world: &mut World, steps: &[Step]) -> Result<(), WorldFault>
 }
 
 /// Writes the report of what happened in the world.
-fn tell<K: Sink>(alloc: Global, world: &World, sink: &mut K) -> Status
-    requires { world.now.stopped ≡ false }
-    ensures tells { Tells world.now.plan world.now.history (K.taken sink.old) (K.taken sink.new) result }
+fn tell<K: Sink, D: CrashDisk + Drop>(alloc: Global, world: &World<D>, sink: &mut K) -> Status
+    requires { world.now.stopped ≡ None }
+    ensures tells { TellsReport world.now.plan world.now.history (K.taken sink.old) (K.taken sink.new) result }
     ensures failed { result ≡ Status.WriteFault → Rose (K.faults sink.old) (K.faults sink.new) }
     ensures count { K.faults sink.old ≤ K.faults sink.new }
-    ensures not_usage { result ≢ Status.Usage }
-    ensures not_read { result ≢ Status.ReadFault }
 {
     let history = world.history();
     match report(alloc, world.plan(), history, sink) {
@@ -50,22 +53,65 @@ fn tell<K: Sink>(alloc: Global, world: &World, sink: &mut K) -> Status
     }
 }
 
-/// Plays a script and writes the report of its history.
-pub fn play<K: Sink>(alloc: Global, script: Script, sink: &mut K) -> Status
+/// What the fault of a world is to its run.
+fn stopped_by(fault: WorldFault) -> Status
+    ensures { result ≡ stopped_as fault }
+{
+    match fault {
+        WorldFault::Disk { peer } => Status::DiskFault { peer },
+        WorldFault::Memory => Status::NoMemory,
+    }
+}
+
+/// Does the steps in a world, and writes the report.
+fn play_in<K: Sink, D: CrashDisk + Drop>(
+    alloc: Global,
+    world: &mut World<D>,
+    steps: &[Step],
+    sink: &mut K,
+) -> Status
+    requires running { world.old.stopped ≡ None }
+    requires legal { are_steps_of world.old.plan steps.now ≡ true }
+    ensures plan { world.new.plan ≡ world.old.plan }
+    ensures plays { PlaysIn world.old.plan (follow world.old.plan world.old.history steps.now) world.new (K.taken sink.old) (K.taken sink.new) result }
+    ensures serves { ServesHonest D.faults world.old.plan.peers world.old.disks world.new.disks (fault_told result) }
+    ensures failed { result ≡ Status.WriteFault → Rose (K.faults sink.old) (K.faults sink.new) }
+    ensures count { K.faults sink.old ≤ K.faults sink.new }
+{
+    match perform_all(world, steps) {
+        Ok(()) => tell(alloc, world, sink),
+        Err(fault) => stopped_by(fault),
+    }
+}
+
+/// Plays a script on disks, which are back in their places afterwards, and writes the report of its history.
+pub fn play<K: Sink, D: CrashDisk + Drop>(
+    alloc: Global,
+    script: Script,
+    disks: &mut Vec<D>,
+    sink: &mut K,
+) -> Status
     requires good { plan_fault script.plan ≡ None }
     requires legal { are_steps_of script.plan script.steps ≡ true }
-    ensures plays { Plays script (K.taken sink.old) (K.taken sink.new) result }
+    requires enough { 32 ≤ length disks.old.items }
+    requires fresh { AreFresh D.seen D.may_leave D.fused disks.old.items }
+    ensures plays { Plays D.seen D.may_leave disks.new.items script (K.taken sink.old) (K.taken sink.new) result }
+    ensures served { IsServed D.faults disks.old.items disks.new.items script result }
     ensures failed { result ≡ Status.WriteFault → Rose (K.faults sink.old) (K.faults sink.new) }
     ensures count { K.faults sink.old ≤ K.faults sink.new }
     ensures not_usage { result ≢ Status.Usage }
     ensures not_read { result ≢ Status.ReadFault }
 {
     let Script { plan, steps } = script;
-    let Ok(mut world) = World::new(alloc, plan) else {
-        return Status::NoMemory;
+    let handed = mem::replace(disks, Vec::new(alloc));
+    let mut world = match World::new(alloc, plan, handed) {
+        Ok(world) => world,
+        Err((parts, fault)) => {
+            *disks = parts.disks;
+            return stopped_by(fault);
+        }
     };
-    match perform_all(&mut world, steps.as_slice()) {
-        Ok(()) => tell(alloc, &world, sink),
-        Err(_) => Status::NoMemory,
-    }
+    let status = play_in(alloc, &mut world, steps.as_slice(), sink);
+    *disks = world.into_parts().disks;
+    status
 }

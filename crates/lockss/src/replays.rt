@@ -2,12 +2,14 @@
 
 ghost use Rattle.std.specs.Prelude.{◌≡◌, ◌≢◌, ◌≤◌, ◌↔◌, ℕ, List, true, false, Some, Ok, length, map, string_bytes};
 ghost use Rattle.lks_outside.specs.Counts.{Rose};
+ghost use Rattle.lks_world.specs.Held.{AreFresh};
 ghost use Rattle.lks_script.specs.Grammar.{script_of};
 ghost use Rattle.lks_script.specs.declared.steps.Script.{Script as Read};
-ghost use Rattle.lockss.specs.Replay.{is_replay, most_bytes, PlaysBytes, Replays, Completes};
+ghost use Rattle.lockss.specs.Replay.{is_replay, most_bytes, PlaysBytes, Replays, LeavesDisks, NoneRose, Completes};
 
 use crate::playing::play;
 use crate::statuses::Status;
+use lks_disk::CrashDisk;
 use lks_outside::{ReadStop, Sink, Source, read_all};
 use lks_script::{Script, ScriptFault, read_script};
 use std::alloc::Global;
@@ -24,22 +26,38 @@ fn names_replay(words: &[String]) -> bool
     }
 }
 
-fn play_bytes<K: Sink>(alloc: Global, bytes: &[u8], sink: &mut K) -> Status
-    ensures plays { PlaysBytes bytes.now (K.taken sink.old) (K.taken sink.new) result }
+fn play_bytes<K: Sink, D: CrashDisk + Drop>(
+    alloc: Global,
+    bytes: &[u8],
+    disks: &mut Vec<D>,
+    sink: &mut K,
+) -> Status
+    requires enough { 32 ≤ length disks.old.items }
+    requires fresh { AreFresh D.seen D.may_leave D.fused disks.old.items }
+    ensures plays { PlaysBytes D.faults D.seen D.may_leave disks.old.items disks.new.items bytes.now (K.taken sink.old) (K.taken sink.new) result }
     ensures failed { result ≡ Status.WriteFault → Rose (K.faults sink.old) (K.faults sink.new) }
     ensures count { K.faults sink.old ≤ K.faults sink.new }
     ensures not_usage { result ≢ Status.Usage }
     ensures not_read { result ≢ Status.ReadFault }
 {
     match read_script(alloc, bytes) {
-        Ok(script) => play(alloc, script, sink),
+        Ok(script) => play(alloc, script, disks, sink),
         Err(ScriptFault::BadLine { line }) => Status::BadScript { line },
         Err(ScriptFault::Memory) => Status::NoMemory,
     }
 }
 
-fn replay<S: Source, K: Sink>(alloc: Global, source: &mut S, sink: &mut K) -> Status
-    ensures replays { (bytes : List ℕ) → S.left source.old ≡ Some bytes → Replays bytes (S.left source.new) (K.taken sink.old) (K.taken sink.new) result }
+fn replay<S: Source, K: Sink, D: CrashDisk + Drop>(
+    alloc: Global,
+    source: &mut S,
+    sink: &mut K,
+    disks: &mut Vec<D>,
+) -> Status
+    requires enough { 32 ≤ length disks.old.items }
+    requires fresh { AreFresh D.seen D.may_leave D.fused disks.old.items }
+    ensures replays { (bytes : List ℕ) → S.left source.old ≡ Some bytes →
+        Replays D.faults D.seen D.may_leave disks.old.items disks.new.items bytes (S.left source.new) (K.taken sink.old) (K.taken sink.new) result }
+    ensures disks { LeavesDisks D.faults disks.old.items disks.new.items result }
     ensures read_fault { result ≡ Status.ReadFault → Rose (S.faults source.old) (S.faults source.new) }
     ensures write_fault { result ≡ Status.WriteFault → Rose (K.faults sink.old) (K.faults sink.new) }
     ensures source_count { S.faults source.old ≤ S.faults source.new }
@@ -47,7 +65,7 @@ fn replay<S: Source, K: Sink>(alloc: Global, source: &mut S, sink: &mut K) -> St
     ensures not_usage { result ≢ Status.Usage }
 {
     match read_all(alloc, source, MOST_BYTES) {
-        Ok(bytes) => play_bytes(alloc, &bytes, sink),
+        Ok(bytes) => play_bytes(alloc, &bytes, disks, sink),
         Err(ReadStop::Failed) => Status::ReadFault,
         Err(ReadStop::TooLong) => Status::TooLong,
         Err(ReadStop::Memory) => Status::NoMemory,
@@ -55,25 +73,32 @@ fn replay<S: Source, K: Sink>(alloc: Global, source: &mut S, sink: &mut K) -> St
 }
 
 /// Does the command that the words name: `replay` reads a script from the source, plays it, and writes the
-/// report of its history to the sink.
-pub fn run<S: Source, K: Sink>(
+/// report of its history to the sink. The i-th disk is that of the script's i-th peer; those of honest peers
+/// hold their journals. All disks are fresh, and there are as many as a script may have peers.
+pub fn run<S: Source, K: Sink, D: CrashDisk + Drop>(
     alloc: Global,
     words: &[String],
     source: &mut S,
     sink: &mut K,
+    disks: &mut Vec<D>,
 ) -> Status
+    requires enough { 32 ≤ length disks.old.items }
+    requires fresh { AreFresh D.seen D.may_leave D.fused disks.old.items }
     ensures usage { (result ≡ Status.Usage) ↔ (is_replay (map string_bytes words.now) ≡ false) }
-    ensures untouched { result ≡ Status.Usage → (source.new ≡ source.old) × (sink.new ≡ sink.old) }
-    ensures replays { is_replay (map string_bytes words.now) ≡ true → (bytes : List ℕ) → S.left source.old ≡ Some bytes → Replays bytes (S.left source.new) (K.taken sink.old) (K.taken sink.new) result }
+    ensures untouched { result ≡ Status.Usage → (source.new ≡ source.old) × (sink.new ≡ sink.old) × (disks.new ≡ disks.old) }
+    ensures replays { is_replay (map string_bytes words.now) ≡ true → (bytes : List ℕ) → S.left source.old ≡ Some bytes →
+        Replays D.faults D.seen D.may_leave disks.old.items disks.new.items bytes (S.left source.new) (K.taken sink.old) (K.taken sink.new) result }
+    ensures disks { LeavesDisks D.faults disks.old.items disks.new.items result }
     ensures complete { is_replay (map string_bytes words.now) ≡ true → (bytes : List ℕ) (script : Read) → S.left source.old ≡ Some bytes → length bytes ≤ most_bytes → script_of bytes ≡ Ok script
-        → (Rose (S.faults source.old) (S.faults source.new) → ⊥) → (Rose (K.faults sink.old) (K.faults sink.new) → ⊥) → Completes script result }
+        → (Rose (S.faults source.old) (S.faults source.new) → ⊥) → (Rose (K.faults sink.old) (K.faults sink.new) → ⊥)
+        → NoneRose D.faults disks.old.items disks.new.items → Completes script result }
     ensures read_fault { result ≡ Status.ReadFault → Rose (S.faults source.old) (S.faults source.new) }
     ensures write_fault { result ≡ Status.WriteFault → Rose (K.faults sink.old) (K.faults sink.new) }
     ensures source_count { S.faults source.old ≤ S.faults source.new }
     ensures sink_count { K.faults sink.old ≤ K.faults sink.new }
 {
     if names_replay(words) {
-        replay(alloc, source, sink)
+        replay(alloc, source, sink, disks)
     } else {
         Status::Usage
     }

@@ -3,6 +3,8 @@
 ghost use Rattle.std.specs.Prelude.{◌≡◌};
 ghost use Rattle.lockss.specs.Codes.{code_of};
 
+use lks_base::PeerId;
+
 /// The answer of a run.
 #[derive(Clone, Copy, Debug, PartialEq, Eq)]
 pub enum Status {
@@ -16,6 +18,8 @@ pub enum Status {
     BadScript { line: u32 },
     ReadFault,
     WriteFault,
+    /// The count of faults of this peer's disk rose.
+    DiskFault { peer: PeerId },
     NoMemory,
     /// The script has more than 16,777,216 bytes.
     TooLong,
@@ -33,6 +37,7 @@ impl Status {
             Status::BadScript { .. } => 3,
             Status::ReadFault => 4,
             Status::WriteFault => 5,
+            Status::DiskFault { .. } => 6,
             Status::NoMemory => 7,
             Status::TooLong => 8,
         }

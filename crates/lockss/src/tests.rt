@@ -1,7 +1,9 @@
 //! Whole runs: a script goes in, and a status and a report come out.
 
+mod disks;
+
 use super::*;
-use lks_base::{Input, Judged, Message, Record, Seq};
+use lks_base::{Input, Judged, Message, Plan, Reaction, Record, Seq};
 use lks_outside::{MemSink, MemSource};
 use lks_peer::Peer;
 use lks_script::read_script;
@@ -505,7 +507,8 @@ fn reports(rt: HostRuntime) -> Result<(), Fail> {
     for (at, row) in rows.iter().enumerate() {
         let mut source = MemSource::new(alloc, joined(alloc, row.script)?, [].to_vec(alloc)?);
         let mut sink = MemSink::new(alloc, [].to_vec(alloc)?);
-        let status = run(alloc, &words, &mut source, &mut sink);
+        let mut disks = fresh_disks(alloc)?;
+        let status = run(alloc, &words, &mut source, &mut sink, &mut disks);
         assert_eq!(rt; status, row.status, "row {at}");
         assert_eq!(rt;
             sink.bytes(),
@@ -568,7 +571,8 @@ fn refusals(rt: HostRuntime) -> Result<(), Fail> {
         let script = joined(alloc, row.script)?;
         let mut source = MemSource::new(alloc, script, row.failing_reads.to_vec(alloc)?);
         let mut sink = MemSink::new(alloc, row.failing_writes.to_vec(alloc)?);
-        let status = run(alloc, &words, &mut source, &mut sink);
+        let mut disks = fresh_disks(alloc)?;
+        let status = run(alloc, &words, &mut source, &mut sink, &mut disks);
         assert_eq!(rt; status, row.status, "row {at}");
         assert!(rt; sink.bytes().is_empty(), "row {at}");
     }
@@ -582,7 +586,8 @@ fn too_long(rt: HostRuntime) -> Result<(), Fail> {
     let bytes = vec![in alloc; b'#'; 16_777_217]?;
     let mut source = MemSource::new(alloc, bytes, [].to_vec(alloc)?);
     let mut sink = MemSink::new(alloc, [].to_vec(alloc)?);
-    let status = run(alloc, &words, &mut source, &mut sink);
+    let mut disks = fresh_disks(alloc)?;
+    let status = run(alloc, &words, &mut source, &mut sink, &mut disks);
     assert_eq!(rt; status, Status::TooLong);
     assert!(rt; sink.bytes().is_empty());
     Ok(())
@@ -596,14 +601,10 @@ fn proof(alloc: Global) -> Result<Vec<u8>, Fail> {
     Ok(bytes)
 }
 
-#[test]
-fn proof_after_challenge(rt: HostRuntime) -> Result<(), Fail> {
-    let alloc = rt.alloc();
-    let script = read_script(alloc, joined(alloc, [HEAD, ""])?.as_slice())
-        .ok()
-        .ok_or("the head is a script")?;
-    let [planned, ..] = script.plan.peers.as_slice() else {
-        return Err("four peers".into());
+/// The first peer of a plan with AU 1 of no blocks, and its reaction to opening a poll.
+fn opening(alloc: Global, plan: &Plan) -> Result<(Peer, Reaction), Fail> {
+    let [planned, ..] = plan.peers.as_slice() else {
+        return Err("a peer".into());
     };
     if planned.proof.as_slice().len() > 64 {
         return Err("a proof of one byte".into());
@@ -613,11 +614,23 @@ fn proof_after_challenge(rt: HostRuntime) -> Result<(), Fail> {
         au: 1,
         blocks: Seq::from_vec(Vec::new(alloc)),
     })?;
-    let mut peer = Peer::begin(alloc, &script.plan, planned, list)
+    let mut peer = Peer::begin(alloc, plan, planned, list)
         .ok()
         .ok_or("memory")?;
-    let opened = peer.step(0, &Input::OpenPoll { au: 1 });
-    assert!(rt; opened.is_ok());
+    let reaction = peer
+        .step(0, &Input::OpenPoll { au: 1 })
+        .ok()
+        .ok_or("memory")?;
+    Ok((peer, reaction))
+}
+
+#[test]
+fn proof_after_challenge(rt: HostRuntime) -> Result<(), Fail> {
+    let alloc = rt.alloc();
+    let script = read_script(alloc, HEAD.as_bytes())
+        .ok()
+        .ok_or("the head is a script")?;
+    let (mut peer, _opened) = opening(alloc, &script.plan)?;
     let agreed = Input::Got {
         from: 2,
         message: Message::PollChallenge {
@@ -633,5 +646,37 @@ fn proof_after_challenge(rt: HostRuntime) -> Result<(), Fail> {
     };
     assert_eq!(rt; outgoing.to, 2);
     assert_eq!(rt; outgoing.bytes.as_slice(), proof(alloc)?.as_slice());
+    Ok(())
+}
+
+// Peer 1 lists six peers.
+const HEAD_OF_SEVEN: &str = "\
+lockss 1
+rules inner 6 quorum 3 minority 1 outer 0 repairs 2 pace 0 refractory 0 overdue 100 unknown 100 debt 100 churn 0
+au 1 2
+peer 1 honest 01 01
+peer 2 corrupt 02 01
+peer 3 corrupt 03 01
+peer 4 corrupt 04 01
+peer 5 corrupt 05 01
+peer 6 corrupt 06 01
+peer 7 corrupt 07 01
+refs 1 2 3 4 5 6 7
+copy 1 1 41,42
+";
+
+// By another implementation of SHA-256 and ChaCha20, the draw of poll 1 picks 5, 3 and 4 of the peers 2 to 7.
+#[test]
+fn inner_circle(rt: HostRuntime) -> Result<(), Fail> {
+    let alloc = rt.alloc();
+    let mut script = read_script(alloc, HEAD_OF_SEVEN.as_bytes())
+        .ok()
+        .ok_or("the head is a script")?;
+    script.plan.rules.inner = 3;
+    let (_peer, reaction) = opening(alloc, &script.plan)?;
+    let [first, second, third] = reaction.sends.as_slice() else {
+        return Err("three messages".into());
+    };
+    assert_eq!(rt; [first.to, second.to, third.to], [5, 3, 4]);
     Ok(())
 }

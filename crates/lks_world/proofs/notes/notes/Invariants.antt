@@ -4,4 +4,4 @@ use Rattle.lks_law.specs.Entries.{note_of}
 use Rattle.lks_world.proofs.notes.notes.Given as goal
 
 abbrev pub invariant-loop-item : goal.invariant-loop-item
-invariant-loop-item l = l.notes.items ++ filter_map (note_of l.peer.journal) (drop l.item-index l.records) ≡ filter_map (note_of l.peer.journal) l.records
+invariant-loop-item g l = l.notes.items ++ filter_map (note_of l.host.peer.journal) (drop l.item-index l.records) ≡ filter_map (note_of l.host.peer.journal) l.records

@@ -1,16 +1,24 @@
 use Rattle.std.proofs.Common.{sym, ◌∙◌}
+use Rattle.lks_world.proofs.PlaceLaws.{peer_within, peer_is}
 use Rattle.lks_world.proofs.ReadyLaws.{ready_here, ready_later, ready_no_delivery}
+use Rattle.lks_world.specs.Hosts.{peers_of}
 use Rattle.lks_world.proofs.settling.first_ready.Goals as goal
 
 pub returns-in-Some-clause-work : goal.returns-in-Some-clause-work
-returns-in-Some-clause-work c =
-    sym (ready_here c.args.peers.now c.loop-peer.peer-index c.peer-item.result c.in-Some.s c.loop-peer-test.true c.peer-item.is (sym c.ready.ensures ∙ c.in-Some.is))
-    ∙ c.loop-peer.invariant
+returns-in-Some-clause-work g c =
+    let h = c.host-item.result in
+    let hosts = c.args.hosts.now in
+    let i = c.loop-host.host-index in
+    sym (ready_here (peers_of hosts) i h.peer c.in-Some.s (peer_within hosts i h c.loop-host-test.true c.host-item.is) (peer_is hosts i h c.loop-host-test.true c.host-item.is) (sym c.ready.ensures ∙ c.in-Some.is))
+    ∙ c.loop-host.invariant
 
-pub loop-peer-preserved : goal.loop-peer-preserved
-loop-peer-preserved c =
-    sym (ready_later c.args.peers.now c.loop-peer.peer-index c.peer-item.result c.loop-peer-test.true c.peer-item.is (sym c.ready.ensures ∙ c.in-None.is))
-    ∙ c.loop-peer.invariant
+pub loop-host-preserved : goal.loop-host-preserved
+loop-host-preserved g c =
+    let h = c.host-item.result in
+    let hosts = c.args.hosts.now in
+    let i = c.loop-host.host-index in
+    sym (ready_later (peers_of hosts) i h.peer (peer_within hosts i h c.loop-host-test.true c.host-item.is) (peer_is hosts i h c.loop-host-test.true c.host-item.is) (sym c.ready.ensures ∙ c.in-None.is))
+    ∙ c.loop-host.invariant
 
 pub returns-in-Some-clause-no_delivery : goal.returns-in-Some-clause-no_delivery
-returns-in-Some-clause-no_delivery c = ready_no_delivery c.peer-item.result 0 c.in-Some.s 0 (sym c.ready.ensures ∙ c.in-Some.is)
+returns-in-Some-clause-no_delivery g c = ready_no_delivery c.host-item.result.peer 0 c.in-Some.s 0 (sym c.ready.ensures ∙ c.in-Some.is)

@@ -1,7 +1,7 @@
 use Rattle.std.proofs.Common.{◌≡◌, ◌++◌, drop}
 use Rattle.std.specs.List.{filter_map, flat_map}
 use Rattle.lks_law.specs.World.{deposit_for}
-use Rattle.lks_world.proofs.doing.deposit_all.Given as goal
+use Rattle.lks_host.proofs.deposits.deposit_all.Given as goal
 
 abbrev pub invariant-loop-au : goal.invariant-loop-au
 invariant-loop-au l =

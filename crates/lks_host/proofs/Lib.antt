@@ -1,0 +1,4 @@
+pub mod Adding
+pub mod Beginning
+pub mod Fitting
+pub mod Standing

@@ -1,0 +1,16 @@
+-- What a host says of a refusal of its journal.
+use Rattle.std.specs.Prelude.{Result, Ok, Err}
+use Rattle.lks_host.specs.declared.faults.HostFault.{HostFault}
+use Rattle.lks_host.specs.declared.faults.HostFault.TheVariants.{Failed, Cut, Memory}
+use Rattle.lks_journal.specs.declared.faults.JournalFault.{JournalFault}
+use Rattle.lks_journal.specs.declared.faults.JournalFault.TheVariants as journal
+
+abbrev pub told_by : HostFault → JournalFault
+told_by Failed = journal.Failed
+told_by Cut = journal.Cut
+told_by Memory = journal.Memory
+
+-- the answer that the journal gave, without its value
+abbrev pub as_journal : {T : Type 0} → Result T HostFault → Result (Unit {0}) JournalFault
+as_journal (Ok _) = Ok tt
+as_journal (Err fault) = Err (told_by fault)

@@ -1,0 +1,4 @@
+pub mod Bodies
+pub mod Faults
+pub mod Fits
+pub mod Hosted

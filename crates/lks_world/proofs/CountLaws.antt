@@ -1,0 +1,53 @@
+-- Counts of faults over one call and then another.
+use Rattle.std.proofs.Common.{◌≡◌, ◌≤◌, ◌∙◌, inl, inr, ap, sym, ℕ, zero, suc, List, [], ◌∷◌, length, refl, arith}
+use Rattle.std.specs.Prelude.{Option, Some, None, slice_get}
+use Rattle.lks_disk.specs.Counts.{Rose}
+use Rattle.lks_world.specs.Counts.{AreCounted}
+use Rattle.lks_world.specs.declared.faults.WorldFault.{WorldFault}
+use Rattle.lks_world.specs.declared.faults.WorldFault.TheVariants.{Disk}
+
+some_is : {X : Type 0} {x y : X} → Some x ≡ Some y → x ≡ y
+some_is e = cc
+
+pub rose_from : (a b c : ℕ) → a ≤ b → Rose b c → Rose a c
+rose_from a b c low rose = elim rose [ inl more ↦ inl (omega (arith, low, more)) | inr end ↦ inr end ]
+
+-- lists of one length have something at the same places
+pub there_too : {X : Type 0} (xs ys : List X) → length ys ≡ length xs → (place : ℕ) (x : X) → slice_get xs place ≡ Some x → (y : X) × (slice_get ys place ≡ Some y)
+there_too [] ys same place x at = absurd cc
+there_too (x ∷ xs) [] same place y at = absurd (omega (arith, same))
+there_too (x ∷ xs) (y ∷ ys) same zero z at = (y, refl)
+there_too (x ∷ xs) (y ∷ ys) same (suc place) z at = there_too xs ys (omega (arith, same)) place z at
+
+module _ {D : Type 0} (faults : D → ℕ) (ids : List ℕ) where
+  pub untouched : (disks : List D) (fault : Option WorldFault) → ((id : ℕ) → fault ≡ Some (Disk id) → ⊥) → AreCounted faults ids disks disks fault
+  untouched disks fault none = record {
+    count = refl;
+    later = λ place d e at also. let same = ap faults (some_is (sym at ∙ also)) in omega (arith, same);
+    cause = λ id is. absurd (none id is);
+  }
+
+  pub uncounted : (disks : List D) → AreCounted faults ids disks disks None
+  uncounted disks = untouched disks None (λ id is. absurd cc)
+
+  pub are_counted_then : (xs ys zs : List D) (fault : Option WorldFault) → AreCounted faults ids xs ys None → AreCounted faults ids ys zs fault → AreCounted faults ids xs zs fault
+  are_counted_then xs ys zs fault first next = record {
+    count = next.count ∙ first.count;
+    later = λ place d e at then.
+        let mid = there_too xs ys first.count place d at in
+        let low = first.later place d mid.0 at mid.1 in
+        let high = next.later place mid.0 e mid.1 then in
+        omega (arith, low, high);
+    cause = λ id is.
+        let risen = next.cause id is in
+        let old = there_too ys xs (sym first.count) risen.place risen.disk risen.there in
+        record {
+          place = risen.place;
+          disk = old.0;
+          now = risen.now;
+          named = risen.named;
+          there = old.1;
+          stays = risen.stays;
+          rose = rose_from _ _ _ (first.later risen.place old.0 risen.disk old.1 risen.there) risen.rose;
+        };
+  }

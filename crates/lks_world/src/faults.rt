@@ -1,0 +1,40 @@
+//! Why a world takes no further step.
+
+ghost use Rattle.std.specs.Prelude.{◌≡◌};
+ghost use Rattle.lks_world.specs.declared.faults.WorldFault.TheVariants.{Memory};
+
+use lks_base::{OutOfMemory, PeerId};
+use std::alloc::{AllocError, AllocFailed};
+
+/// Why a world takes no further step.
+#[derive(Clone, Copy, Debug, PartialEq, Eq)]
+pub enum WorldFault {
+    /// The count of faults of this peer's disk rose.
+    Disk { peer: PeerId },
+    /// No memory was there.
+    Memory,
+}
+
+impl From<OutOfMemory> for WorldFault {
+    ghost from_gives = { λ _ e. e ≡ Memory };
+
+    fn from(_: OutOfMemory) -> Self {
+        WorldFault::Memory
+    }
+}
+
+impl From<AllocError> for WorldFault {
+    ghost from_gives = { λ _ e. e ≡ Memory };
+
+    fn from(_: AllocError) -> Self {
+        WorldFault::Memory
+    }
+}
+
+impl<T: Drop> From<AllocFailed<T>> for WorldFault {
+    ghost from_gives = { λ _ e. e ≡ Memory };
+
+    fn from(_: AllocFailed<T>) -> Self {
+        WorldFault::Memory
+    }
+}

@@ -1,0 +1,20 @@
+use Rattle.std.proofs.Common.{ap, sym, subst, arith, length, ◌∷◌, [], length-append}
+use Rattle.lks_disk.specs.Crash.{may_leave}
+use Rattle.lks_disk.specs.Fuse.{is_set}
+use Rattle.lks_disk.specs.declared.memory.MemDisk.{MemDisk}
+use Rattle.lockss.proofs.FreshDisks.{FreshInMemory, fresh_more}
+use Rattle.lockss.proofs.fresh.fresh_disks.Goals as goal
+
+pub loop-count-init : goal.loop-count-init
+loop-count-init c = record {
+  count = ap length c.in_ok-disks.ensures.items;
+  fresh = subst FreshInMemory (sym c.in_ok-disks.ensures.items) (λ place disk at. absurd cc);
+}
+
+pub loop-count-preserved : goal.loop-count-preserved
+loop-count-preserved c = record {
+  count = omega (arith, ap length c.in_ok-push.ensures.items, length-append c.loop-count.disks.items (c.fresh_disk.result ∷ []), c.loop-count.invariant.count);
+  fresh =
+      subst FreshInMemory (sym c.in_ok-push.ensures.items)
+      (fresh_more (λ (m : MemDisk). m.content.bytes) (λ (m : MemDisk). may_leave m.content) (λ (m : MemDisk). is_set m.control.fuse) c.loop-count.disks.items c.fresh_disk.result c.loop-count.invariant.fresh c.fresh_disk.ensures);
+}

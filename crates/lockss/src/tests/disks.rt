@@ -1,0 +1,91 @@
+//! What runs leave on disks, and disks that fail.
+
+ghost use Rattle.std.specs.Prelude.{◌≤◌, length, IfOk};
+ghost use Rattle.lks_world.specs.Held.{AreFresh};
+
+use super::*;
+use crate::fresh::{fresh_disk, fresh_disks};
+use lks_base::Bytes;
+use lks_disk::{Disk, MemDisk};
+use lks_journal::Journal;
+
+// A deposit of AU 1 with the blocks 41 and 42: an open gate, the length, one record, and a closed gate.
+const DEPOSIT: &[u8] =
+    b"\xa5\x00\x00\x00\x0e\x00\x01\x01\x01\x00\x01\x00\x02\x00\x01\x41\x00\x01\x42\x00";
+
+/// Disks of which the first fails at these calls.
+fn failing_disks(alloc: Global, fail: &[u32]) -> Result<Vec<MemDisk>, Fail>
+    ensures enough { IfOk result (λ disks. 32 ≤ length disks.items) }
+    ensures fresh { IfOk result (λ disks. AreFresh ⟦<MemDisk as Disk>⟧.seen ⟦<MemDisk as Disk>⟧.may_leave ⟦<MemDisk as Disk>⟧.fused disks.items) }
+{
+    let mut disks = Vec::new(alloc);
+    disks.push(fresh_disk(alloc, fail.to_vec(alloc)?))?;
+    let mut others = fresh_disks(alloc)?;
+    disks.append(&mut others)?;
+    Ok(disks)
+}
+
+/// The answer to a script whose first peer's disk fails at these calls, and that disk.
+fn replay_on(
+    alloc: Global,
+    script: [&str; 2],
+    fail: &[u32],
+) -> Result<(Status, Option<MemDisk>), Fail> {
+    let words = words_of(alloc, REPLAY)?;
+    let mut source = MemSource::new(alloc, joined(alloc, script)?, [].to_vec(alloc)?);
+    let mut sink = MemSink::new(alloc, [].to_vec(alloc)?);
+    let mut disks = failing_disks(alloc, fail)?;
+    let status = run(alloc, &words, &mut source, &mut sink, &mut disks);
+    disks.truncate(1);
+    Ok((status, disks.pop()))
+}
+
+/// The batches that a disk holds.
+fn batches_on(alloc: Global, disk: Option<MemDisk>) -> Result<Vec<Bytes>, Fail> {
+    let Some(disk) = disk else {
+        return Err("a disk".into());
+    };
+    match Journal::reopen(alloc, disk) {
+        Ok((_journal, bodies)) => Ok(bodies),
+        Err((_disk, _fault)) => Err("a journal".into()),
+    }
+}
+
+#[test]
+fn deposits_first(rt: HostRuntime) -> Result<(), Fail> {
+    let alloc = rt.alloc();
+    let (status, disk) = replay_on(alloc, [HEAD, ""], &[])?;
+    assert_eq!(rt; status, Status::Done);
+    let Some(disk) = disk else {
+        return Err("a disk".into());
+    };
+    assert_eq!(rt; disk.bytes(), DEPOSIT);
+    Ok(())
+}
+
+// A journal is made by 2 calls, and a batch appended by 4: the deposit, the opening, three votes, the shutting and
+// the closing make 30.
+#[test]
+fn each_call_fails(rt: HostRuntime) -> Result<(), Fail> {
+    let alloc = rt.alloc();
+    let (status, _disk) = replay_on(alloc, [HEAD, AGREED], &[31])?;
+    assert_eq!(rt; status, Status::Done);
+    let (_status, disk) = replay_on(alloc, [HEAD, AGREED], &[])?;
+    let whole = batches_on(alloc, disk)?;
+    assert_eq!(rt; whole.len(), 7);
+    for call in 1..31u32 {
+        let (status, disk) = replay_on(alloc, [HEAD, AGREED], &[call])?;
+        assert_eq!(rt; status, Status::DiskFault { peer: 1 }, "call {call}");
+        if call < 3 {
+            continue;
+        }
+        let batches = batches_on(alloc, disk)?;
+        let before = (call as usize - 3) / 4;
+        let count = batches.len();
+        assert!(rt; count == before || count == before + 1, "call {call}");
+        for (batch, wanted) in batches.iter().zip(whole.as_slice()) {
+            assert_eq!(rt; batch.as_slice(), wanted.as_slice(), "call {call}");
+        }
+    }
+    Ok(())
+}
