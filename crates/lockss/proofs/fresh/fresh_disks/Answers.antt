@@ -1,14 +1,15 @@
-use Rattle.std.proofs.Common.{ap, sym, subst, arith, length, ◌∷◌, [], length-append}
+use Rattle.std.proofs.Common.{ap, sym, subst, arith, length, ◌∷◌, [], length-append, All}
 use Rattle.lks_disk.specs.Crash.{may_leave}
-use Rattle.lks_disk.specs.Fuse.{is_set}
+use Rattle.lks_disk.specs.Fuse.{Starts, is_set}
 use Rattle.lks_disk.specs.declared.memory.MemDisk.{MemDisk}
-use Rattle.lockss.proofs.FreshDisks.{FreshInMemory, fresh_more}
+use Rattle.lockss.proofs.FreshDisks.{FreshInMemory, NeverFails, fresh_more, none_fails, one_more_never_fails}
 use Rattle.lockss.proofs.fresh.fresh_disks.Goals as goal
 
 pub loop-count-init : goal.loop-count-init
 loop-count-init c = record {
   count = ap length c.in_ok-disks.ensures.items;
   fresh = subst FreshInMemory (sym c.in_ok-disks.ensures.items) (λ place disk at. absurd cc);
+  unfailing = subst (All NeverFails) (sym c.in_ok-disks.ensures.items) none_fails;
 }
 
 pub loop-count-preserved : goal.loop-count-preserved
@@ -16,5 +17,6 @@ loop-count-preserved c = record {
   count = omega (arith, ap length c.in_ok-push.ensures.items, length-append c.loop-count.disks.items (c.fresh_disk.result ∷ []), c.loop-count.invariant.count);
   fresh =
       subst FreshInMemory (sym c.in_ok-push.ensures.items)
-      (fresh_more (λ (m : MemDisk). m.content.bytes) (λ (m : MemDisk). may_leave m.content) (λ (m : MemDisk). is_set m.control.fuse) c.loop-count.disks.items c.fresh_disk.result c.loop-count.invariant.fresh c.fresh_disk.ensures);
+      (fresh_more (λ (m : MemDisk). m.content.bytes) (λ (m : MemDisk). may_leave m.content) (λ (m : MemDisk). is_set m.control.fuse) c.loop-count.disks.items c.fresh_disk.result c.loop-count.invariant.fresh c.fresh_disk.ensures.fresh);
+  unfailing = subst (All NeverFails) (sym c.in_ok-push.ensures.items) (one_more_never_fails c.loop-count.disks.items c.fresh_disk.result c.loop-count.invariant.unfailing (subst (λ fail. Starts fail [] c.fresh_disk.result.control) c.new.ensures.items c.fresh_disk.ensures.fails));
 }
