@@ -1,19 +1,20 @@
 -- What a peer's journal begins with is in its limits, and is short.
 use Rattle.std.proofs.Common.{◌≡◌, ◌≤◌, ◌==◌, ◌∙◌, sym, ℕ, Bool, true, false, cond, List, [], ◌∷◌, length, refl, arith}
-use Rattle.std.specs.Prelude.{Some, None, find, filter, slice_get, All}
+use Rattle.std.specs.Prelude.{Some, None, ◌&&◌, nat_le, find, filter, slice_get, All}
 use Rattle.std.specs.List.{filter_map, cons_option, position_or_len}
-use Rattle.std.proofs.lemmas.Bool.{le-leb}
+use Rattle.std.proofs.lemmas.Bool.{le-leb, leb-true}
 use Rattle.std.proofs.lemmas.List.{length-append}
 use Rattle.std.proofs.lemmas.List.Elements.{All-nil, All-cons, All-append, All-head, All-tail}
 use Rattle.std.proofs.lemmas.List.Folds.{find_at}
 use Rattle.std.proofs.lemmas.List.Sums.{list_all-from_AllPass}
-use Rattle.lks_base.specs.Checking.{plan_fault}
+use Rattle.lks_base.proofs.PlanLaws.{no_first, stands}
+use Rattle.lks_base.specs.Checking.{is_within, are_bounded, plan_fault}
 use Rattle.lks_base.specs.declared.plans.AuPlan.{AuPlan}
 use Rattle.lks_base.specs.declared.plans.Holding.{Holding}
 use Rattle.lks_base.specs.declared.plans.PeerPlan.{PeerPlan}
 use Rattle.lks_base.specs.declared.plans.Plan.{Plan}
 use Rattle.lks_base.specs.declared.records.Record.{Record}
-use Rattle.lks_base.specs.declared.records.Record.TheVariants.{Deposit}
+use Rattle.lks_base.specs.declared.records.Record.TheVariants.{Deposit, Asked}
 use Rattle.lks_base.proofs.PlanBounds.{few_aus, one_copy, sound_copy}
 use Rattle.lks_law.specs.World.{deposit_for, deposits}
 use Rattle.lks_peer.specs.Small.{is_small, are_small}
@@ -52,6 +53,7 @@ begun_within plan good q p found =
 
 within_small : (r : Record) → IsWithin r → is_small r ≡ true
 within_small (Deposit au blocks) within = le-leb (length blocks) 512 within.1
+within_small (Asked number block voter) within = le-leb block 511 within
 within_small _ within = refl
 
 -- no copy among them has more blocks than an AU
@@ -89,3 +91,21 @@ begun_few plan good q p found =
     let at = found_at q plan.peers p found in
     let each : length (deposits plan.aus p.copies) ≤ length plan.aus = length-deposits plan.aus p.copies (λ au. one_copy plan good at.0 p at.1 au.id) in
     omega (arith, each, few_aus plan good)
+
+-- ---- rules
+
+third : (a b c d e f g h i j : Bool) → (a && b && c && d && e && f && g && h && i && j) ≡ true → c ≡ true
+third true true true d e f g h i j all = refl
+third true true false d e f g h i j all = all
+third true false c d e f g h i j all = absurd cc
+third false b c d e f g h i j all = absurd cc
+
+-- an outer circle has at most 16 peers
+pub few_outer : (plan : Plan) → plan_fault plan ≡ None → plan.rules.outer ≤ 16
+unfolding plan_fault are_bounded
+few_outer plan good =
+    let r = plan.rules in
+    leb-true r.outer 16
+    (third (is_within 1 16 r.inner) (nat_le 1 r.quorum) (nat_le r.outer 16) (nat_le r.repairs 512) (nat_le r.pace 1000000)
+    (nat_le r.refractory 1000000) (nat_le r.overdue 1000000) (nat_le r.unknown_pct 100) (nat_le r.debt_pct 100) (nat_le r.churn 16)
+    (stands _ _ (no_first _ _ good)))

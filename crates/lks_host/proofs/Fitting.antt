@@ -1,9 +1,10 @@
 -- What the rules add fits a batch, and leaves the peer fit.
-use Rattle.std.proofs.Common.{◌≡◌, ◌<◌, ◌≤◌, ◌+◌, ℕ, zero, suc, Bool, true, false, cond, List, [], ◌∷◌, ◌++◌, length, refl, sym, ◌∙◌, ap, subst, arith}
-use Rattle.std.specs.Prelude.{Option, Some, None, ◌&&◌, ◌==◌, not, nat_lt}
+use Rattle.std.proofs.Common.{◌≡◌, ◌<◌, ◌≤◌, ◌+◌, ℕ, suc, Bool, true, false, cond, List, [], ◌∷◌, ◌++◌, length, refl, sym, ◌∙◌, ap, subst, arith}
+use Rattle.std.specs.Prelude.{Option, Some, None, ◌&&◌, ◌==◌, ◌*◌, not, sum_by, All}
 use Rattle.std.specs.List.{list_all, filter_map, cons_option}
 use Rattle.std.proofs.lemmas.Bool.{and_parts}
 use Rattle.std.proofs.lemmas.List.Elements.{All-nil, All-cons}
+use Rattle.std.proofs.lemmas.List.Sums.{sum_by-cons}
 use Rattle.lks_base.specs.declared.messages.Message.{Message}
 use Rattle.lks_base.specs.declared.messages.Message.TheVariants as message
 use Rattle.lks_base.specs.declared.names.HashKind.{HashKind}
@@ -18,27 +19,20 @@ use Rattle.lks_base.specs.declared.reactions.Input.TheVariants as input
 use Rattle.lks_base.specs.declared.reactions.Reaction.{Reaction}
 use Rattle.lks_base.specs.declared.records.Record.{Record}
 use Rattle.lks_base.specs.declared.records.Record.TheVariants as records
-use Rattle.lks_draw.proofs.Picking.{pick_law}
-use Rattle.lks_draw.proofs.Places.{word_fits}
-use Rattle.lks_draw.specs.Picks.{picked_by, IsPickOf}
-use Rattle.lks_draw.specs.Words.{drawn_from, words_of}
-use Rattle.lks_law.specs.Journal.{Opening, opening_of, openings, contents_of, is_voting, is_widened, limits_from, limits_after}
-use Rattle.lks_law.specs.Polls.{Station, inner_circle, limits_in_force, limits_of, ballot_of, inner_votes, verdict_in, candidate, restores}
-use Rattle.lks_law.specs.Reaction.{reaction, nothing, may_open, opened, on_open, is_inquorate, shut, shut_inquorate, for_opening, on_shut, may_tally, closed, asked, tallied, on_tally, may_prove, proved, on_challenge, may_nominate, nominated, on_nominate, is_accepted, may_vote, counted, on_vote, may_repair, repaired, on_repair, on_message}
+use Rattle.lks_law.proofs.Samples.{few_inner, outer_sample}
+use Rattle.lks_law.specs.Journal.{Opening, Request, unanswered, opening_of, openings, is_voting, is_widened, limits_from, limits_after}
+use Rattle.lks_law.specs.Polls.{Station, limits_in_force, verdict_in, candidate, restores}
+use Rattle.lks_law.specs.Reaction.{reaction, nothing, may_open, opened, on_open, widened, on_widen, must_note, overdue_in, on_check, reminded, asked_again, on_nudge, given_up, on_give_up, is_inquorate, shut, shut_inquorate, for_opening, on_shut, may_tally, closed, asked, tallied, on_tally, may_prove, proved, on_challenge, may_nominate, nominated, on_nominate, is_accepted, may_vote, counted, on_vote, may_repair, repaired, on_repair, on_message}
 use Rattle.lks_law.specs.World.{deposit_for, deposits}
 use Rattle.lks_message.specs.Spelling.{IsWithin as IsMessage}
-use Rattle.lks_peer.proofs.FewBlocks.{few_blocks}
+use Rattle.lks_peer.proofs.FewBlocks.{IsOfBlock, request_small}
+use Rattle.lks_peer.proofs.Losses.{DecidesBelow, judged_below}
 use Rattle.lks_peer.proofs.Sound.{small-append, reaction_small}
 use Rattle.lks_peer.specs.Small.{are_small}
 use Rattle.lks_record.specs.Sizes.{most_bytes}
 use Rattle.lks_record.specs.Spelling.{IsWithin, AreLimits, HasLimits}
-use Rattle.lks_tally.specs.Counting.{verdict_at, decided, first_from, verdict_on}
-use Rattle.lks_tally.specs.declared.ballots.At.{At}
-use Rattle.lks_tally.specs.declared.ballots.At.TheVariants as at
-use Rattle.lks_tally.specs.declared.ballots.Ballot.{Ballot}
 use Rattle.lks_tally.specs.declared.ballots.Verdict.{Verdict}
 use Rattle.lks_tally.specs.declared.ballots.Verdict.TheVariants as verdict
-use Rattle.lks_tally.specs.declared.ballots.Vote.{Vote}
 use Rattle.lks_host.specs.Fits.{IsFit, IsHeard, FitsBatch}
 
 -- ---- short batches
@@ -69,53 +63,7 @@ at_opening : (P : List Record → Type 0) (o : Option Opening) (f : Opening → 
 at_opening P None f none some = none
 at_opening P (Some opening) f none some = some opening
 
--- ---- the block that decides is one of the copy's
-
-abbrev DecidesBelow : ℕ → Verdict → Type 0
-DecidesBelow n (verdict.Loss b) = b < n
-DecidesBelow n (verdict.Split b) = b < n
-DecidesBelow n _ = Unit {0}
-
-wider : (v : Verdict) (m n : ℕ) → m ≤ n → DecidesBelow m v → DecidesBelow n v
-wider verdict.Inquorate m n le below = tt
-wider verdict.Agreed m n le below = tt
-wider (verdict.Loss b) m n le below = omega arith
-wider (verdict.Split b) m n le below = omega arith
-
-decided_below : (a : At) (b n : ℕ) (rest : Verdict) → b < n → DecidesBelow n rest → DecidesBelow n (decided a b rest)
-decided_below at.Win b n rest here below = below
-decided_below at.Loss b n rest here below = here
-decided_below at.Split b n rest here below = here
-
-first_below : (minority : ℕ) (q : Ballot) (votes : List Vote) (blocks : List (List ℕ)) (b n end : ℕ) → b + n ≤ end → DecidesBelow end (first_from minority q votes blocks b n)
-first_below minority q votes blocks b zero end le = tt
-first_below minority q votes blocks b (suc n) end le =
-    decided_below (verdict_at minority q votes blocks b) b end (first_from minority q votes blocks (b + 1) n) (omega arith) (first_below minority q votes blocks (b + 1) n end (omega arith))
-
-verdict_below : (quorum minority : ℕ) (q : Ballot) (votes : List Vote) (blocks : List (List ℕ)) → DecidesBelow (length blocks) (verdict_on quorum minority q votes blocks)
-unfolding verdict_on
-verdict_below quorum minority q votes blocks =
-    elim (nat_lt (length votes) quorum) as (λ b. DecidesBelow (length blocks) (cond b verdict.Inquorate (first_from minority q votes blocks 0 (length blocks)))) [
-      | true ↦ tt
-      | false ↦ first_below minority q votes blocks 0 (length blocks) (length blocks) (omega arith)
-    ]
-
-judged_below : (own : Station) (n : ℕ) (opening : Opening) (journal : List Record) → are_small journal ≡ true → DecidesBelow 512 (verdict_in own n opening journal)
-unfolding verdict_in
-judged_below own n opening journal small =
-    let copy = contents_of opening.au journal in
-    let limits = limits_of own.rules opening in
-    wider _ (length copy) 512 (few_blocks opening.au journal small)
-    (verdict_below limits.quorum limits.minority (ballot_of own n opening (length copy)) (inner_votes n opening.inner journal) copy)
-
 -- ---- what each rule adds fits a batch
-
-few_invited : (own : Station) (n : ℕ) → length (inner_circle own n) ≤ own.rules.inner
-unfolding inner_circle
-few_invited own n =
-    let d = drawn_from own.seed 1 n in
-    let law : IsPickOf own.refs own.rules.inner (picked_by d own.refs own.rules.inner) = pick_law (words_of d.key) (word_fits d.key) d.place own.refs own.rules.inner in
-    omega (arith, law.count)
 
 has_limits : (limits : Limits) (kind : HashKind) → AreLimits limits → HasLimits (Some limits) kind
 has_limits limits Sha256 are = are
@@ -123,7 +71,34 @@ has_limits limits Sha512_256 are = are
 
 opened_fits : (own : Station) (journal : List Record) (tick au n : ℕ) → IsFit own journal → FitsBatch (opened own journal tick au n).records
 opened_fits own journal tick au n fit =
-    fits_one _ (omega (arith, few_invited own n, fit.inner), has_limits (limits_in_force own.rules journal) own.hash fit.limits) (omega arith)
+    fits_one _ (omega (arith, few_inner own n journal, fit.inner), has_limits (limits_in_force own.rules journal) own.hash fit.limits) (omega arith)
+
+widened_fits : (own : Station) (journal : List Record) (n : ℕ) (opening : Opening) → IsFit own journal → FitsBatch (widened own journal n opening).records
+widened_fits own journal n opening fit = let sample = outer_sample own n opening journal in fits_one _ (omega (arith, sample.0.few, fit.outer)) (omega arith)
+
+-- one note for each AU at most
+record AreNotes (most : ℕ) (list : List Record) : Type 0 where
+  within : All IsWithin list
+  few : length list ≤ most
+  short : sum_by most_bytes list ≤ 8 * most
+
+noted_each : (own : Station) (journal : List Record) (tick : ℕ) (aus : List AuPlan) → AreNotes (length aus) (filter_map (overdue_in own journal tick) aus)
+noted_each own journal tick [] = record { within = All-nil IsWithin; few = omega arith; short = omega arith }
+noted_each own journal tick (au ∷ aus) = first (must_note own journal tick au.id) (filter_map (overdue_in own journal tick) aus) (noted_each own journal tick aus)
+  where
+    first : (b : Bool) (rest : List Record) → AreNotes (length aus) rest → AreNotes (suc (length aus)) (cons_option (cond b (Some (records.Overdue au.id tick)) None) rest)
+    first true rest are = record {
+      within = All-cons IsWithin (records.Overdue au.id tick) rest tt are.within;
+      few = omega (arith, are.few);
+      short = omega (arith, are.short, sum_by-cons most_bytes (records.Overdue au.id tick) rest);
+    }
+    first false rest are = record { within = are.within; few = omega (arith, are.few); short = omega (arith, are.short) }
+
+noted_fits : (own : Station) (journal : List Record) (tick : ℕ) → IsFit own journal → FitsBatch (on_check own journal tick).records
+unfolding on_check
+noted_fits own journal tick fit =
+    let notes = noted_each own journal tick own.aus in
+    record { within = notes.within; few = omega (arith, notes.few, fit.aus); short = omega (arith, notes.short, fit.aus) }
 
 asked_fits : (journal : List Record) (tick n b : ℕ) (v : Option ℕ) → b < 512 → FitsBatch (asked journal tick n b v).records
 unfolding closed
@@ -169,6 +144,24 @@ repair_fits own journal from n b bytes below short =
     (fits_one (records.Replaced n opening.au b bytes) (below, short) (omega arith)) (fits_one (records.RepairBad n b from) below (omega arith))))
     fits_nothing
 
+nudge_fits : (journal : List Record) (n : ℕ) → FitsBatch (on_nudge journal n).records
+unfolding on_nudge
+nudge_fits journal n =
+    if_each FitsBatch (is_voting n journal) (for_opening (opening_of n journal) (reminded journal n)) (asked_again n (unanswered n journal))
+    (at_opening FitsBatch (opening_of n journal) (reminded journal n) fits_nothing (λ opening. fits_nothing)) (by_request (unanswered n journal))
+  where
+    by_request : (r : Option Request) → FitsBatch (asked_again n r).records
+    by_request None = fits_nothing
+    by_request (Some r) = fits_nothing
+
+give_up_fits : (journal : List Record) (n : ℕ) → are_small journal ≡ true → FitsBatch (on_give_up journal n).records
+unfolding on_give_up
+give_up_fits journal n small = by_request (unanswered n journal) (request_small n journal small)
+  where
+    by_request : (r : Option Request) → IsOfBlock r → FitsBatch (given_up n r).records
+    by_request None is = fits_nothing
+    by_request (Some r) is = fits_one (records.RepairBad n r.block r.voter) is (omega arith)
+
 message_fits : (own : Station) (journal : List Record) (from : ℕ) (m : Message) (judged : Judged) → IsMessage m → FitsBatch (on_message own journal from m judged).records
 message_fits own journal from (message.PollChallenge n agrees) judged heard = challenge_fits own journal from n agrees
 message_fits own journal from (message.Nominate n nominees) judged heard = nomination_fits journal from n nominees heard
@@ -178,9 +171,13 @@ message_fits own journal from m judged heard = fits_nothing
 
 -- what a peer in its limits adds at something heard is a short batch in its limits
 pub reaction_fits : (own : Station) (journal : List Record) (tick : ℕ) (i : Input) → IsFit own journal → IsHeard i → FitsBatch (reaction own journal tick i).records
-unfolding reaction on_open on_shut on_tally
+unfolding reaction on_open on_widen on_shut on_tally
 reaction_fits own journal tick (input.OpenPoll au) fit heard =
     if_each FitsBatch (may_open own journal tick au) (opened own journal tick au (openings journal + 1)) nothing (opened_fits own journal tick au (openings journal + 1) fit) fits_nothing
+reaction_fits own journal tick (input.Widen n) fit heard =
+    if_each FitsBatch (is_voting n journal && not (is_widened n journal)) (for_opening (opening_of n journal) (widened own journal n)) nothing
+    (at_opening FitsBatch (opening_of n journal) (widened own journal n) fits_nothing (λ opening. widened_fits own journal n opening fit))
+    fits_nothing
 reaction_fits own journal tick (input.Shut n) fit heard =
     if_each FitsBatch (is_voting n journal) (for_opening (opening_of n journal) (shut own journal tick n)) nothing
     (at_opening FitsBatch (opening_of n journal) (shut own journal tick n) fits_nothing (λ opening.
@@ -191,6 +188,9 @@ reaction_fits own journal tick (input.Tally n) fit heard =
     (at_opening FitsBatch (opening_of n journal) _ fits_nothing (λ opening.
     tallied_fits own journal tick n opening (verdict_in own n opening journal) (judged_below own n opening journal fit.small)))
     fits_nothing
+reaction_fits own journal tick (input.Nudge n) fit heard = nudge_fits journal n
+reaction_fits own journal tick (input.GiveUp n) fit heard = give_up_fits journal n fit.small
+reaction_fits own journal tick input.Check fit heard = noted_fits own journal tick fit
 reaction_fits own journal tick (input.Got from m judged) fit heard = message_fits own journal from m judged heard
 reaction_fits own journal tick i fit heard = fits_nothing
 
@@ -240,6 +240,24 @@ repair_keeps own journal from n b bytes =
     (at_opening Keeps (opening_of n journal) (repaired own journal from n b bytes) (λ l. refl) (λ opening. if_each Keeps (restores own n opening b bytes journal) _ _ (λ l. refl) (λ l. refl)))
     (λ l. refl)
 
+nudge_keeps : (journal : List Record) (n : ℕ) → Keeps (on_nudge journal n).records
+unfolding on_nudge
+nudge_keeps journal n =
+    if_each Keeps (is_voting n journal) (for_opening (opening_of n journal) (reminded journal n)) (asked_again n (unanswered n journal))
+    (at_opening Keeps (opening_of n journal) (reminded journal n) (λ l. refl) (λ opening l. refl)) (by_request (unanswered n journal))
+  where
+    by_request : (r : Option Request) → Keeps (asked_again n r).records
+    by_request None = λ l. refl
+    by_request (Some r) = λ l. refl
+
+give_up_keeps : (journal : List Record) (n : ℕ) → Keeps (on_give_up journal n).records
+unfolding on_give_up
+give_up_keeps journal n = by_request (unanswered n journal)
+  where
+    by_request : (r : Option Request) → Keeps (given_up n r).records
+    by_request None = λ l. refl
+    by_request (Some r) = λ l. refl
+
 message_keeps : (own : Station) (journal : List Record) (from : ℕ) (m : Message) (judged : Judged) → Keeps (on_message own journal from m judged).records
 message_keeps own journal from (message.PollChallenge n agrees) judged = challenge_keeps own journal from n agrees
 message_keeps own journal from (message.Nominate n nominees) judged = nomination_keeps journal from n nominees
@@ -247,9 +265,22 @@ message_keeps own journal from (message.Vote n hashes proof) judged = vote_keeps
 message_keeps own journal from (message.Repair n b bytes) judged = repair_keeps own journal from n b bytes
 message_keeps own journal from m judged = λ l. refl
 
+noted_keep : (own : Station) (journal : List Record) (tick : ℕ) (aus : List AuPlan) → Keeps (filter_map (overdue_in own journal tick) aus)
+noted_keep own journal tick [] = λ l. refl
+noted_keep own journal tick (au ∷ aus) = first (must_note own journal tick au.id) (noted_keep own journal tick aus)
+  where
+    first : (b : Bool) → Keeps (filter_map (overdue_in own journal tick) aus)
+        → Keeps (cons_option (cond b (Some (records.Overdue au.id tick)) None) (filter_map (overdue_in own journal tick) aus))
+    first true rest = rest
+    first false rest = rest
+
 reaction_keeps : (own : Station) (journal : List Record) (tick : ℕ) (i : Input) → Keeps (reaction own journal tick i).records
-unfolding reaction on_open on_shut on_tally
+unfolding reaction on_open on_widen on_shut on_tally on_check
 reaction_keeps own journal tick (input.OpenPoll au) = if_each Keeps (may_open own journal tick au) (opened own journal tick au (openings journal + 1)) nothing (λ l. refl) (λ l. refl)
+reaction_keeps own journal tick (input.Widen n) =
+    if_each Keeps (is_voting n journal && not (is_widened n journal)) (for_opening (opening_of n journal) (widened own journal n)) nothing
+    (at_opening Keeps (opening_of n journal) (widened own journal n) (λ l. refl) (λ opening l. refl))
+    (λ l. refl)
 reaction_keeps own journal tick (input.Shut n) =
     if_each Keeps (is_voting n journal) (for_opening (opening_of n journal) (shut own journal tick n)) nothing
     (at_opening Keeps (opening_of n journal) (shut own journal tick n) (λ l. refl) (λ opening. if_each Keeps (is_inquorate own n opening journal) (shut_inquorate journal tick n) _ (λ l. refl) (λ l. refl)))
@@ -258,6 +289,9 @@ reaction_keeps own journal tick (input.Tally n) =
     if_each Keeps (may_tally n journal) (for_opening (opening_of n journal) (λ opening. tallied own journal tick n opening (verdict_in own n opening journal))) nothing
     (at_opening Keeps (opening_of n journal) _ (λ l. refl) (λ opening. tallied_keeps own journal tick n opening (verdict_in own n opening journal)))
     (λ l. refl)
+reaction_keeps own journal tick (input.Nudge n) = nudge_keeps journal n
+reaction_keeps own journal tick (input.GiveUp n) = give_up_keeps journal n
+reaction_keeps own journal tick input.Check = noted_keep own journal tick own.aus
 reaction_keeps own journal tick (input.Got from m judged) = message_keeps own journal from m judged
 reaction_keeps own journal tick i = λ l. refl
 
@@ -278,8 +312,10 @@ pub fit_after : (own : Station) (journal : List Record) (tick : ℕ) (i : Input)
 fit_after own journal tick i fit =
     record {
       inner = fit.inner;
+      outer = fit.outer;
+      aus = fit.aus;
       limits = subst AreLimits (sym (same_limits own journal tick i)) fit.limits;
-      small = small-append journal (reaction own journal tick i).records fit.small (reaction_small own journal tick i);
+      small = small-append journal (reaction own journal tick i).records fit.small (reaction_small own journal tick i fit.small);
     }
 
 -- ---- a peer that begins
@@ -320,7 +356,12 @@ all_deposits [] copies = refl
 all_deposits (au ∷ aus) copies = all_append (filter_map (deposit_for au) copies) (deposits aus copies) (deposits_for au copies) (all_deposits aus copies)
 
 -- a peer that begins with copies in their limits is in its limits
-pub fit_deposits : (own : Station) (aus : List AuPlan) (copies : List Holding) → own.rules.inner ≤ 16
+pub fit_deposits : (own : Station) (aus : List AuPlan) (copies : List Holding) → own.rules.inner ≤ 16 → own.rules.outer ≤ 16 → length own.aus ≤ 4
     → AreLimits (record { quorum = own.rules.quorum; minority = own.rules.minority }) → are_small (deposits aus copies) ≡ true → IsFit own (deposits aus copies)
-fit_deposits own aus copies few limits small =
-    record { inner = few; limits = subst AreLimits (sym (untuned own (deposits aus copies) (all_deposits aus copies))) limits; small = small }
+fit_deposits own aus copies few few_outer few_aus limits small = record {
+  inner = few;
+  outer = few_outer;
+  aus = few_aus;
+  limits = subst AreLimits (sym (untuned own (deposits aus copies) (all_deposits aus copies))) limits;
+  small = small;
+}

@@ -1,13 +1,14 @@
 -- A host after a reaction.
 use Rattle.std.proofs.Common.{◌≡◌, ◌∙◌, ap, sym, subst, ℕ, true, List, ◌++◌}
 use Rattle.std.specs.Prelude.{None, map}
-use Rattle.lks_base.proofs.PlanBounds.{good_rules}
+use Rattle.lks_base.proofs.PlanBounds.{good_rules, few_aus}
 use Rattle.lks_base.specs.Checking.{plan_fault}
 use Rattle.lks_base.specs.declared.plans.PeerPlan.{PeerPlan}
 use Rattle.lks_base.specs.declared.plans.Plan.{Plan}
 use Rattle.lks_base.specs.declared.reactions.Input.{Input}
 use Rattle.lks_base.specs.declared.reactions.Reaction.{Reaction}
 use Rattle.lks_base.specs.declared.records.Record.{Record}
+use Rattle.lks_host.proofs.Beginning.{few_outer}
 use Rattle.lks_host.proofs.Fitting.{reaction_fits, fit_after, fit_deposits}
 use Rattle.lks_host.specs.Bodies.{bodies_of}
 use Rattle.lks_host.specs.Fits.{IsFit, IsHeard, FitsBatch}
@@ -45,5 +46,5 @@ stands_begun seen may_leave host plan p good small is disk =
     record {
       journal = sym (each_alone host.peer.journal);
       disk = subst (λ (s : Standing). IsSettled seen may_leave host.journal (bodies_of (map alone s.journal))) (sym is) disk;
-      fit = subst (λ (s : Standing). IsFit s.own s.journal) (sym is) (fit_deposits (station_of plan p) plan.aus p.copies rules.0 (rules.1, rules.2, rules.3) small);
+      fit = subst (λ (s : Standing). IsFit s.own s.journal) (sym is) (fit_deposits (station_of plan p) plan.aus p.copies rules.0 (few_outer plan good) (few_aus plan good) (rules.1, rules.2, rules.3) small);
     }

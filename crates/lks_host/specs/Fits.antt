@@ -12,6 +12,8 @@ use Rattle.lks_record.specs.Spelling.{IsWithin, AreLimits}
 -- what a message in its limits can make such a peer add is in its limits too
 pub record IsFit (own : Station) (journal : List Record) : Type 0 where
   pub inner : own.rules.inner ≤ 16
+  pub outer : own.rules.outer ≤ 16
+  pub aus : length own.aus ≤ 4
   pub limits : AreLimits (limits_in_force own.rules journal)
   pub small : are_small journal ≡ true
 

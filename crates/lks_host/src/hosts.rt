@@ -8,7 +8,7 @@ ghost use Rattle.lks_host.specs.Faults.{as_journal};
 ghost use Rattle.lks_host.specs.Fits.{IsFit, IsHeard};
 ghost use Rattle.lks_journal.specs.Faults.{HasCause, FuseRun};
 ghost use Rattle.lks_law.specs.Batches.{with_batch, alone};
-ghost use Rattle.lks_law.specs.Due.{ready_at};
+ghost use Rattle.lks_law.specs.Due.{ready_at, turns_at};
 ghost use Rattle.lks_law.specs.Entries.{is_inner};
 ghost use Rattle.lks_law.specs.Reaction.{reaction};
 ghost use Rattle.lks_journal.specs.Settled.{IsSettled};
@@ -167,6 +167,14 @@ impl<D: Disk> Host<D> {
         ensures { result ≡ slice_get (ready_at self.now.peer) k }
     {
         self.peer.ready(k)
+    }
+
+    /// The `k`-th of the steps that the peer takes in its running polls when nothing else is due, counted from 0 by poll
+    /// number.
+    pub fn turn(&self, k: u32) -> Option<PeerStep>
+        ensures { result ≡ slice_get (turns_at self.now.peer) k }
+    {
+        self.peer.turn(k)
     }
 
     /// Whether the peer's poll `number` has this peer in its inner circle.

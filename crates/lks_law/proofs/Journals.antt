@@ -1,9 +1,11 @@
 -- What holds of every journal, and in every world.
-use Rattle.std.proofs.Common.{◌≡◌, ◌≢◌, ◌≤◌, ◌+◌, ◌∙◌, ◌⊎◌, inl, inr, ap, sym, subst, ℕ, zero, suc, Bool, true, false, cond, eqb, List, [], ◌∷◌, ◌++◌, length, filter, refl, arith}
+use Rattle.std.proofs.Common.{◌≡◌, ◌≢◌, ◌≤◌, ◌+◌, ◌∙◌, ◌⊎◌, inl, inr, ap, sym, subst, ℕ, zero, suc, Bool, true, false, cond, eqb, List, [], ◌∷◌, ◌++◌, length, take, filter, refl, arith}
 use Rattle.std.specs.Prelude.{Option, Some, None, slice_get, option_map, ◌&&◌}
 use Rattle.std.specs.List.{list_all, filter_map, cons_option}
+use Rattle.std.proofs.lemmas.List.Elements.{All-filter}
 use Rattle.std.proofs.lemmas.List.Folds.{list_all-append}
-use Rattle.std.proofs.lemmas.Option.{slice_get-map}
+use Rattle.std.proofs.lemmas.Option.{slice_get-map, slice_get_within, get_or_from_slice_get}
+use Rattle.lks_base.specs.Checking.{plan_fault}
 use Rattle.lks_base.specs.declared.events.Event.{Event}
 use Rattle.lks_base.specs.declared.events.Event.TheVariants.{Step, Cut, Tick, Lose, Forge, Crash}
 use Rattle.lks_base.specs.declared.messages.Message.{Message}
@@ -17,6 +19,7 @@ use Rattle.lks_base.specs.declared.reactions.Input.{Input}
 use Rattle.lks_base.specs.declared.reactions.Input.TheVariants as input
 use Rattle.lks_base.specs.declared.records.Record.{Record}
 use Rattle.lks_base.specs.declared.records.Record.TheVariants.{Deposit, Replaced}
+use Rattle.lks_law.specs.Circles.{IsCircle, HaveCircles, Samples}
 use Rattle.lks_law.specs.Facts.{Heard, journal_after, AreInOrder, IsJournalOf, HasJournal, HaveJournals, HasPolls}
 use Rattle.lks_law.specs.Journal.{Opening, contents_of, opening_of, is_shut, is_closed, has_asked, unanswered, waiting}
 use Rattle.lks_law.specs.Polls.{Station, limits_of, ballot_of, votes, inner_votes, verdict_in}
@@ -26,8 +29,10 @@ use Rattle.lks_law.specs.World.{Standing, World, Deed, is_honest, standing_of, d
 use Rattle.lks_law.proofs.Kept.{Kept}
 use Rattle.lks_law.proofs.Openings.{kept_on_open}
 use Rattle.lks_law.proofs.PollStates.{Good, poll_of, blank, copies_in, good_poll}
-use Rattle.lks_law.proofs.Repairs.{kept_on_repair}
-use Rattle.lks_law.proofs.Rows.{KeptBy, kept_nothing, kept_on_challenge, kept_on_nominate, kept_on_vote, kept_on_shut, kept_on_tally, tally_parts}
+use Rattle.lks_law.proofs.Repairs.{kept_on_repair, kept_on_give_up}
+use Rattle.lks_law.proofs.Samples.{circles_more, reaction_adds, list_kept, peers_listed}
+use Rattle.lks_refs.specs.Lists.{IsReferenceList}
+use Rattle.lks_law.proofs.Rows.{KeptBy, kept_nothing, kept_on_challenge, kept_on_nominate, kept_on_vote, kept_on_shut, kept_on_tally, kept_on_widen, kept_on_check, kept_on_nudge, tally_parts}
 use Rattle.lks_tally.specs.declared.ballots.Verdict.TheVariants as verdict
 use Rattle.lks_tally.proofs.Deciding.{inquorate_votes}
 
@@ -43,8 +48,12 @@ kept_message own js from m judged kept = kept_nothing own js kept
 kept_reaction : (own : Station) (js : List Record) (tick : ℕ) (i : Input) → Kept own js → KeptBy own js (reaction own js tick i)
 unfolding reaction
 kept_reaction own js tick (input.OpenPoll au) kept = kept_on_open own js tick au kept
+kept_reaction own js tick (input.Widen n) kept = kept_on_widen own js n kept
 kept_reaction own js tick (input.Shut n) kept = kept_on_shut own js tick n kept
 kept_reaction own js tick (input.Tally n) kept = kept_on_tally own js tick n kept
+kept_reaction own js tick (input.Nudge n) kept = kept_on_nudge own js n kept
+kept_reaction own js tick (input.GiveUp n) kept = kept_on_give_up own js n kept
+kept_reaction own js tick input.Check kept = kept_on_check own js tick kept
 kept_reaction own js tick (input.Got from m judged) kept = kept_message own js from m judged kept
 kept_reaction own js tick i kept = kept_nothing own js kept
 
@@ -117,6 +126,20 @@ deposits_are (au ∷ aus) copies =
     list_all-append is_deposit (filter_map (deposit_for au) copies) (deposits aus copies)
     ∙ ap (λ b. b && list_all is_deposit (deposits aus copies)) (held_are au copies) ∙ deposits_are aus copies
 
+deposit_at : (js : List Record) → AreDeposits js → (i : ℕ) (r : Record) → slice_get js i ≡ Some r → is_deposit r ≡ true
+unfolding AreDeposits
+deposit_at [] all i r e = absurd cc
+deposit_at (Deposit au blocks ∷ js) all zero r e = let same : Deposit au blocks ≡ r = cc in ap is_deposit (sym same)
+deposit_at (Deposit au blocks ∷ js) all (suc i) r e = deposit_at js all i r e
+deposit_at (d ∷ js) all i r e = absurd cc
+
+no_circle : (own : Station) (before : List Record) (r : Record) → is_deposit r ≡ true → IsCircle own before r
+no_circle own before (Deposit au blocks) e = tt
+no_circle own before r e = absurd cc
+
+deposits_have_circles : (own : Station) (js : List Record) → AreDeposits js → HaveCircles own js
+deposits_have_circles own js all i r at = no_circle own (take i js) r (deposit_at js all i r at)
+
 -- Every journal.
 
 kept_journal : (own : Station) (aus : List AuPlan) (copies : List Holding) (heard : List Heard) → Kept own (journal_after own (deposits aus copies) heard)
@@ -125,6 +148,13 @@ kept_journal own aus copies (h ∷ hs) = kept_reaction own (journal_after own (d
 
 kept_of : (own : Station) (aus : List AuPlan) (copies : List Holding) (tick : ℕ) (js : List Record) → IsJournalOf own (deposits aus copies) tick js → Kept own js
 kept_of own aus copies tick js is = subst (Kept own) (sym is.made) (kept_journal own aus copies is.heard)
+
+circles_of : (own : Station) (aus : List AuPlan) (copies : List Holding) (heard : List Heard) → IsReferenceList own.id own.refs
+    → HaveCircles own (journal_after own (deposits aus copies) heard)
+circles_of own aus copies [] is = deposits_have_circles own (deposits aus copies) (deposits_are aus copies)
+circles_of own aus copies (h ∷ hs) is =
+    let js = journal_after own (deposits aus copies) hs in
+    circles_more own js (reaction own js h.tick h.input).records (circles_of own aus copies hs is) (reaction_adds own js h.tick h.input is)
 
 polls_of : (own : Station) (js : List Record) → Kept own js → HasPolls own js
 polls_of own js kept = record { each = λ n. good_poll own js n (kept.good n); alone = kept.rest.alone }
@@ -241,3 +271,25 @@ tallies_have_quorum plan history place s at n opening may opened lacks =
     let enough = state.quorum opening opened parts.runs parts.over in
     let few = inquorate_votes limits.minority (ballot_of s.own n opening (length copy)) (inner_votes n opening.inner s.journal) copy limits.quorum lacks in
     absurd (omega (arith, enough, few))
+
+-- Every reference list and every circle.
+
+good_at : (plan : Plan) → plan_fault plan ≡ None → (place : ℕ) (p : PeerPlan) → slice_get (filter is_honest plan.peers) place ≡ Some p → IsReferenceList p.id p.refs
+good_at plan good place p at =
+    let all = All-filter is_honest (λ q. IsReferenceList q.id q.refs) plan.peers (peers_listed plan good) in
+    subst (λ q. IsReferenceList q.id q.refs) (get_or_from_slice_get (filter is_honest plan.peers) place p p at)
+    (all place p (slice_get_within (filter is_honest plan.peers) place p at))
+
+sampled_at : (plan : Plan) → plan_fault plan ≡ None → (place tick : ℕ) (o : Option PeerPlan) → slice_get (filter is_honest plan.peers) place ≡ o → (s : Standing) → HasJournal plan tick o s
+    → Samples s
+sampled_at plan good place tick None at s has = absurd has
+sampled_at plan good place tick (Some p) at s has =
+    let listed : IsReferenceList s.own.id s.own.refs = subst (λ own. IsReferenceList own.id own.refs) (sym has.0) (good_at plan good place p at) in
+    record {
+      list = list_kept s.own s.journal listed;
+      circles = subst (HaveCircles s.own) (sym has.1.made) (circles_of s.own plan.aus p.copies has.1.heard listed);
+    }
+
+pub circles_are_samples : (plan : Plan) → plan_fault plan ≡ None → (history : List Event) (place : ℕ) (s : Standing) → slice_get (world plan history).peers place ≡ Some s → Samples s
+circles_are_samples plan good history place s at =
+    sampled_at plan good place (world plan history).tick (slice_get (filter is_honest plan.peers) place) refl s (journals_are_own plan history place s at)

@@ -6,7 +6,7 @@ use Rattle.std.proofs.lemmas.Bool.{eq-eqb, and_from, both_ways, or_parts}
 use Rattle.std.proofs.lemmas.List.{take-append-le, take_at}
 use Rattle.lks_base.specs.declared.names.Outcome.{Outcome}
 use Rattle.lks_base.specs.declared.records.Record.{Record}
-use Rattle.lks_base.specs.declared.records.Record.TheVariants.{Nominated, VoteIn, Shut, Asked, RepairBad, Replaced, Closed}
+use Rattle.lks_base.specs.declared.records.Record.TheVariants.{Nominated, OuterOpened, VoteIn, Shut, Asked, RepairBad, Replaced, Closed, Overdue}
 use Rattle.lks_law.specs.Journal.{Opening, deposit_in, replacement_in, contents_of, opening_in, opening_of, is_opening, openings, vote_in, is_vote_of, has_voted, is_closed}
 use Rattle.lks_law.specs.Polls.{Station, votes}
 use Rattle.lks_law.specs.Safe.{Evidence, HasEvidence}
@@ -88,6 +88,12 @@ kept_more own js r plain kept good = record { good = good_more own js r plain go
 
 pub plain_nominated : (n v : ℕ) (nominees : List ℕ) → IsPlain (Nominated n v nominees)
 plain_nominated n v nominees = record { deposit = λ au. refl; replacement = λ au. refl; opening = λ m. refl; counted = refl; other = λ m au b bytes e. absurd cc }
+
+pub plain_widened : (n : ℕ) (outer : List ℕ) → IsPlain (OuterOpened n outer)
+plain_widened n outer = record { deposit = λ au. refl; replacement = λ au. refl; opening = λ m. refl; counted = refl; other = λ m au b bytes e. absurd cc }
+
+pub plain_overdue : (au tick : ℕ) → IsPlain (Overdue au tick)
+plain_overdue au tick = record { deposit = λ a. refl; replacement = λ a. refl; opening = λ m. refl; counted = refl; other = λ m a b bytes e. absurd cc }
 
 pub plain_vote : (n v : ℕ) (hashes : List (List ℕ)) → IsPlain (VoteIn n v hashes)
 plain_vote n v hashes = record { deposit = λ au. refl; replacement = λ au. refl; opening = λ m. refl; counted = refl; other = λ m au b bytes e. absurd cc }

@@ -8,3 +8,4 @@ pub mod PollStates
 pub mod Ranges
 pub mod Repairs
 pub mod Rows
+pub mod Samples

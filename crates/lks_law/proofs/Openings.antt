@@ -7,8 +7,9 @@ use Rattle.lks_base.specs.declared.records.Record.{Record}
 use Rattle.lks_base.specs.declared.records.Record.TheVariants as records
 use Rattle.lks_hash.specs.Hashes.{nonce_from}
 use Rattle.lks_law.specs.Journal.{Opening, deposit_of, opening_in, opening_of, openings, is_closed, opens_running, opens_open, opens_lately}
-use Rattle.lks_law.specs.Polls.{Station, inner_circle, limits_in_force}
+use Rattle.lks_law.specs.Polls.{Station, limits_in_force}
 use Rattle.lks_law.specs.Reaction.{may_open, opened, on_open}
+use Rattle.lks_law.specs.References.{inner_circle}
 use Rattle.lks_law.proofs.Grown.{first_opening, opening_more, openings_more, contents_more}
 use Rattle.lks_law.proofs.Kept.{Kept, AllGood, evidence_more, was_running}
 use Rattle.lks_law.proofs.PollStates.{Good, poll_of, poll_more, copies_in, if_own, good_opened}
@@ -122,5 +123,5 @@ unfolding on_open
 kept_on_open own js tick au kept =
     kept_if own js (may_open own js tick au) (opened own js tick au (openings js + 1)) kept (λ may.
     kept_opened own js (openings js + 1) tick
-    (record { au = au; nonce = nonce_from own.seed (openings js + 1); inner = inner_circle own (openings js + 1); limits = Some (limits_in_force own.rules js); kind = own.hash })
+    (record { au = au; nonce = nonce_from own.seed (openings js + 1); inner = inner_circle own (openings js + 1) js; limits = Some (limits_in_force own.rules js); kind = own.hash })
     kept refl (free_of own js tick au may))

@@ -9,12 +9,12 @@ use Rattle.lks_base.specs.declared.records.Record.{Record}
 use Rattle.lks_base.specs.declared.records.Record.TheVariants as records
 use Rattle.lks_law.specs.Journal.{Opening, Request, contents_of, opening_of, unanswered}
 use Rattle.lks_law.specs.Polls.{Station, limits_of, ballot_of, inner_votes, said_at, is_win, restores}
-use Rattle.lks_law.specs.Reaction.{for_opening, is_request, may_repair, repaired, on_repair}
+use Rattle.lks_law.specs.Reaction.{for_opening, is_request, may_repair, repaired, on_repair, given_up, on_give_up}
 use Rattle.lks_law.specs.Safe.{Evidence}
 use Rattle.lks_law.proofs.Grown.{contents_more, replaced_if}
 use Rattle.lks_law.proofs.Kept.{Kept, AllGood, kept_more, rest_after, evidence_more, plain_bad}
-use Rattle.lks_law.proofs.PollStates.{Good, poll_of, poll_after, poll_more, copies_in, answered, if_own, good_answered, good_copies}
-use Rattle.lks_law.proofs.Rows.{KeptBy, kept_if, kept_opening}
+use Rattle.lks_law.proofs.PollStates.{Good, Poll, poll_of, poll_after, poll_more, copies_in, answered, if_own, good_answered, good_copies}
+use Rattle.lks_law.proofs.Rows.{KeptBy, kept_nothing, kept_if, kept_opening}
 use Rattle.lks_tally.specs.declared.ballots.At.{At}
 use Rattle.lks_tally.specs.declared.ballots.At.TheVariants as at
 use Rattle.lks_tally.specs.Counting.{against_at, for_at}
@@ -121,3 +121,19 @@ kept_on_repair own js from n b bytes kept =
     cond_both (restores own n o b bytes js) _ _ (KeptBy own js)
     (λ win. kept_replaced own js n b bytes o kept opened (waits js from n b may) win)
     (λ lost. kept_bad own js from n b o kept opened)))
+
+-- a poll that waits for a repair was opened
+pub kept_on_give_up : (own : Station) (js : List Record) (n : ℕ) → Kept own js → KeptBy own js (on_give_up js n)
+unfolding on_give_up
+kept_on_give_up own js n kept = by_request (unanswered n js) refl
+  where
+    no_request : (r : Request) → unanswered n js ≡ Some r → unanswered n js ≡ None → ⊥
+    no_request r some none = let both : Some r ≡ None = sym some ∙ none in absurd cc
+
+    by_opening : (r : Request) (o : Option Opening) → unanswered n js ≡ Some r → opening_of n js ≡ o → Kept own (js ++ records.RepairBad n r.block r.voter ∷ [])
+    by_opening r None asked is = absurd (no_request r asked (ap (λ (p : Poll). p.request) ((kept.good n).unopened is)))
+    by_opening r (Some o) asked is = kept_bad own js r.voter n r.block o kept is
+
+    by_request : (q : Option Request) → unanswered n js ≡ q → KeptBy own js (given_up n q)
+    by_request None asked = kept_nothing own js kept
+    by_request (Some r) asked = by_opening r (opening_of n js) asked refl

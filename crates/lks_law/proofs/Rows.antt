@@ -1,18 +1,21 @@
 -- What each rule of a peer keeps.
 use Rattle.std.proofs.Common.{◌≡◌, ◌≤◌, sym, subst, ℕ, Bool, true, false, cond, eqb, List, [], ◌∷◌, ◌++◌, length, refl}
 use Rattle.std.specs.Prelude.{Option, Some, None, is_some, ◌&&◌, not}
+use Rattle.std.specs.List.{filter_map, cons_option}
 use Rattle.std.proofs.lemmas.Bool.{and_parts, not-true, cond_both, ltb-false}
 use Rattle.std.proofs.lemmas.List.{append-nil, append_assoc}
 use Rattle.lks_base.specs.declared.names.Judged.{Judged}
 use Rattle.lks_base.specs.declared.names.Outcome.{Outcome}
 use Rattle.lks_base.specs.declared.names.Outcome.TheVariants as outcome
+use Rattle.lks_base.specs.declared.plans.AuPlan.{AuPlan}
 use Rattle.lks_base.specs.declared.reactions.Reaction.{Reaction}
 use Rattle.lks_base.specs.declared.records.Record.{Record}
 use Rattle.lks_base.specs.declared.records.Record.TheVariants as records
 use Rattle.lks_law.specs.Journal.{Opening, Request, contents_of, opening_of, is_voting, is_running, is_shut, is_closed, is_widened, has_voted, unanswered}
 use Rattle.lks_law.specs.Polls.{Station, limits_of, ballot_of, inner_votes, is_invited, verdict_in, candidate}
-use Rattle.lks_law.specs.Reaction.{nothing, for_opening, is_inquorate, shut_inquorate, shut, on_shut, may_tally, closed, asked, tallied, on_tally, may_prove, proved, on_challenge, may_nominate, nominated, on_nominate, is_accepted, may_vote, counted, on_vote}
-use Rattle.lks_law.proofs.Kept.{Kept, kept_more, rest_more, good_more, same_copies, plain_nominated, plain_vote, plain_shut, plain_asked, plain_closed, unvoted}
+use Rattle.lks_law.specs.Reaction.{nothing, for_opening, is_inquorate, shut_inquorate, shut, on_shut, may_tally, closed, asked, tallied, on_tally, may_prove, proved, on_challenge, may_nominate, nominated, on_nominate, is_accepted, may_vote, counted, on_vote, widened, on_widen, must_note, overdue_in, on_check, reminded, asked_again, on_nudge}
+use Rattle.lks_law.specs.References.{outer_circle}
+use Rattle.lks_law.proofs.Kept.{Kept, kept_more, rest_more, good_more, same_copies, plain_nominated, plain_widened, plain_overdue, plain_vote, plain_shut, plain_asked, plain_closed, unvoted}
 use Rattle.lks_law.proofs.PollStates.{Good, Poll, poll_of, poll_after, poll_more, copies_in, if_own, good_voted, good_ended, good_given_up, good_done, good_asking, ended, done}
 use Rattle.lks_tally.specs.declared.ballots.Verdict.{Verdict}
 use Rattle.lks_tally.specs.declared.ballots.Verdict.TheVariants as verdict
@@ -183,3 +186,41 @@ kept_on_nominate own js from n nominees kept =
     kept_opening own js (opening_of n js) (nominated js from n nominees) kept (λ o opened.
     kept_if own js (may_nominate js from n o) _ kept (λ first.
     kept_more own js (records.Nominated n from nominees) (plain_nominated n from nominees) kept kept.good)))
+
+-- An outer circle, and AUs that are overdue.
+
+pub kept_on_widen : (own : Station) (js : List Record) (n : ℕ) → Kept own js → KeptBy own js (on_widen own js n)
+unfolding on_widen
+kept_on_widen own js n kept =
+    kept_if own js (is_voting n js && not (is_widened n js)) (for_opening (opening_of n js) (widened own js n)) kept (λ may.
+    kept_opening own js (opening_of n js) (widened own js n) kept (λ o opened.
+    kept_more own js (records.OuterOpened n (outer_circle own n o js)) (plain_widened n (outer_circle own n o js)) kept kept.good))
+
+kept_noted : (own : Station) (all js : List Record) (tick : ℕ) (aus : List AuPlan) → Kept own js → Kept own (js ++ filter_map (overdue_in own all tick) aus)
+kept_noted own all js tick [] kept = subst (Kept own) (sym (append-nil js)) kept
+kept_noted own all js tick (au ∷ aus) kept =
+    by_test (must_note own all tick au.id) (filter_map (overdue_in own all tick) aus) (λ later k. kept_noted own all later tick aus k)
+  where
+    by_test : (b : Bool) (rest : List Record) → ((later : List Record) → Kept own later → Kept own (later ++ rest))
+        → Kept own (js ++ cons_option (cond b (Some (records.Overdue au.id tick)) None) rest)
+    by_test true rest go_on =
+        subst (Kept own) (append_assoc js (records.Overdue au.id tick ∷ []) rest)
+        (go_on (js ++ records.Overdue au.id tick ∷ []) (kept_more own js (records.Overdue au.id tick) (plain_overdue au.id tick) kept kept.good))
+    by_test false rest go_on = go_on js kept
+
+pub kept_on_check : (own : Station) (js : List Record) (tick : ℕ) → Kept own js → KeptBy own js (on_check own js tick)
+unfolding on_check
+kept_on_check own js tick kept = kept_noted own js js tick own.aus kept
+
+-- A reminder.
+
+pub kept_on_nudge : (own : Station) (js : List Record) (n : ℕ) → Kept own js → KeptBy own js (on_nudge js n)
+unfolding on_nudge
+kept_on_nudge own js n kept =
+    cond_both (is_voting n js) (for_opening (opening_of n js) (reminded js n)) (asked_again n (unanswered n js)) (KeptBy own js)
+    (λ voting. kept_opening own js (opening_of n js) (reminded js n) kept (λ o opened. kept_nothing own js kept))
+    (λ over. by_request (unanswered n js))
+  where
+    by_request : (r : Option Request) → KeptBy own js (asked_again n r)
+    by_request None = kept_nothing own js kept
+    by_request (Some r) = kept_nothing own js kept

@@ -3,8 +3,9 @@ use Rattle.std.specs.Prelude.{ℕ, Bool, true, false, ◌==◌, ◌-◌, ◌&&�
 use Rattle.std.specs.List.{list_any, filter_map}
 use Rattle.lks_base.specs.declared.names.HashKind.{HashKind}
 use Rattle.lks_base.specs.declared.names.Limits.{Limits}
+use Rattle.lks_base.specs.declared.names.Outcome.TheVariants.{Agreed}
 use Rattle.lks_base.specs.declared.records.Record.{Record}
-use Rattle.lks_base.specs.declared.records.Record.TheVariants.{Deposit, PollOpened, Nominated, OuterOpened, VoteIn, Shut, Asked, RepairBad, Replaced, Closed, Tuned}
+use Rattle.lks_base.specs.declared.records.Record.TheVariants.{Deposit, PollOpened, Nominated, OuterOpened, VoteIn, Shut, Asked, RepairBad, Replaced, Closed, Overdue, Tuned}
 use Rattle.lks_tally.specs.declared.ballots.Vote.{Vote}
 
 -- what a poll keeps from its opening
@@ -56,6 +57,10 @@ abbrev pub is_nominated_by : ℕ → ℕ → Record → Bool
 is_nominated_by n v (Nominated number voter nominees) = number == n && voter == v
 is_nominated_by n v _ = false
 
+abbrev pub nominees_in : ℕ → Record → Option (List ℕ)
+nominees_in n (Nominated number voter nominees) = if number == n then Some nominees else None
+nominees_in n _ = None
+
 abbrev pub vote_in : ℕ → Record → Option Vote
 vote_in n (VoteIn number voter hashes) = if number == n then Some (record { voter = voter; hashes = hashes }) else None
 vote_in n _ = None
@@ -71,6 +76,11 @@ shuts n _ = false
 abbrev pub closes : ℕ → Record → Bool
 closes n (Closed number outcome tick) = number == n
 closes n _ = false
+
+-- the number of the poll that the record closes as agreed
+abbrev pub agreed_in : Record → Option ℕ
+agreed_in (Closed number Agreed tick) = Some number
+agreed_in _ = None
 
 abbrev pub asks : ℕ → ℕ → ℕ → Record → Bool
 asks n b v (Asked number block voter) = number == n && (block == b && voter == v)
@@ -183,6 +193,39 @@ unanswered n journal = unanswered_from n None journal
 abbrev pub limits_from : Limits → List Record → Limits
 limits_from before [] = before
 limits_from before (r ∷ rs) = limits_from (limits_after before r) rs
+
+-- the nominations of poll n, in order
+unfoldable pub nominations : ℕ → List Record → List (List ℕ)
+nominations n journal = filter_map (nominees_in n) journal
+
+-- Audits of AUs.
+
+-- when an AU was last agreed, or 0, and whether it was noted as overdue since then
+pub record Audit : Type 0 where
+  pub tick : ℕ
+  pub noted : Bool
+
+unfoldable pub is_of_au : ℕ → Option Opening → Bool
+is_of_au au None = false
+is_of_au au (Some o) = o.au == au
+
+-- that after a record of the journal, given the one before it
+unfoldable pub audit_after : ℕ → List Record → Audit → Record → Audit
+audit_after au journal before (Closed number Agreed tick) =
+    if is_of_au au (opening_of number journal) then record { tick = tick; noted = false } else before
+audit_after au journal before (Overdue a tick) = if a == au then record { tick = before.tick; noted = true } else before
+audit_after au journal before _ = before
+
+abbrev pub audit_from : ℕ → List Record → Audit → List Record → Audit
+audit_from au journal before [] = before
+audit_from au journal before (r ∷ rs) = audit_from au journal (audit_after au journal before r) rs
+
+unfoldable pub audit_of : ℕ → List Record → Audit
+audit_of au journal = audit_from au journal (record { tick = 0; noted = false }) journal
+
+-- whether the AU wasn't agreed for more than so many ticks, which wasn't noted yet
+unfoldable pub is_overdue : ℕ → ℕ → ℕ → List Record → Bool
+is_overdue au now overdue journal = nat_lt overdue (now - (audit_of au journal).tick) && not (audit_of au journal).noted
 
 -- whether the record opens a poll on the AU that isn't closed
 unfoldable pub opens_running : ℕ → List Record → Record → Bool

@@ -1,9 +1,11 @@
 pub mod Batches
+pub mod Circles
 pub mod Due
 pub mod Entries
 pub mod Facts
 pub mod Journal
 pub mod Polls
 pub mod Reaction
+pub mod References
 pub mod Safe
 pub mod World

@@ -7,8 +7,6 @@ use Rattle.lks_base.specs.declared.names.Limits.{Limits}
 use Rattle.lks_base.specs.declared.plans.AuPlan.{AuPlan}
 use Rattle.lks_base.specs.declared.plans.Rules.{Rules}
 use Rattle.lks_base.specs.declared.records.Record.{Record}
-use Rattle.lks_draw.specs.Picks.{picked_by}
-use Rattle.lks_draw.specs.Words.{drawn_from}
 use Rattle.lks_law.specs.Journal.{Opening, vote_in, outer_of, contents_of, was_asked, limits_from}
 use Rattle.lks_tally.specs.declared.ballots.At.{At}
 use Rattle.lks_tally.specs.declared.ballots.At.TheVariants.{Win, Loss, Split}
@@ -27,10 +25,6 @@ pub record Station : Type 0 where
   pub refs : List ℕ
   pub friends : List ℕ
   pub hash : HashKind
-
--- the inner circle of poll n: a sample of the reference list, by the draw of label 1
-unfoldable pub inner_circle : Station → ℕ → List ℕ
-inner_circle own n = picked_by (drawn_from own.seed 1 n) own.refs own.rules.inner
 
 -- the numbers with which a poll begins: the rules', or those of the last tuning
 unfoldable pub limits_in_force : Rules → List Record → Limits

@@ -1,7 +1,7 @@
 -- What a peer adds to its journal and sends, one definition for each thing that it does or receives. Where a condition
 -- doesn't hold, nothing is added and nothing sent.
-use Rattle.std.specs.Prelude.{ℕ, Bool, true, false, not, ◌&&◌, ◌==◌, ◌+◌, nat_lt, if◌then◌else◌, Option, Some, None, is_some, List, [], ◌∷◌, length, map, count_by}
-use Rattle.std.specs.List.{list_any}
+use Rattle.std.specs.Prelude.{ℕ, Bool, true, false, not, ◌&&◌, ◌==◌, ◌+◌, nat_lt, if◌then◌else◌, Option, Some, None, is_some, List, [], ◌∷◌, ◌++◌, length, map, filter, count_by}
+use Rattle.std.specs.List.{list_any, filter_map}
 use Rattle.lks_base.specs.Checking.{has_member}
 use Rattle.lks_base.specs.declared.messages.Message.{Message}
 use Rattle.lks_base.specs.declared.messages.Message.TheVariants as message
@@ -9,6 +9,7 @@ use Rattle.lks_base.specs.declared.names.Judged.{Judged}
 use Rattle.lks_base.specs.declared.names.Judged.TheVariants.{Accepted}
 use Rattle.lks_base.specs.declared.names.Outcome.{Outcome}
 use Rattle.lks_base.specs.declared.names.Outcome.TheVariants as outcome
+use Rattle.lks_base.specs.declared.plans.AuPlan.{AuPlan}
 use Rattle.lks_base.specs.declared.reactions.Input.{Input}
 use Rattle.lks_base.specs.declared.reactions.Input.TheVariants as input
 use Rattle.lks_base.specs.declared.reactions.Outgoing.{Outgoing}
@@ -16,8 +17,9 @@ use Rattle.lks_base.specs.declared.reactions.Reaction.{Reaction}
 use Rattle.lks_base.specs.declared.records.Record.{Record}
 use Rattle.lks_base.specs.declared.records.Record.TheVariants as records
 use Rattle.lks_hash.specs.Hashes.{nonce_from}
-use Rattle.lks_law.specs.Journal.{Opening, Request, deposit_of, contents_of, opening_of, openings, opens_running, opens_open, opens_lately, is_voting, is_running, is_shut, is_widened, has_nominated, has_voted, unanswered}
-use Rattle.lks_law.specs.Polls.{Station, inner_circle, limits_in_force, limits_of, votes, inner_votes, is_invited, verdict_in, candidate, restores}
+use Rattle.lks_law.specs.Journal.{Opening, Request, deposit_of, contents_of, opening_of, openings, opens_running, opens_open, opens_lately, is_voting, is_running, is_shut, is_widened, outer_of, has_nominated, has_voted, unanswered, is_overdue}
+use Rattle.lks_law.specs.Polls.{Station, limits_in_force, limits_of, votes, inner_votes, is_invited, verdict_in, candidate, restores}
+use Rattle.lks_law.specs.References.{inner_circle, outer_circle}
 use Rattle.lks_message.specs.Spelling.{spelling}
 use Rattle.lks_tally.specs.declared.ballots.Verdict.{Verdict}
 use Rattle.lks_tally.specs.declared.ballots.Verdict.TheVariants as verdict
@@ -28,6 +30,10 @@ nothing = record { records = []; sends = [] }
 -- a message to a peer
 abbrev pub letter : Message → ℕ → Outgoing
 letter m to = record { to = to; bytes = spelling m }
+
+abbrev pub for_opening : Option Opening → (Opening → Reaction) → Reaction
+for_opening None f = nothing
+for_opening (Some opening) f = f opening
 
 -- A poll is opened on a held AU with no running poll on it, while fewer than 8 polls run, and not within `pace` ticks of
 -- the last one. Its inner circle is sampled from the reference list, and each member is invited.
@@ -40,12 +46,51 @@ may_open own journal tick au =
 abbrev pub opened : Station → List Record → ℕ → ℕ → ℕ → Reaction
 opened own journal tick au n =
     record {
-      records = records.PollOpened n au (nonce_from own.seed n) (inner_circle own n) tick (Some (limits_in_force own.rules journal)) own.hash ∷ [];
-      sends = map (letter (message.Poll n au)) (inner_circle own n);
+      records = records.PollOpened n au (nonce_from own.seed n) (inner_circle own n journal) tick (Some (limits_in_force own.rules journal)) own.hash ∷ [];
+      sends = map (letter (message.Poll n au)) (inner_circle own n journal);
     }
 
 unfoldable pub on_open : Station → List Record → ℕ → ℕ → Reaction
 on_open own journal tick au = if may_open own journal tick au then opened own journal tick au (openings journal + 1) else nothing
+
+-- The outer circle is sampled from the nominations, once and while votes are open. Each member is invited.
+
+abbrev pub widened : Station → List Record → ℕ → Opening → Reaction
+widened own journal n opening =
+    record {
+      records = records.OuterOpened n (outer_circle own n opening journal) ∷ [];
+      sends = map (letter (message.Poll n opening.au)) (outer_circle own n opening journal);
+    }
+
+unfoldable pub on_widen : Station → List Record → ℕ → Reaction
+on_widen own journal n =
+    if is_voting n journal && not (is_widened n journal) then for_opening (opening_of n journal) (widened own journal n) else nothing
+
+-- A reminder. While votes are open, each invited peer that hasn't voted is invited again; a request that is unanswered
+-- is sent again.
+
+unfoldable pub silent : ℕ → Opening → List Record → List ℕ
+silent n opening journal = filter (λ v. not (has_voted n v journal)) (opening.inner ++ outer_of n journal)
+
+abbrev pub reminded : List Record → ℕ → Opening → Reaction
+reminded journal n opening = record { records = []; sends = map (letter (message.Poll n opening.au)) (silent n opening journal) }
+
+abbrev pub asked_again : ℕ → Option Request → Reaction
+asked_again n None = nothing
+asked_again n (Some r) = record { records = []; sends = letter (message.RepairRequest n r.block) r.voter ∷ [] }
+
+unfoldable pub on_nudge : List Record → ℕ → Reaction
+on_nudge journal n =
+    if is_voting n journal then for_opening (opening_of n journal) (reminded journal n) else asked_again n (unanswered n journal)
+
+-- A request that is unanswered is given up: its repair counts as a bad one.
+
+abbrev pub given_up : ℕ → Option Request → Reaction
+given_up n None = nothing
+given_up n (Some r) = record { records = records.RepairBad n r.block r.voter ∷ []; sends = [] }
+
+unfoldable pub on_give_up : List Record → ℕ → Reaction
+on_give_up journal n = given_up n (unanswered n journal)
 
 -- the poll ends: each voter gets a receipt, in order of their votes
 unfoldable pub receipts : ℕ → List Record → List Outgoing
@@ -65,10 +110,6 @@ shut own journal tick n opening =
     if is_inquorate own n opening journal
     then shut_inquorate journal tick n
     else record { records = records.Shut n ∷ []; sends = [] }
-
-abbrev pub for_opening : Option Opening → (Opening → Reaction) → Reaction
-for_opening None f = nothing
-for_opening (Some opening) f = f opening
 
 unfoldable pub on_shut : Station → List Record → ℕ → ℕ → Reaction
 on_shut own journal tick n =
@@ -99,6 +140,17 @@ on_tally own journal tick n =
     if may_tally n journal
     then for_opening (opening_of n journal) (λ opening. tallied own journal tick n opening (verdict_in own n opening journal))
     else nothing
+
+-- An AU that is held and wasn't agreed for more than `overdue` ticks is noted as overdue, once until it is agreed again.
+
+unfoldable pub must_note : Station → List Record → ℕ → ℕ → Bool
+must_note own journal tick au = is_some (deposit_of au journal) && is_overdue au tick own.rules.overdue journal
+
+abbrev pub overdue_in : Station → List Record → ℕ → AuPlan → Option Record
+overdue_in own journal tick au = if must_note own journal tick au.id then Some (records.Overdue au.id tick) else None
+
+unfoldable pub on_check : Station → List Record → ℕ → Reaction
+on_check own journal tick = record { records = filter_map (overdue_in own journal tick) own.aus; sends = [] }
 
 -- An invited peer that agrees to vote is sent the proof of effort with the poll's nonce, until its vote is in.
 
@@ -178,7 +230,11 @@ on_message own journal from _ judged = nothing
 -- what a peer with this journal adds and sends at this tick
 unfoldable pub reaction : Station → List Record → ℕ → Input → Reaction
 reaction own journal tick (input.OpenPoll au) = on_open own journal tick au
+reaction own journal tick (input.Widen n) = on_widen own journal n
 reaction own journal tick (input.Shut n) = on_shut own journal tick n
 reaction own journal tick (input.Tally n) = on_tally own journal tick n
+reaction own journal tick (input.Nudge n) = on_nudge journal n
+reaction own journal tick (input.GiveUp n) = on_give_up journal n
+reaction own journal tick input.Check = on_check own journal tick
 reaction own journal tick (input.Got from m judged) = on_message own journal from m judged
 reaction own journal tick _ = nothing

@@ -1,10 +1,12 @@
 //! Laws on every history of every plan.
 
-ghost use Rattle.std.specs.Prelude.{◌≡◌, ◌≢◌, ℕ, true, Some, List, map, slice_get};
+ghost use Rattle.std.specs.Prelude.{◌≡◌, ◌≢◌, ℕ, true, Some, None, List, map, slice_get};
+ghost use Rattle.lks_base.specs.Checking.{plan_fault};
 ghost use Rattle.lks_base.specs.declared.entries.Entry.{Entry};
 ghost use Rattle.lks_base.specs.declared.events.Event.{Event};
 ghost use Rattle.lks_base.specs.declared.plans.Plan.{Plan};
 ghost use Rattle.lks_law.specs.Batches.{together, journal_at, batches_at};
+ghost use Rattle.lks_law.specs.Circles.{Samples};
 ghost use Rattle.lks_law.specs.Entries.{entries};
 ghost use Rattle.lks_law.specs.Facts.{HaveJournals, HasPolls};
 ghost use Rattle.lks_law.specs.Journal.{Opening, opening_of};
@@ -29,6 +31,12 @@ pub fn every_journal_is_its_peers_own()
 /// that added records to it.
 pub fn every_journal_is_its_batches()
     ensures { (plan : Plan) (history : List Event) (place : ℕ) → together (batches_at place plan history) ≡ journal_at place (world plan history) }
+{}
+
+/// In a world of a good plan each honest peer's reference list names others alone, none of them twice. So does each
+/// inner and each outer circle of its polls, which is no larger than the rules say; nobody stands in both.
+pub fn every_circle_is_a_sample()
+    ensures { (plan : Plan) → plan_fault plan ≡ None → (history : List Event) (place : ℕ) (s : Standing) → slice_get (world plan history).peers place ≡ Some s → Samples s }
 {}
 
 /// At most one poll of an honest peer runs on an AU. A poll that runs and is shut has its quorum, and so has each

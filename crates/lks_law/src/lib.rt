@@ -8,6 +8,7 @@
 mod laws;
 
 pub use laws::{
-    every_event_has_its_entry, every_journal_is_its_batches, every_journal_is_its_peers_own,
-    every_poll_keeps_its_state, every_replacement_has_evidence, every_tally_has_its_quorum,
+    every_circle_is_a_sample, every_event_has_its_entry, every_journal_is_its_batches,
+    every_journal_is_its_peers_own, every_poll_keeps_its_state, every_replacement_has_evidence,
+    every_tally_has_its_quorum,
 };

@@ -6,8 +6,8 @@ use Rattle.std.proofs.lemmas.Bool.{and_parts, leb-true}
 use Rattle.lks_base.proofs.FirstBlocks.{first_all}
 use Rattle.lks_base.specs.Counted.{first_blocks}
 use Rattle.lks_base.specs.declared.records.Record.{Record}
-use Rattle.lks_base.specs.declared.records.Record.TheVariants.{Deposit}
-use Rattle.lks_law.specs.Journal.{Replacement, deposit_in, deposit_of, replaced_by, contents_of, replacements}
+use Rattle.lks_base.specs.declared.records.Record.TheVariants.{Deposit, Asked, RepairBad, Replaced}
+use Rattle.lks_law.specs.Journal.{Replacement, Request, unanswered_after, unanswered_from, unanswered, deposit_in, deposit_of, replaced_by, contents_of, replacements}
 use Rattle.lks_peer.specs.Small.{is_small, are_small}
 
 replaced-length : (blocks : List (List ℕ)) (rs : List Replacement) → length (replaced_by blocks rs) ≡ length blocks
@@ -50,3 +50,29 @@ pub whole_copy_with : (au b : ℕ) (bytes : List ℕ) (journal : List Record) �
     → first_blocks (slice_set (contents_of au journal) b bytes) ≡ slice_set (contents_of au journal) b bytes
 whole_copy_with au b bytes journal small =
     first_all (slice_set (contents_of au journal) b bytes) (omega (arith, length-set (contents_of au journal) b bytes, few_blocks au journal small))
+
+-- a request is of one of the blocks that an AU may have
+abbrev pub IsOfBlock : Option Request → Type 0
+IsOfBlock None = Unit {0}
+IsOfBlock (Some r) = r.block ≤ 511
+
+of_block_if : (b : Bool) (q r : Option Request) → IsOfBlock q → IsOfBlock r → IsOfBlock (cond b q r)
+of_block_if true q r p s = p
+of_block_if false q r p s = s
+
+after_small : (n : ℕ) (before : Option Request) (r : Record) → IsOfBlock before → is_small r ≡ true → IsOfBlock (unanswered_after n before r)
+after_small n before (Asked number block voter) is small =
+    of_block_if (number == n) (Some (record { block = block; voter = voter })) before (leb-true block 511 small) is
+after_small n before (RepairBad number block voter) is small = of_block_if (number == n) None before tt is
+after_small n before (Replaced number au block bytes) is small = of_block_if (number == n) None before tt is
+after_small n before r is small = is
+
+from_small : (n : ℕ) (before : Option Request) (js : List Record) → IsOfBlock before → are_small js ≡ true → IsOfBlock (unanswered_from n before js)
+from_small n before [] is small = is
+from_small n before (r ∷ rs) is small =
+    let parts = and_parts (is_small r) (are_small rs) small in
+    from_small n (unanswered_after n before r) rs (after_small n before r is parts.0) parts.1
+
+pub request_small : (n : ℕ) (js : List Record) → are_small js ≡ true → IsOfBlock (unanswered n js)
+unfolding unanswered
+request_small n js small = from_small n None js tt small

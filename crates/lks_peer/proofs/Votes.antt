@@ -1,29 +1,18 @@
 -- The votes of a poll, one record at a time.
-use Rattle.std.proofs.Common.{◌≡◌, ℕ, ◌∙◌, ap, subst, true, false, cond, List, [], ◌∷◌, length, refl}
-use Rattle.std.specs.Prelude.{Option, Some, None, Result, IfOk, filter, map, option_map}
+use Rattle.std.proofs.Common.{◌≡◌, ℕ, ◌∙◌, ap, subst, List, [], ◌∷◌, length, refl}
+use Rattle.std.specs.Prelude.{Option, Some, None, Result, IfOk, map, option_map}
 use Rattle.std.specs.List.{filter_map, cons_option}
-use Rattle.lks_base.specs.Checking.{has_member}
 use Rattle.lks_base.specs.declared.memory.OutOfMemory.{OutOfMemory}
 use Rattle.lks_base.specs.declared.messages.Message.{Message}
 use Rattle.lks_base.specs.declared.records.Record.{Record}
 use Rattle.lks_law.specs.Journal.{Opening, vote_in}
 use Rattle.lks_law.specs.Polls.{Station, limits_of, ballot_of, inner_votes, said_at}
 use Rattle.lks_law.specs.Reaction.{letter}
-use Rattle.lks_peer.specs.Inner.{inner_if, inner_vote_in, voter_in}
+use Rattle.lks_peer.specs.Voters.{voter_in}
 use Rattle.lks_tally.specs.declared.ballots.At.{At}
 use Rattle.lks_tally.specs.declared.ballots.Ballot.{Ballot}
 use Rattle.lks_tally.specs.declared.ballots.Vote.{Vote}
 use Rattle.lks_tally.specs.Counting.{verdict_at}
-
-kept_first : (inner : List ℕ) (v : Option Vote) (vs : List Vote) → filter (λ v. has_member inner v.voter) (cons_option v vs) ≡ cons_option (inner_if inner v) (filter (λ v. has_member inner v.voter) vs)
-kept_first inner None vs = refl
-kept_first inner (Some v) vs =
-    let rest = filter (λ v. has_member inner v.voter) vs in
-    elim (has_member inner v.voter) as (λ b. cond b (v ∷ rest) rest ≡ cons_option (cond b (Some v) None) rest) [ true ↦ refl | false ↦ refl ]
-
-pub inner_by_record : (n : ℕ) (inner : List ℕ) (journal : List Record) → filter (λ v. has_member inner v.voter) (filter_map (vote_in n) journal) ≡ filter_map (inner_vote_in n inner) journal
-inner_by_record n inner [] = refl
-inner_by_record n inner (r ∷ rs) = kept_first inner (vote_in n r) (filter_map (vote_in n) rs) ∙ ap (cons_option (inner_vote_in n inner r)) (inner_by_record n inner rs)
 
 mapped_first : (v : Option Vote) (vs : List Vote) → map (λ v. v.voter) (cons_option v vs) ≡ cons_option (option_map (λ v. v.voter) v) (map (λ v. v.voter) vs)
 mapped_first None vs = refl

@@ -1,4 +1,4 @@
-pub mod Inner
 pub mod Replacing
 pub mod Requests
 pub mod Small
+pub mod Voters

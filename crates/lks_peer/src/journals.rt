@@ -142,7 +142,7 @@ fn as_outer(r: &Record, n: u32) -> Option<&[u16]>
 }
 
 #[tactic(auto, unfolding(lks_law::specs::Journal::outer_of))]
-fn find_outer(journal: &[Record], n: u32) -> &[u16]
+pub fn find_outer(journal: &[Record], n: u32) -> &[u16]
     ensures { result.now ≡ outer_of n journal.now }
 {
     for r in journal {

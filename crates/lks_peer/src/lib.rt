@@ -1,6 +1,7 @@
 //! A peer: what it adds to its journal and sends, whatever it does or receives.
 #![tactic(auto)]
 
+mod audits;
 mod copies;
 mod deliveries;
 mod journals;
@@ -9,6 +10,8 @@ mod peers;
 mod polls;
 mod reactions;
 mod records;
+mod references;
+mod reminders;
 mod stations;
 mod steps;
 

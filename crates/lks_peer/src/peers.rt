@@ -1,18 +1,21 @@
 //! A peer as others see it: what it goes by, and its journal.
 
 ghost use Rattle.std.specs.Prelude.{◌≡◌, ◌≤◌, ◌++◌, IfOk, OnOk, OnErr, IsSome, None, true, length, filter, find, option_map, slice_get};
-ghost use Rattle.std.specs.List.{range_with_len};
+ghost use Rattle.std.specs.List.{filter_map, range_with_len};
 ghost use Rattle.std.specs.Option.{option_copied};
 ghost use Rattle.lks_base.specs.Checking.{plan_fault};
 ghost use Rattle.lks_hash.specs.Counting.{Opens};
-ghost use Rattle.lks_law.specs.Due.{ready_at};
+ghost use Rattle.lks_law.specs.Due as due;
+ghost use Rattle.lks_law.specs.Due.{ready_at, turns_at};
 ghost use Rattle.lks_law.specs.Entries.{is_inner};
 ghost use Rattle.lks_law.specs.Journal.{openings};
 ghost use Rattle.lks_law.specs.Reaction.{may_tally, reaction};
 ghost use Rattle.lks_law.specs.World.{station_of, is_honest_at, honest_peer};
 ghost use Rattle.lks_peer.specs.Small.{are_small, most_records};
 
-use crate::journals::{count_openings, find_opening};
+use crate::journals::{
+    count_openings, find_opening, find_unanswered, runs, takes_votes, widened_already,
+};
 use crate::records::copy_all;
 use crate::stations::Own;
 use crate::steps::{may_be_tallied, react};
@@ -124,6 +127,53 @@ fn ready_number(journal: &[Record], k: u32) -> Option<u32>
     None
 }
 
+fn turn_at(id: PeerId, number: u32, asked: bool, voting: bool, widened: bool) -> Option<PeerStep>
+    ensures { result ≡ due.turn_at id number asked voting widened }
+{
+    if asked {
+        Some(PeerStep::GiveUp { peer: id, number })
+    } else if !voting {
+        None
+    } else if widened {
+        Some(PeerStep::Shut { peer: id, number })
+    } else {
+        Some(PeerStep::Widen { peer: id, number })
+    }
+}
+
+#[tactic(auto, unfolding(lks_law::specs::Due::turn_of))]
+fn turn_of(id: PeerId, journal: &[Record], number: u32) -> Option<PeerStep>
+    ensures { result ≡ due.turn_of id journal.now number }
+{
+    if !runs(journal, number) {
+        return None;
+    }
+    turn_at(
+        id,
+        number,
+        find_unanswered(journal, number).is_some(),
+        takes_votes(journal, number),
+        widened_already(journal, number),
+    )
+}
+
+#[tactic(auto, using(crate::proofs::Ready::range_more))]
+fn find_turn(id: PeerId, journal: &[Record], k: u32) -> Option<PeerStep>
+    requires { length journal.now ≤ most_records }
+    ensures { result ≡ slice_get (filter_map (due.turn_of id journal.now) (range_with_len 1 (openings journal.now))) k }
+{
+    let mut left = k;
+    for n in 0..count_openings(journal) as u32 {
+        if let Some(step) = turn_of(id, journal, n + 1) {
+            if left == 0 {
+                return Some(step);
+            }
+            left -= 1;
+        }
+    }
+    None
+}
+
 impl Peer {
     /// A peer of a good plan, with a journal of its own.
     pub fn begin(
@@ -188,6 +238,15 @@ impl Peer {
             peer: self.own.id,
             number,
         })
+    }
+
+    /// The `k`-th of the steps that the peer takes in its running polls when nothing else is due, counted from 0 by poll
+    /// number: a request is given up, else the outer circle is invited, else the poll is shut.
+    #[tactic(auto, unfolding(lks_law::specs::Due::turns_at))]
+    pub fn turn(&self, k: u32) -> Option<PeerStep>
+        ensures { result ≡ slice_get (turns_at self.now) k }
+    {
+        find_turn(self.own.id, &self.list, k)
     }
 
     /// Whether the peer's poll `number` has this peer in its inner circle.

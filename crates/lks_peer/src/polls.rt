@@ -2,10 +2,11 @@
 
 ghost use Rattle.std.specs.Prelude.{◌≡◌, true, not, find, IfOk, map};
 ghost use Rattle.lks_base.specs.Counted.{first_blocks};
-ghost use Rattle.lks_law.specs.Journal.{was_asked};
+ghost use Rattle.lks_law.specs.Journal.{vote_in, was_asked};
 ghost use Rattle.lks_law.specs.Polls.{votes, inner_votes, ballot_of, verdict_in, candidate, said_at, is_win, restores};
 ghost use Rattle.lks_law.specs.Reaction.{is_inquorate};
-ghost use Rattle.lks_peer.specs.Inner.{inner_vote_in, voter_in};
+ghost use Rattle.lks_law.specs.References.{outer_votes};
+ghost use Rattle.lks_peer.specs.Voters.{voter_in};
 ghost use Rattle.lks_peer.specs.Small.{are_small};
 
 use crate::copies::{copy_of, copy_with};
@@ -40,9 +41,9 @@ pub fn voters_of(alloc: Global, journal: &[Record], n: u32) -> Result<Vec<PeerId
     Ok(voters)
 }
 
-/// A copy of the vote that the record says came in, if it is of this poll and by an inner peer.
-fn as_inner_vote(r: &Record, n: u32, inner: &[u16]) -> Result<Option<Vote>, OutOfMemory>
-    ensures { IfOk result (λ v. v ≡ inner_vote_in n inner.now r.now) }
+/// A copy of the vote that the record says came in, if it is of this poll.
+fn as_vote(r: &Record, n: u32) -> Result<Option<Vote>, OutOfMemory>
+    ensures { IfOk result (λ v. v ≡ vote_in n r.now) }
 {
     match r {
         Record::VoteIn {
@@ -50,7 +51,7 @@ fn as_inner_vote(r: &Record, n: u32, inner: &[u16]) -> Result<Option<Vote>, OutO
             voter,
             hashes,
         } => {
-            if *number == n && has_member(inner, *voter) {
+            if *number == n {
                 let hashes = hashes.clone()?;
                 Ok(Some(Vote {
                     voter: *voter,
@@ -64,9 +65,23 @@ fn as_inner_vote(r: &Record, n: u32, inner: &[u16]) -> Result<Option<Vote>, OutO
     }
 }
 
-/// Copies of the votes by the poll's inner peers, in order.
-#[tactic(auto, unfolding(lks_law::specs::Polls::votes, lks_law::specs::Polls::inner_votes))]
-fn inner_votes_of(
+/// Copies of the votes in the poll, in order.
+#[tactic(auto, unfolding(lks_law::specs::Polls::votes))]
+fn votes_of(alloc: Global, journal: &[Record], n: u32) -> Result<Vec<Vote>, OutOfMemory>
+    ensures { IfOk result (λ v. v.items ≡ votes n journal.now) }
+{
+    let mut votes = Vec::new(alloc);
+    for r in journal {
+        if let Some(vote) = as_vote(r, n)? {
+            votes.push(vote)?;
+        }
+    }
+    Ok(votes)
+}
+
+/// Those by the poll's inner peers.
+#[tactic(auto, unfolding(lks_law::specs::Polls::inner_votes))]
+pub fn inner_votes_of(
     alloc: Global,
     journal: &[Record],
     n: u32,
@@ -74,12 +89,23 @@ fn inner_votes_of(
 ) -> Result<Vec<Vote>, OutOfMemory>
     ensures { IfOk result (λ v. v.items ≡ inner_votes n inner.now journal.now) }
 {
-    let mut votes = Vec::new(alloc);
-    for r in journal {
-        if let Some(vote) = as_inner_vote(r, n, inner)? {
-            votes.push(vote)?;
-        }
-    }
+    let mut votes = votes_of(alloc, journal, n)?;
+    votes.retain(|v| has_member(inner, v.voter));
+    Ok(votes)
+}
+
+/// Those by other peers.
+#[tactic(auto, unfolding(lks_law::specs::References::outer_votes))]
+pub fn outer_votes_of(
+    alloc: Global,
+    journal: &[Record],
+    n: u32,
+    inner: &[u16],
+) -> Result<Vec<Vote>, OutOfMemory>
+    ensures { IfOk result (λ v. v.items ≡ outer_votes n inner.now journal.now) }
+{
+    let mut votes = votes_of(alloc, journal, n)?;
+    votes.retain(|v| !has_member(inner, v.voter));
     Ok(votes)
 }
 
@@ -98,7 +124,7 @@ pub fn lacks_quorum(
     Ok(votes.as_slice().len() < poll_limits(&own.rules, opening).quorum as usize)
 }
 
-fn ballot(own: &Own, n: u32, opening: &Opening<'_>, count: u16) -> Ballot
+pub fn ballot(own: &Own, n: u32, opening: &Opening<'_>, count: u16) -> Ballot
     ensures { result ≡ ballot_of own.now n opening.now count }
 {
     Ballot {

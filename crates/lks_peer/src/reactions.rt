@@ -32,14 +32,21 @@ pub fn no_sends(alloc: Global) -> Seq<Outgoing>
     Seq::from_vec(Vec::new(alloc))
 }
 
+/// Messages and no record.
+pub fn telling(alloc: Global, sends: Seq<Outgoing>) -> Reaction
+    ensures { result ≡ record { records = []; sends = sends } }
+{
+    Reaction {
+        records: Seq::from_vec(Vec::new(alloc)),
+        sends,
+    }
+}
+
 /// One message and no record.
 pub fn sending(alloc: Global, outgoing: Outgoing) -> Result<Reaction, OutOfMemory>
     ensures { IfOk result (λ r. r ≡ record { records = []; sends = outgoing ∷ [] }) }
 {
     let mut sends = Vec::new(alloc);
     sends.push(outgoing)?;
-    Ok(Reaction {
-        records: Seq::from_vec(Vec::new(alloc)),
-        sends: Seq::from_vec(sends),
-    })
+    Ok(telling(alloc, Seq::from_vec(sends)))
 }

@@ -1,21 +1,23 @@
 //! What a peer adds to its journal and sends, one function for each step of its own.
 
 ghost use Rattle.std.specs.Prelude.{◌≡◌, ◌≤◌, ◌<◌, true, IfOk, length};
-ghost use Rattle.lks_law.specs.Polls.{inner_circle, verdict_in};
-ghost use Rattle.lks_law.specs.Reaction.{may_open, opened, on_open, shut, shut_inquorate, on_shut, may_tally, closed, asked, tallied, on_tally, reaction};
+ghost use Rattle.lks_law.specs.Polls.{verdict_in};
+ghost use Rattle.lks_law.specs.Reaction.{may_open, opened, on_open, widened, on_widen, shut, shut_inquorate, on_shut, may_tally, closed, asked, tallied, on_tally, reaction};
 ghost use Rattle.lks_peer.specs.Small.{are_small, most_records};
 
+use crate::audits::check_aus;
 use crate::deliveries::hear;
 use crate::journals::{
     Opening, audited_lately, audits, count_openings, count_running, current_limits, find_deposit,
-    find_opening, find_unanswered, runs, shut_already, takes_votes,
+    find_opening, find_unanswered, runs, shut_already, takes_votes, widened_already,
 };
 use crate::letters::{give_receipts, invite, write};
 use crate::polls::{find_candidate, judge, lacks_quorum};
 use crate::reactions::{adding, no_reaction, no_sends};
+use crate::references::{sample_inner, sample_outer};
+use crate::reminders::{give_up, nudge};
 use crate::stations::Own;
-use lks_base::{AuId, Ids, Input, Message, OutOfMemory, Outcome, PeerId, Reaction, Record, Seq};
-use lks_draw::Draws;
+use lks_base::{AuId, Input, Message, OutOfMemory, Outcome, PeerId, Reaction, Record, Seq};
 use lks_hash::{Steps, nonce_of};
 use lks_tally::Verdict;
 use std::alloc::Global;
@@ -23,9 +25,6 @@ use std::sync::ledger::Ledger;
 
 /// The most polls of a peer that run at once.
 const MOST_POLLS: usize = 8;
-
-/// The label of the draws of inner circles.
-const INNER_CIRCLE: u8 = 1;
 
 #[tactic(auto, unfolding(lks_law::specs::Reaction::may_open))]
 fn may_be_opened(own: &Own, journal: &[Record], tick: u32, au: AuId) -> bool
@@ -37,33 +36,19 @@ fn may_be_opened(own: &Own, journal: &[Record], tick: u32, au: AuId) -> bool
         && !audited_lately(journal, au, tick, own.rules.pace)
 }
 
-/// The inner circle of a poll. A reference list that no plan has counts as one that is refused memory.
-#[tactic(auto, unfolding(lks_law::specs::Polls::inner_circle))]
-fn sample_inner(alloc: Global, own: &Own, number: u32) -> Result<Ids, OutOfMemory>
-    ensures { IfOk result (λ inner. inner ≡ inner_circle own.now number) }
-{
-    let refs = own.refs.as_slice();
-    if refs.len() > u32::MAX as usize {
-        return Err(OutOfMemory);
-    }
-    let mut draws = Draws::new(&own.seed, INNER_CIRCLE, number);
-    match draws.pick(alloc, refs, own.rules.inner as usize) {
-        Ok(members) => Ok(Seq::from_vec(members)),
-        Err(_) => Err(OutOfMemory),
-    }
-}
-
-fn open_as(
+fn open_as<L: Ledger>(
     alloc: Global,
     own: &Own,
     journal: &[Record],
     tick: u32,
     au: AuId,
     number: u32,
+    steps: &mut Steps<L>,
 ) -> Result<Reaction, OutOfMemory>
+    requires { are_small journal.now ≡ true }
     ensures { IfOk result (λ r. r ≡ opened own.now journal.now tick au number) }
 {
-    let inner = sample_inner(alloc, own, number)?;
+    let inner = sample_inner(alloc, own, number, journal, steps)?;
     let sends = invite(alloc, number, au, inner.as_slice())?;
     let item = Record::PollOpened {
         number,
@@ -78,21 +63,55 @@ fn open_as(
 }
 
 #[tactic(auto, unfolding(lks_law::specs::Reaction::on_open))]
-fn open_poll(
+fn open_poll<L: Ledger>(
     alloc: Global,
     own: &Own,
     journal: &[Record],
     tick: u32,
     au: AuId,
+    steps: &mut Steps<L>,
 ) -> Result<Reaction, OutOfMemory>
-    requires { length journal.now ≤ most_records }
+    requires small { are_small journal.now ≡ true }
+    requires few { length journal.now ≤ most_records }
     ensures { IfOk result (λ r. r ≡ on_open own.now journal.now tick au) }
 {
     if !may_be_opened(own, journal, tick, au) {
         return Ok(no_reaction(alloc));
     }
     let number = count_openings(journal) as u32 + 1;
-    open_as(alloc, own, journal, tick, au, number)
+    open_as(alloc, own, journal, tick, au, number, steps)
+}
+
+fn widen_with(
+    alloc: Global,
+    own: &Own,
+    journal: &[Record],
+    number: u32,
+    opening: &Opening<'_>,
+) -> Result<Reaction, OutOfMemory>
+    ensures { IfOk result (λ r. r ≡ widened own.now journal.now number opening.now) }
+{
+    let outer = sample_outer(alloc, own, number, opening, journal)?;
+    let sends = invite(alloc, number, opening.au, outer.as_slice())?;
+    adding(alloc, Record::OuterOpened { number, outer }, sends)
+}
+
+#[tactic(auto, unfolding(lks_law::specs::Reaction::on_widen))]
+fn widen_poll(
+    alloc: Global,
+    own: &Own,
+    journal: &[Record],
+    number: u32,
+) -> Result<Reaction, OutOfMemory>
+    ensures { IfOk result (λ r. r ≡ on_widen own.now journal.now number) }
+{
+    if !(takes_votes(journal, number) && !widened_already(journal, number)) {
+        return Ok(no_reaction(alloc));
+    }
+    match find_opening(journal, number) {
+        Some(opening) => widen_with(alloc, own, journal, number, &opening),
+        None => Ok(no_reaction(alloc)),
+    }
 }
 
 #[tactic(auto, unfolding(lks_law::specs::Reaction::closed))]
@@ -268,9 +287,13 @@ pub fn react<L: Ledger>(
     ensures { IfOk result (λ r. r ≡ reaction own.now journal.now tick input.now) }
 {
     match input {
-        Input::OpenPoll { au } => open_poll(alloc, own, journal, tick, *au),
+        Input::OpenPoll { au } => open_poll(alloc, own, journal, tick, *au, steps),
+        Input::Widen { number } => widen_poll(alloc, own, journal, *number),
         Input::Shut { number } => shut_poll(alloc, own, journal, tick, *number),
         Input::Tally { number } => tally_poll(alloc, own, journal, tick, *number, steps),
+        Input::Nudge { number } => nudge(alloc, journal, *number),
+        Input::GiveUp { number } => give_up(alloc, journal, *number),
+        Input::Check => check_aus(alloc, own, journal, tick),
         Input::Got {
             from,
             message,

@@ -16,13 +16,15 @@ use Rattle.lks_script.specs.declared.drafts.Draft.TheVariants.{Blank, Titled, Ru
 use Rattle.lks_script.specs.declared.drafts.Part.{Part}
 use Rattle.lks_script.specs.declared.drafts.Part.TheVariants as part
 use Rattle.lks_script.specs.declared.faults.ScriptFault.{ScriptFault}
+use Rattle.lks_script.specs.declared.plan_lines.ListKind.{ListKind}
+use Rattle.lks_script.specs.declared.plan_lines.ListKind.TheVariants.{Refs, Friends}
 use Rattle.lks_script.specs.declared.steps.Script.{Script}
 use Rattle.lks_script.specs.declared.steps.Step.{Step}
 use Rattle.lks_script.specs.Numbers.{◌>>=◌}
 use Rattle.lks_script.specs.Words.{parts, id_in, each_in, blocks_in}
 use Rattle.lks_script.specs.StepRules.{is_step_of, are_steps_of}
-use Rattle.lks_script.specs.PlanLines.{peer_in, some_honest, with_peers, checked, plan_with_peer, lacks_refs, may_hold, with_refs, with_copy, changed, is_list, refs_given, plan_with_refs, copy_given, plan_with_copy, rules_in, are_good, au_in, may_add_au}
-use Rattle.lks_script.specs.StepLines.{step_in, may_follow, steps_with}
+use Rattle.lks_script.specs.PlanLines.{peer_in, some_honest, with_peers, checked, plan_with_peer, lacks_list, may_hold, with_list, with_copy, changed, is_list, list_given, plan_with_list, copy_given, plan_with_copy, rules_in, are_good, au_in, may_add_au}
+use Rattle.lks_script.specs.StepLines.{step_in, steps_with}
 use Rattle.lks_script.specs.Grammar.{title_line, numbers_line, rules_line, begun, au_line, peer_line, ruled_line, in_peers, in_steps, later_line, declares_peer, planned_line, line_in, ended, line_number, end_in, lines_in, script_of, Answers}
 
 -- ---- steps that found something
@@ -69,14 +71,14 @@ given_good plan p found e =
     let a = bind_some found (λ peers. checked (with_peers plan peers)) p e in
     checked_good (with_peers plan a.0) p a.2
 
-refs_good : (plan p : Plan) (words : List (List ℕ)) → plan_with_refs plan words ≡ Some p → plan_fault p ≡ None
-unfolding plan_with_refs refs_given
-refs_good plan p [] e = absurd cc
-refs_good plan p (id ∷ words) e =
-    let a = bind_some (id_in id) (λ n. each_in id_in words >>= λ refs. cond (is_list plan.rules.inner refs) (refs_given plan n refs) None) p e in
-    let b = bind_some (each_in id_in words) (λ refs. cond (is_list plan.rules.inner refs) (refs_given plan a.0 refs) None) p a.2 in
-    let c = if_some (is_list plan.rules.inner b.0) (refs_given plan a.0 b.0) p b.2 in
-    given_good plan p (changed (lacks_refs a.0) (λ peer. with_refs peer b.0) plan.peers) c.1
+list_good : (kind : ListKind) (plan p : Plan) (words : List (List ℕ)) → plan_with_list kind plan words ≡ Some p → plan_fault p ≡ None
+unfolding plan_with_list list_given
+list_good kind plan p [] e = absurd cc
+list_good kind plan p (id ∷ words) e =
+    let a = bind_some (id_in id) (λ n. each_in id_in words >>= λ ids. cond (is_list ids) (list_given kind plan n ids) None) p e in
+    let b = bind_some (each_in id_in words) (λ ids. cond (is_list ids) (list_given kind plan a.0 ids) None) p a.2 in
+    let c = if_some (is_list b.0) (list_given kind plan a.0 b.0) p b.2 in
+    given_good plan p (changed (lacks_list kind a.0) (λ peer. with_list kind peer b.0) plan.peers) c.1
 
 copy_good : (plan p : Plan) (words : List (List ℕ)) → plan_with_copy plan words ≡ Some p → plan_fault p ≡ None
 unfolding plan_with_copy copy_given
@@ -95,10 +97,9 @@ copy_good plan p (id ∷ au ∷ blocks ∷ more ∷ words) e = absurd cc
 steps_good : (plan : Plan) (steps longer : List Step) (key : List ℕ) (more : List (List ℕ)) → are_steps_of plan steps ≡ true → steps_with plan steps key more ≡ Some longer → are_steps_of plan longer ≡ true
 unfolding steps_with
 steps_good plan steps longer key more good e =
-    let a = bind_some (step_in key more) (λ step. cond (is_step_of plan step && may_follow steps step) (Some (steps ++ step ∷ [])) None) longer e in
-    let b = if_some (is_step_of plan a.0 && may_follow steps a.0) (Some (steps ++ a.0 ∷ [])) longer a.2 in
-    let c = and_parts (is_step_of plan a.0) (may_follow steps a.0) b.0 in
-    ap (are_steps_of plan) (sym (same_some (steps ++ a.0 ∷ []) longer b.1)) ∙ list_all-append (is_step_of plan) steps (a.0 ∷ []) ∙ rw (good, c.0) refl
+    let a = bind_some (step_in key more) (λ step. cond (is_step_of plan step) (Some (steps ++ step ∷ [])) None) longer e in
+    let b = if_some (is_step_of plan a.0) (Some (steps ++ a.0 ∷ [])) longer a.2 in
+    ap (are_steps_of plan) (sym (same_some (steps ++ a.0 ∷ []) longer b.1)) ∙ list_all-append (is_step_of plan) steps (a.0 ∷ []) ∙ rw (good, b.0) refl
 
 -- ---- the script so far
 
@@ -136,25 +137,39 @@ not_is : (b : Bool) → not b ≡ true → b ≡ false
 not_is true e = absurd cc
 not_is false e = refl
 
+-- a plan that a line of lists or copies gives has no steps yet
+given_sound : (at : Part) (plan : Plan) (steps : List Step) (named : Bool) (given : Option Plan) (draft : Draft) → IsSound at plan steps
+    → ((p : Plan) → given ≡ Some p → plan_fault p ≡ None) → not (in_steps at) && named ≡ true
+    → option_map (λ p. Planned part.Lists p steps) given ≡ Some draft → Sound draft
+given_sound at plan steps named given draft h good here e =
+    let a = map_some (λ p. Planned part.Lists p steps) given draft e in
+    let none = h.not_yet (not_is (in_steps at) (and_parts (not (in_steps at)) named here).0) in
+    along (Planned part.Lists a.0 steps) draft a.2 (without_steps part.Lists a.0 steps (good a.0 a.1) none)
+
+step_line_sound : (at : Part) (plan : Plan) (steps : List Step) (key : List ℕ) (more : List (List ℕ)) (draft : Draft) → IsSound at plan steps
+    → option_map (Planned part.Steps plan) (steps_with plan steps key more) ≡ Some draft → Sound draft
+step_line_sound at plan steps key more draft h e =
+    let a = map_some (Planned part.Steps plan) (steps_with plan steps key more) draft e in
+    along (Planned part.Steps plan a.0) draft a.2 (record { good = h.good; steps_of = steps_good plan steps a.0 key more h.steps_of a.1; not_yet = λ e. absurd cc })
+
 later_line_sound : (at : Part) (plan : Plan) (steps : List Step) (key : List ℕ) (more : List (List ℕ)) (draft : Draft) → IsSound at plan steps
     → later_line at plan steps key more ≡ Some draft → Sound draft
 unfolding later_line
 later_line_sound at plan steps key more draft h e =
-    elim (if_else (not (in_steps at) && bytes_eq key (codes "refs")) (option_map (λ p. Planned part.Lists p steps) (plan_with_refs plan more))
-    (cond (not (in_steps at) && bytes_eq key (codes "copy")) (option_map (λ p. Planned part.Lists p steps) (plan_with_copy plan more)) (option_map (Planned part.Steps plan) (steps_with plan steps key more))) draft e) [
-      | inl t ↦
-          let a = map_some (λ p. Planned part.Lists p steps) (plan_with_refs plan more) draft t.1 in
-          let none = h.not_yet (not_is (in_steps at) (and_parts (not (in_steps at)) (bytes_eq key (codes "refs")) t.0).0) in
-          along (Planned part.Lists a.0 steps) draft a.2 (without_steps part.Lists a.0 steps (refs_good plan a.0 more a.1) none)
+    let listed : Option Plan → Option Draft = λ given. option_map (λ p. Planned part.Lists p steps) given in
+    let stepped = option_map (Planned part.Steps plan) (steps_with plan steps key more) in
+    let copied = cond (not (in_steps at) && bytes_eq key (codes "copy")) (listed (plan_with_copy plan more)) stepped in
+    let befriended = cond (not (in_steps at) && bytes_eq key (codes "friends")) (listed (plan_with_list Friends plan more)) copied in
+    elim (if_else (not (in_steps at) && bytes_eq key (codes "refs")) (listed (plan_with_list Refs plan more)) befriended draft e) [
+      | inl t ↦ given_sound at plan steps (bytes_eq key (codes "refs")) (plan_with_list Refs plan more) draft h (λ p. list_good Refs plan p more) t.0 t.1
       | inr f ↦
-          elim (if_else (not (in_steps at) && bytes_eq key (codes "copy")) (option_map (λ p. Planned part.Lists p steps) (plan_with_copy plan more)) (option_map (Planned part.Steps plan) (steps_with plan steps key more)) draft f.1) [
-            | inl t ↦
-                let a = map_some (λ p. Planned part.Lists p steps) (plan_with_copy plan more) draft t.1 in
-                let none = h.not_yet (not_is (in_steps at) (and_parts (not (in_steps at)) (bytes_eq key (codes "copy")) t.0).0) in
-                along (Planned part.Lists a.0 steps) draft a.2 (without_steps part.Lists a.0 steps (copy_good plan a.0 more a.1) none)
+          elim (if_else (not (in_steps at) && bytes_eq key (codes "friends")) (listed (plan_with_list Friends plan more)) copied draft f.1) [
+            | inl t ↦ given_sound at plan steps (bytes_eq key (codes "friends")) (plan_with_list Friends plan more) draft h (λ p. list_good Friends plan p more) t.0 t.1
             | inr g ↦
-                let a = map_some (Planned part.Steps plan) (steps_with plan steps key more) draft g.1 in
-                along (Planned part.Steps plan a.0) draft a.2 (record { good = h.good; steps_of = steps_good plan steps a.0 key more h.steps_of a.1; not_yet = λ e. absurd cc })
+                elim (if_else (not (in_steps at) && bytes_eq key (codes "copy")) (listed (plan_with_copy plan more)) stepped draft g.1) [
+                  | inl t ↦ given_sound at plan steps (bytes_eq key (codes "copy")) (plan_with_copy plan more) draft h (λ p. copy_good plan p more) t.0 t.1
+                  | inr s ↦ step_line_sound at plan steps key more draft h s.1
+                ]
           ]
     ]
 

@@ -11,11 +11,12 @@ use Rattle.lks_script.specs.declared.drafts.Part.{Part}
 use Rattle.lks_script.specs.declared.drafts.Part.TheVariants as part
 use Rattle.lks_script.specs.declared.faults.ScriptFault.{ScriptFault}
 use Rattle.lks_script.specs.declared.faults.ScriptFault.TheVariants.{BadLine, Memory}
+use Rattle.lks_script.specs.declared.plan_lines.ListKind.TheVariants.{Refs, Friends}
 use Rattle.lks_script.specs.declared.steps.Script.{Script}
 use Rattle.lks_script.specs.declared.steps.Step.{Step}
 use Rattle.lks_script.specs.Numbers.{◌>>=◌}
 use Rattle.lks_script.specs.Words.{parts}
-use Rattle.lks_script.specs.PlanLines.{are_good, rules_in, au_in, may_add_au, some_honest, plan_with_peer, plan_with_refs, plan_with_copy}
+use Rattle.lks_script.specs.PlanLines.{are_good, rules_in, au_in, may_add_au, some_honest, plan_with_peer, plan_with_list, plan_with_copy}
 use Rattle.lks_script.specs.StepLines.{steps_with}
 
 -- lockss 1
@@ -61,10 +62,11 @@ abbrev pub in_steps : Part → Bool
 in_steps part.Steps = true
 in_steps _ = false
 
--- a reference list, a copy, or a step, in a plan with an honest peer
+-- a list, a copy, or a step, in a plan with an honest peer
 unfoldable pub later_line : Part → Plan → List Step → List ℕ → List (List ℕ) → Option Draft
 later_line at plan steps key more =
-    if not (in_steps at) && bytes_eq key (codes "refs") then option_map (λ p. Planned part.Lists p steps) (plan_with_refs plan more)
+    if not (in_steps at) && bytes_eq key (codes "refs") then option_map (λ p. Planned part.Lists p steps) (plan_with_list Refs plan more)
+    else if not (in_steps at) && bytes_eq key (codes "friends") then option_map (λ p. Planned part.Lists p steps) (plan_with_list Friends plan more)
     else if not (in_steps at) && bytes_eq key (codes "copy") then option_map (λ p. Planned part.Lists p steps) (plan_with_copy plan more)
     else option_map (Planned part.Steps plan) (steps_with plan steps key more)
 

@@ -1,5 +1,5 @@
--- Lines that say the plan: rules, AUs, peers, reference lists and copies.
-use Rattle.std.specs.Prelude.{ℕ, ◌==◌, Bool, not, ◌&&◌, ◌||◌, nat_lt, if◌then◌else◌, List, [], ◌∷◌, ◌++◌, length, codes, Option, Some, None, is_none, slice_get}
+-- Lines that say the plan: rules, AUs, peers, lists and copies.
+use Rattle.std.specs.Prelude.{ℕ, ◌==◌, Bool, not, ◌&&◌, ◌||◌, nat_le, nat_lt, if◌then◌else◌, List, [], ◌∷◌, ◌++◌, length, codes, Option, Some, None, is_none, slice_get}
 use Rattle.std.specs.List.{list_any, position, slice_set}
 use Rattle.std.specs.Str.{bytes_eq}
 use Rattle.lks_base.specs.declared.names.HashKind.TheVariants.{Sha256}
@@ -9,6 +9,8 @@ use Rattle.lks_base.specs.declared.plans.PeerPlan.{PeerPlan}
 use Rattle.lks_base.specs.declared.plans.Plan.{Plan}
 use Rattle.lks_base.specs.declared.plans.Rules.{Rules}
 use Rattle.lks_base.specs.Checking.{is_within, are_bounded, are_ordered, has_au, plan_fault}
+use Rattle.lks_script.specs.declared.plan_lines.ListKind.{ListKind}
+use Rattle.lks_script.specs.declared.plan_lines.ListKind.TheVariants.{Refs, Friends}
 use Rattle.lks_script.specs.Numbers.{◌>>=◌, number_in}
 use Rattle.lks_script.specs.Words.{each_in, id_in, seed_in, proof_in, blocks_in, kind_in}
 
@@ -78,16 +80,22 @@ plan_with_peer plan words = do
   peer ← peer_in words
   if peer.corrupt || not (some_honest plan.peers) then checked (with_peers plan (plan.peers ++ peer ∷ [])) else None
 
--- an honest peer of this number that has no reference list yet
-unfoldable pub lacks_refs : ℕ → PeerPlan → Bool
-lacks_refs id peer = peer.id == id && not peer.corrupt && length peer.refs == 0
+-- the reference list of a peer, or its friends
+unfoldable pub list_of : ListKind → PeerPlan → List ℕ
+list_of Refs p = p.refs
+list_of Friends p = p.friends
+
+-- an honest peer of this number that has no list of the kind yet
+unfoldable pub lacks_list : ListKind → ℕ → PeerPlan → Bool
+lacks_list kind id peer = peer.id == id && not peer.corrupt && length (list_of kind peer) == 0
 
 -- an honest peer of this number
 unfoldable pub may_hold : ℕ → PeerPlan → Bool
 may_hold id peer = peer.id == id && not peer.corrupt
 
-abbrev pub with_refs : PeerPlan → List ℕ → PeerPlan
-with_refs p refs = record { id = p.id; corrupt = p.corrupt; seed = p.seed; proof = p.proof; refs = refs; friends = p.friends; copies = p.copies; hash = p.hash }
+unfoldable pub with_list : ListKind → PeerPlan → List ℕ → PeerPlan
+with_list Refs p ids = record { id = p.id; corrupt = p.corrupt; seed = p.seed; proof = p.proof; refs = ids; friends = p.friends; copies = p.copies; hash = p.hash }
+with_list Friends p ids = record { id = p.id; corrupt = p.corrupt; seed = p.seed; proof = p.proof; refs = p.refs; friends = ids; copies = p.copies; hash = p.hash }
 
 abbrev pub with_copy : PeerPlan → Holding → PeerPlan
 with_copy p copy = record { id = p.id; corrupt = p.corrupt; seed = p.seed; proof = p.proof; refs = p.refs; friends = p.friends; copies = p.copies ++ copy ∷ []; hash = p.hash }
@@ -99,23 +107,23 @@ changed test change peers = do
   peer ← slice_get peers at
   Some (slice_set peers at (change peer))
 
--- so many peers as a poll samples, at most
-unfoldable pub is_list : ℕ → List ℕ → Bool
-is_list inner refs = is_within 1 inner (length refs)
+-- one peer or more
+unfoldable pub is_list : List ℕ → Bool
+is_list ids = nat_le 1 (length ids)
 
--- the plan with the reference list of one honest peer
-unfoldable pub refs_given : Plan → ℕ → List ℕ → Option Plan
-refs_given plan p refs = do
-  peers ← changed (lacks_refs p) (λ peer. with_refs peer refs) plan.peers
+-- the plan with a list of one honest peer
+unfoldable pub list_given : ListKind → Plan → ℕ → List ℕ → Option Plan
+list_given kind plan p ids = do
+  peers ← changed (lacks_list kind p) (λ peer. with_list kind peer ids) plan.peers
   checked (with_peers plan peers)
 
--- refs P Q ...
-unfoldable pub plan_with_refs : Plan → List (List ℕ) → Option Plan
-plan_with_refs plan (id ∷ words) = do
+-- refs P Q ..., friends P Q ...
+unfoldable pub plan_with_list : ListKind → Plan → List (List ℕ) → Option Plan
+plan_with_list kind plan (id ∷ words) = do
   p ← id_in id
-  refs ← each_in id_in words
-  if is_list plan.rules.inner refs then refs_given plan p refs else None
-plan_with_refs plan _ = None
+  ids ← each_in id_in words
+  if is_list ids then list_given kind plan p ids else None
+plan_with_list kind plan _ = None
 
 -- the plan with a copy more of one honest peer
 unfoldable pub copy_given : Plan → ℕ → Holding → Option Plan

@@ -1,12 +1,12 @@
 -- Lines that say a step.
-use Rattle.std.specs.Prelude.{ℕ, Bool, true, false, not, ◌&&◌, if◌then◌else◌, List, [], ◌∷◌, ◌++◌, codes, Option, Some, None}
-use Rattle.std.specs.List.{list_any}
+use Rattle.std.specs.Prelude.{ℕ, if◌then◌else◌, List, [], ◌∷◌, ◌++◌, codes, Option, Some, None}
 use Rattle.std.specs.Str.{bytes_eq}
+use Rattle.lks_base.specs.declared.events.PeerStep.{PeerStep}
 use Rattle.lks_base.specs.declared.events.PeerStep.TheVariants as peers
 use Rattle.lks_base.specs.declared.plans.Plan.{Plan}
 use Rattle.lks_script.specs.declared.steps.Step.{Step}
-use Rattle.lks_script.specs.declared.steps.Step.TheVariants.{Peer, Settle, Forge, SayProof, SayRequest, SayReceipt, SayChallenge, SayNominate, SayVote, SayRepair}
-use Rattle.lks_script.specs.Numbers.{◌>>=◌}
+use Rattle.lks_script.specs.declared.steps.Step.TheVariants.{Peer, Tick, Next, Lose, Again, Settle, Finish, Forge, SayProof, SayRequest, SayReceipt, SayChallenge, SayNominate, SayVote, SayRepair}
+use Rattle.lks_script.specs.Numbers.{◌>>=◌, number_in}
 use Rattle.lks_script.specs.Words.{each_in, id_in, poll_in, index_in, answer_in, block_in, blocks_in, bytes_in}
 use Rattle.lks_script.specs.StepRules.{is_step_of}
 
@@ -18,18 +18,81 @@ open_in (peer ∷ au ∷ []) = do
   Some (Peer (peers.OpenPoll p a))
 open_in _ = None
 
--- shut P N
-unfoldable pub shut_in : List (List ℕ) → Option Step
-shut_in (peer ∷ number ∷ []) = do
+-- P N: a peer, and the number of a poll of its own
+unfoldable pub own_poll_in : List (List ℕ) → Option (ℕ × ℕ)
+own_poll_in (peer ∷ number ∷ []) = do
   p ← id_in peer
   n ← poll_in number
-  Some (Peer (peers.Shut p n))
-shut_in _ = None
+  Some (p, n)
+own_poll_in _ = None
+
+-- a step in it, by the word that names it
+unfoldable pub poll_step_in : List ℕ → ℕ → ℕ → Option PeerStep
+poll_step_in key p n =
+    if bytes_eq key (codes "outer") then Some (peers.Widen p n)
+    else if bytes_eq key (codes "shut") then Some (peers.Shut p n)
+    else if bytes_eq key (codes "tally") then Some (peers.Tally p n)
+    else if bytes_eq key (codes "nudge") then Some (peers.Nudge p n)
+    else if bytes_eq key (codes "give-up") then Some (peers.GiveUp p n)
+    else None
+
+-- check P
+unfoldable pub check_in : List (List ℕ) → Option Step
+check_in (peer ∷ []) = do
+  p ← id_in peer
+  Some (Peer (peers.Check p))
+check_in _ = None
+
+-- outer P N, shut P N, tally P N, nudge P N, give-up P N
+unfoldable pub in_own_poll : List ℕ → List (List ℕ) → Option Step
+in_own_poll key more = do
+  named ← own_poll_in more
+  step ← poll_step_in key named.0 named.1
+  Some (Peer step)
+
+-- a step of a peer's own
+unfoldable pub peer_step_in : List ℕ → List (List ℕ) → Option Step
+peer_step_in key more =
+    if bytes_eq key (codes "open") then open_in more
+    else if bytes_eq key (codes "check") then check_in more
+    else in_own_poll key more
+
+-- tick N
+unfoldable pub tick_in : List (List ℕ) → Option Step
+tick_in (ticks ∷ []) = do
+  by ← number_in 4294967295 ticks
+  Some (Tick by)
+tick_in _ = None
+
+-- next, next K
+unfoldable pub next_in : List (List ℕ) → Option Step
+next_in [] = Some (Next 1)
+next_in (count ∷ []) = do
+  times ← number_in 65535 count
+  Some (Next times)
+next_in _ = None
+
+-- lose
+unfoldable pub lose_in : List (List ℕ) → Option Step
+lose_in [] = Some Lose
+lose_in _ = None
+
+-- again I
+unfoldable pub again_in : List (List ℕ) → Option Step
+again_in (envelope ∷ []) = do
+  i ← number_in 4294967295 envelope
+  Some (Again i)
+again_in _ = None
 
 -- settle
 unfoldable pub settle_in : List (List ℕ) → Option Step
 settle_in [] = Some Settle
 settle_in _ = None
+
+-- finish
+unfoldable pub finish_in : List (List ℕ) → Option Step
+finish_in [] = Some Finish
+finish_in _ = None
 
 -- forge F T HEX
 unfoldable pub forge_in : List (List ℕ) → Option Step
@@ -112,27 +175,18 @@ say_in _ = None
 -- the step that a word and those behind it say
 unfoldable pub step_in : List ℕ → List (List ℕ) → Option Step
 step_in key more =
-    if bytes_eq key (codes "open") then open_in more
-    else if bytes_eq key (codes "shut") then shut_in more
+    if bytes_eq key (codes "tick") then tick_in more
+    else if bytes_eq key (codes "next") then next_in more
+    else if bytes_eq key (codes "lose") then lose_in more
+    else if bytes_eq key (codes "again") then again_in more
     else if bytes_eq key (codes "settle") then settle_in more
+    else if bytes_eq key (codes "finish") then finish_in more
     else if bytes_eq key (codes "forge") then forge_in more
     else if bytes_eq key (codes "say") then say_in more
-    else None
-
--- whether the step calls a poll
-unfoldable pub is_open : Step → Bool
-is_open (Peer (peers.OpenPoll p a)) = true
-is_open _ = false
-
-unfoldable pub some_open : List Step → Bool
-some_open steps = list_any is_open steps
-
--- a script calls at most one poll
-unfoldable pub may_follow : List Step → Step → Bool
-may_follow steps step = not (is_open step && some_open steps)
+    else peer_step_in key more
 
 -- the steps with one more
 unfoldable pub steps_with : Plan → List Step → List ℕ → List (List ℕ) → Option (List Step)
 steps_with plan steps key more = do
   step ← step_in key more
-  if is_step_of plan step && may_follow steps step then Some (steps ++ step ∷ []) else None
+  if is_step_of plan step then Some (steps ++ step ∷ []) else None

@@ -7,7 +7,7 @@ use Rattle.lks_base.specs.declared.plans.PeerPlan.{PeerPlan}
 use Rattle.lks_base.specs.declared.plans.Plan.{Plan}
 use Rattle.lks_base.specs.Checking.{is_within, has_au, has_peer, are_short}
 use Rattle.lks_script.specs.declared.steps.Step.{Step}
-use Rattle.lks_script.specs.declared.steps.Step.TheVariants.{Peer, Settle, Forge, SayProof, SayRequest, SayReceipt, SayChallenge, SayNominate, SayVote, SayRepair}
+use Rattle.lks_script.specs.declared.steps.Step.TheVariants.{Peer, Tick, Next, Lose, Again, Settle, Finish, Forge, SayProof, SayRequest, SayReceipt, SayChallenge, SayNominate, SayVote, SayRepair}
 
 -- a declared peer that is corrupt, or one that isn't
 unfoldable pub has_corrupt : List PeerPlan → ℕ → Bool
@@ -19,7 +19,12 @@ has_honest peers id = list_any (λ p. p.id == id && not p.corrupt) peers
 -- a step of a peer's own that a script can name
 unfoldable pub is_own_step : Plan → PeerStep → Bool
 is_own_step plan (peers.OpenPoll peer au) = has_honest plan.peers peer && has_au plan.aus au
+is_own_step plan (peers.Widen peer number) = has_honest plan.peers peer
 is_own_step plan (peers.Shut peer number) = has_honest plan.peers peer
+is_own_step plan (peers.Tally peer number) = has_honest plan.peers peer
+is_own_step plan (peers.Nudge peer number) = has_honest plan.peers peer
+is_own_step plan (peers.GiveUp peer number) = has_honest plan.peers peer
+is_own_step plan (peers.Check peer) = has_honest plan.peers peer
 is_own_step plan _ = false
 
 -- who sends to whom
@@ -53,7 +58,12 @@ is_nomination plan from to nominees = is_said plan from to && nat_le (length nom
 -- a step that a script with the plan can have
 unfoldable pub is_step_of : Plan → Step → Bool
 is_step_of plan (Peer step) = is_own_step plan step
+is_step_of plan (Tick by) = is_within 1 1000000 by
+is_step_of plan (Next times) = is_within 1 4096 times
+is_step_of plan Lose = true
+is_step_of plan (Again envelope) = true
 is_step_of plan Settle = true
+is_step_of plan Finish = true
 is_step_of plan (Forge from to bytes) = is_forgery plan from to bytes
 is_step_of plan (SayProof from to number) = is_said plan from to
 is_step_of plan (SayRequest from to number block) = is_request plan from to block

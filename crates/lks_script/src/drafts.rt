@@ -5,7 +5,9 @@ ghost use Rattle.lks_script.specs.Words.{Gives};
 ghost use Rattle.lks_script.specs.Grammar.{title_line, numbers_line, rules_line, au_line, peer_line, ruled_line, in_peers, in_steps, later_line, declares_peer, planned_line, line_in, ended};
 
 use crate::faults::Stop;
-use crate::plan_lines::{add_copy, add_peer, add_refs, any_honest, au, good, may_add, rules};
+use crate::plan_lines::{
+    ListKind, add_copy, add_list, add_peer, any_honest, au, good, may_add, rules,
+};
 use crate::step_lines::add_step;
 use crate::steps::{Script, Step};
 use lks_base::{AuPlan, Plan, Rules, Seq};
@@ -19,7 +21,7 @@ const TURNS: u32 = 4096;
 pub enum Part {
     /// Peers are declared.
     Peers,
-    /// Reference lists and copies are given.
+    /// Lists and copies are given.
     Lists,
     /// Steps are done.
     Steps,
@@ -163,7 +165,11 @@ fn read_later(
     ensures { Gives result (later_line part plan steps key.now (map (λ w. w.now) more.now)) }
 {
     if !part.steps() && key == b"refs".as_slice() {
-        let plan = add_refs(alloc, plan, more)?;
+        let plan = add_list(alloc, ListKind::Refs, plan, more)?;
+        let part = Part::Lists;
+        Ok(Draft::Planned { part, plan, steps })
+    } else if !part.steps() && key == b"friends".as_slice() {
+        let plan = add_list(alloc, ListKind::Friends, plan, more)?;
         let part = Part::Lists;
         Ok(Draft::Planned { part, plan, steps })
     } else if !part.steps() && key == b"copy".as_slice() {

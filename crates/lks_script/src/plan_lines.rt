@@ -1,9 +1,9 @@
-//! Lines that say the plan: rules, AUs, peers, reference lists and copies.
+//! Lines that say the plan: rules, AUs, peers, lists and copies.
 
-ghost use Rattle.std.specs.Prelude.{◌≡◌, ◌≤◌, map, IfOk};
+ghost use Rattle.std.specs.Prelude.{◌≡◌, ◌≤◌, map, length, IfOk};
 ghost use Rattle.std.specs.List.{position};
 ghost use Rattle.lks_script.specs.Words.{Gives, Shows};
-ghost use Rattle.lks_script.specs.PlanLines.{named, are_good, rules_in, au_in, may_add_au, peer_in, some_honest, checked, plan_with_peer, lacks_refs, may_hold, with_refs, with_copy, changed, is_list, refs_given, plan_with_refs, copy_given, plan_with_copy};
+ghost use Rattle.lks_script.specs.PlanLines.{named, are_good, rules_in, au_in, may_add_au, peer_in, some_honest, checked, plan_with_peer, list_of, lacks_list, may_hold, with_list, with_copy, changed, is_list, list_given, plan_with_list, copy_given, plan_with_copy};
 
 use crate::faults::Stop;
 use crate::numbers::number;
@@ -13,6 +13,15 @@ use lks_base::{
 };
 use std::alloc::Global;
 use std::mem;
+
+/// The lists of a peer.
+#[derive(Clone, Copy)]
+pub enum ListKind {
+    /// Its reference list.
+    Refs,
+    /// Its friends.
+    Friends,
+}
 
 /// A name, a number of at most so much, and the words behind them.
 #[tactic(auto, unfolding(crate::specs::PlanLines::named))]
@@ -166,34 +175,56 @@ pub fn add_peer(alloc: Global, plan: Plan, words: &[&[u8]]) -> Result<Plan, Stop
     })
 }
 
-#[tactic(auto, unfolding(crate::specs::PlanLines::lacks_refs))]
-fn may_list(id: u16, peer: &PeerPlan) -> bool
-    ensures { result ≡ lacks_refs id peer.now }
-{
-    peer.id == id && !peer.corrupt && peer.refs.as_slice().len() == 0
+impl ListKind {
+    #[tactic(auto, unfolding(crate::specs::PlanLines::list_of))]
+    fn count(self, peer: &PeerPlan) -> usize
+        ensures { result ≡ length (list_of self peer.now) }
+    {
+        match self {
+            ListKind::Refs => peer.refs.as_slice().len(),
+            ListKind::Friends => peer.friends.as_slice().len(),
+        }
+    }
+
+    #[tactic(auto, unfolding(crate::specs::PlanLines::with_list))]
+    fn set(self, peer: &mut PeerPlan, ids: Ids)
+        ensures { peer.new ≡ with_list self peer.old ids }
+    {
+        match self {
+            ListKind::Refs => peer.refs = ids,
+            ListKind::Friends => peer.friends = ids,
+        }
+    }
 }
 
-fn unlisted(peers: &[PeerPlan], id: u16) -> Option<usize>
-    ensures { result ≡ position (lacks_refs id) peers.now }
+#[tactic(auto, unfolding(crate::specs::PlanLines::lacks_list))]
+fn may_list(kind: ListKind, id: u16, peer: &PeerPlan) -> bool
+    ensures { result ≡ lacks_list kind id peer.now }
 {
-    peers.iter().position(|p| may_list(id, p))
+    peer.id == id && !peer.corrupt && kind.count(peer) == 0
 }
 
-fn give_refs(peers: &mut Vec<PeerPlan>, id: u16, refs: Ids) -> Result<(), Stop>
-    ensures { Shows (λ _. peers.new.items) result (changed (lacks_refs id) (λ p. with_refs p refs) peers.old.items) }
+fn unlisted(peers: &[PeerPlan], kind: ListKind, id: u16) -> Option<usize>
+    ensures { result ≡ position (lacks_list kind id) peers.now }
 {
-    match unlisted(peers, id) {
+    peers.iter().position(|p| may_list(kind, id, p))
+}
+
+fn give_list(peers: &mut Vec<PeerPlan>, kind: ListKind, id: u16, ids: Ids) -> Result<(), Stop>
+    ensures { Shows (λ _. peers.new.items) result (changed (lacks_list kind id) (λ p. with_list kind p ids) peers.old.items) }
+{
+    match unlisted(peers, kind, id) {
         Some(at) => {
-            peers[at].refs = refs;
+            kind.set(&mut peers[at], ids);
             Ok(())
         }
         None => Err(Stop::Bad),
     }
 }
 
-#[tactic(auto, unfolding(crate::specs::PlanLines::refs_given))]
-fn set_refs(plan: Plan, id: u16, refs: Ids) -> Result<Plan, Stop>
-    ensures { Gives result (refs_given plan id refs) }
+#[tactic(auto, unfolding(crate::specs::PlanLines::list_given))]
+fn set_list(kind: ListKind, plan: Plan, id: u16, ids: Ids) -> Result<Plan, Stop>
+    ensures { Gives result (list_given kind plan id ids) }
 {
     let Plan {
         rules,
@@ -202,7 +233,7 @@ fn set_refs(plan: Plan, id: u16, refs: Ids) -> Result<Plan, Stop>
         peers,
     } = plan;
     let mut peers = peers.into_vec();
-    give_refs(&mut peers, id, refs)?;
+    give_list(&mut peers, kind, id, ids)?;
     let peers = Seq::from_vec(peers);
     check(Plan {
         rules,
@@ -213,25 +244,24 @@ fn set_refs(plan: Plan, id: u16, refs: Ids) -> Result<Plan, Stop>
 }
 
 #[tactic(auto, unfolding(crate::specs::PlanLines::is_list))]
-fn fits(inner: u16, refs: &Ids) -> bool
-    ensures { result ≡ is_list inner refs.now }
+fn fits(ids: &Ids) -> bool
+    ensures { result ≡ is_list ids.now }
 {
-    let count = refs.as_slice().len();
-    1 <= count && count <= inner as usize
+    1 <= ids.as_slice().len()
 }
 
-/// The plan with the reference list of one peer.
-#[tactic(auto, unfolding(crate::specs::PlanLines::plan_with_refs))]
-pub fn add_refs(alloc: Global, plan: Plan, words: &[&[u8]]) -> Result<Plan, Stop>
-    ensures { Gives result (plan_with_refs plan (map (λ w. w.now) words.now)) }
+/// The plan with a list of one peer.
+#[tactic(auto, unfolding(crate::specs::PlanLines::plan_with_list))]
+pub fn add_list(alloc: Global, kind: ListKind, plan: Plan, words: &[&[u8]]) -> Result<Plan, Stop>
+    ensures { Gives result (plan_with_list kind plan (map (λ w. w.now) words.now)) }
 {
     let [name, members @ ..] = words else {
         return Err(Stop::Bad);
     };
     let name = id(name)?;
-    let refs = ids(alloc, members)?;
-    if fits(plan.rules.inner, &refs) {
-        set_refs(plan, name, refs)
+    let ids = ids(alloc, members)?;
+    if fits(&ids) {
+        set_list(kind, plan, name, ids)
     } else {
         Err(Stop::Bad)
     }

@@ -2,13 +2,13 @@
 
 ghost use Rattle.std.specs.Prelude.{◌≡◌, map};
 ghost use Rattle.lks_script.specs.Words.{Gives};
-ghost use Rattle.lks_script.specs.StepLines.{open_in, shut_in, settle_in, forge_in, step_in, is_open, some_open, may_follow, steps_with};
+ghost use Rattle.lks_script.specs.StepLines.{open_in, own_poll_in, poll_step_in, in_own_poll, check_in, peer_step_in, tick_in, next_in, lose_in, again_in, settle_in, finish_in, forge_in, step_in, steps_with};
 
 use crate::faults::Stop;
 use crate::say_lines::say;
 use crate::step_rules::step_of;
 use crate::steps::Step;
-use crate::words::{bytes, id, poll};
+use crate::words::{bytes, count, id, large, poll};
 use lks_base::{PeerStep, Plan, Seq};
 use std::alloc::Global;
 
@@ -24,16 +24,117 @@ fn open(words: &[&[u8]]) -> Result<Step, Stop>
     Ok(Step::Peer(PeerStep::OpenPoll { peer, au }))
 }
 
-#[tactic(auto, unfolding(crate::specs::StepLines::shut_in))]
-fn shut(words: &[&[u8]]) -> Result<Step, Stop>
-    ensures { Gives result (shut_in (map (λ w. w.now) words.now)) }
+/// A peer, and the number of a poll of its own.
+#[tactic(auto, unfolding(crate::specs::StepLines::own_poll_in))]
+fn own_poll(words: &[&[u8]]) -> Result<(u16, u32), Stop>
+    ensures { Gives result (own_poll_in (map (λ w. w.now) words.now)) }
 {
     let [peer, number] = words else {
         return Err(Stop::Bad);
     };
     let peer = id(peer)?;
     let number = poll(number)?;
-    Ok(Step::Peer(PeerStep::Shut { peer, number }))
+    Ok((peer, number))
+}
+
+/// A step in it, by the word that names it.
+#[tactic(auto, unfolding(crate::specs::StepLines::poll_step_in))]
+fn poll_step(key: &[u8], peer: u16, number: u32) -> Result<PeerStep, Stop>
+    ensures { Gives result (poll_step_in key.now peer number) }
+{
+    if key == b"outer".as_slice() {
+        Ok(PeerStep::Widen { peer, number })
+    } else if key == b"shut".as_slice() {
+        Ok(PeerStep::Shut { peer, number })
+    } else if key == b"tally".as_slice() {
+        Ok(PeerStep::Tally { peer, number })
+    } else if key == b"nudge".as_slice() {
+        Ok(PeerStep::Nudge { peer, number })
+    } else if key == b"give-up".as_slice() {
+        Ok(PeerStep::GiveUp { peer, number })
+    } else {
+        Err(Stop::Bad)
+    }
+}
+
+#[tactic(auto, unfolding(crate::specs::StepLines::in_own_poll))]
+fn step_in_own_poll(key: &[u8], more: &[&[u8]]) -> Result<Step, Stop>
+    ensures { Gives result (in_own_poll key.now (map (λ w. w.now) more.now)) }
+{
+    let (peer, number) = own_poll(more)?;
+    let step = poll_step(key, peer, number)?;
+    Ok(Step::Peer(step))
+}
+
+#[tactic(auto, unfolding(crate::specs::StepLines::check_in))]
+fn check(words: &[&[u8]]) -> Result<Step, Stop>
+    ensures { Gives result (check_in (map (λ w. w.now) words.now)) }
+{
+    let [peer] = words else {
+        return Err(Stop::Bad);
+    };
+    let peer = id(peer)?;
+    Ok(Step::Peer(PeerStep::Check { peer }))
+}
+
+/// A step of a peer's own.
+#[tactic(auto, unfolding(crate::specs::StepLines::peer_step_in))]
+fn peer_step(key: &[u8], more: &[&[u8]]) -> Result<Step, Stop>
+    ensures { Gives result (peer_step_in key.now (map (λ w. w.now) more.now)) }
+{
+    if key == b"open".as_slice() {
+        open(more)
+    } else if key == b"check".as_slice() {
+        check(more)
+    } else {
+        step_in_own_poll(key, more)
+    }
+}
+
+#[tactic(auto, unfolding(crate::specs::StepLines::tick_in))]
+fn tick(words: &[&[u8]]) -> Result<Step, Stop>
+    ensures { Gives result (tick_in (map (λ w. w.now) words.now)) }
+{
+    let [ticks] = words else {
+        return Err(Stop::Bad);
+    };
+    let by = large(ticks)?;
+    Ok(Step::Tick { by })
+}
+
+#[tactic(auto, unfolding(crate::specs::StepLines::next_in))]
+fn next(words: &[&[u8]]) -> Result<Step, Stop>
+    ensures { Gives result (next_in (map (λ w. w.now) words.now)) }
+{
+    match words {
+        [] => Ok(Step::Next { times: 1 }),
+        [times] => {
+            let times = count(times)?;
+            Ok(Step::Next { times })
+        }
+        _ => Err(Stop::Bad),
+    }
+}
+
+#[tactic(auto, unfolding(crate::specs::StepLines::lose_in))]
+fn lose(words: &[&[u8]]) -> Result<Step, Stop>
+    ensures { Gives result (lose_in (map (λ w. w.now) words.now)) }
+{
+    match words {
+        [] => Ok(Step::Lose),
+        _ => Err(Stop::Bad),
+    }
+}
+
+#[tactic(auto, unfolding(crate::specs::StepLines::again_in))]
+fn again(words: &[&[u8]]) -> Result<Step, Stop>
+    ensures { Gives result (again_in (map (λ w. w.now) words.now)) }
+{
+    let [envelope] = words else {
+        return Err(Stop::Bad);
+    };
+    let envelope = large(envelope)?;
+    Ok(Step::Again { envelope })
 }
 
 #[tactic(auto, unfolding(crate::specs::StepLines::settle_in))]
@@ -42,6 +143,16 @@ fn settle(words: &[&[u8]]) -> Result<Step, Stop>
 {
     match words {
         [] => Ok(Step::Settle),
+        _ => Err(Stop::Bad),
+    }
+}
+
+#[tactic(auto, unfolding(crate::specs::StepLines::finish_in))]
+fn finish(words: &[&[u8]]) -> Result<Step, Stop>
+    ensures { Gives result (finish_in (map (λ w. w.now) words.now)) }
+{
+    match words {
+        [] => Ok(Step::Finish),
         _ => Err(Stop::Bad),
     }
 }
@@ -64,40 +175,25 @@ fn forge(alloc: Global, words: &[&[u8]]) -> Result<Step, Stop>
 fn step(alloc: Global, key: &[u8], more: &[&[u8]]) -> Result<Step, Stop>
     ensures { Gives result (step_in key.now (map (λ w. w.now) more.now)) }
 {
-    if key == b"open".as_slice() {
-        open(more)
-    } else if key == b"shut".as_slice() {
-        shut(more)
+    if key == b"tick".as_slice() {
+        tick(more)
+    } else if key == b"next".as_slice() {
+        next(more)
+    } else if key == b"lose".as_slice() {
+        lose(more)
+    } else if key == b"again".as_slice() {
+        again(more)
     } else if key == b"settle".as_slice() {
         settle(more)
+    } else if key == b"finish".as_slice() {
+        finish(more)
     } else if key == b"forge".as_slice() {
         forge(alloc, more)
     } else if key == b"say".as_slice() {
         say(alloc, more)
     } else {
-        Err(Stop::Bad)
+        peer_step(key, more)
     }
-}
-
-#[tactic(auto, unfolding(crate::specs::StepLines::is_open))]
-fn opens(step: &Step) -> bool
-    ensures { result ≡ is_open step.now }
-{
-    matches!(step, Step::Peer(PeerStep::OpenPoll { .. }))
-}
-
-#[tactic(auto, unfolding(crate::specs::StepLines::some_open))]
-fn any_opens(steps: &[Step]) -> bool
-    ensures { result ≡ some_open steps.now }
-{
-    steps.iter().any(|s| opens(s))
-}
-
-#[tactic(auto, unfolding(crate::specs::StepLines::may_follow))]
-fn follows(steps: &[Step], step: &Step) -> bool
-    ensures { result ≡ may_follow steps.now step.now }
-{
-    !(opens(step) && any_opens(steps))
 }
 
 /// The steps with one more.
@@ -112,7 +208,7 @@ pub fn add_step(
     ensures { Gives result (steps_with plan.now steps key.now (map (λ w. w.now) more.now)) }
 {
     let step = step(alloc, key, more)?;
-    if !(step_of(plan, &step) && follows(steps.as_slice(), &step)) {
+    if !step_of(plan, &step) {
         return Err(Stop::Bad);
     }
     let mut steps = steps.into_vec();

@@ -28,7 +28,12 @@ fn own_step(plan: &Plan, step: &PeerStep) -> bool
         PeerStep::OpenPoll { peer, au } => {
             honest(plan.peers.as_slice(), *peer) && has_au(plan.aus.as_slice(), *au)
         }
-        PeerStep::Shut { peer, .. } => honest(plan.peers.as_slice(), *peer),
+        PeerStep::Widen { peer, .. }
+        | PeerStep::Shut { peer, .. }
+        | PeerStep::Tally { peer, .. }
+        | PeerStep::Nudge { peer, .. }
+        | PeerStep::GiveUp { peer, .. }
+        | PeerStep::Check { peer } => honest(plan.peers.as_slice(), *peer),
         _ => false,
     }
 }
@@ -96,7 +101,11 @@ pub fn step_of(plan: &Plan, step: &Step) -> bool
 {
     match step {
         Step::Peer(own) => own_step(plan, own),
-        Step::Settle => true,
+        Step::Tick { by } => 1 <= *by && *by <= 1_000_000,
+        Step::Next { times } => 1 <= *times && *times <= 4096,
+        Step::Lose => true,
+        Step::Again { .. } => true,
+        Step::Settle | Step::Finish => true,
         Step::Forge { from, to, bytes } => forgery(plan, *from, *to, bytes.as_slice()),
         Step::SayProof { from, to, .. } => said(plan, *from, *to),
         Step::SayRequest {

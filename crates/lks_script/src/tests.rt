@@ -21,6 +21,10 @@ const LISTS: &str = "refs 1 2 3 4\ncopy 1 1 41,42\n";
 const STEPS: &str =
     "open 1 1\nsay 2 vote 1 1 1 of 41,42\nsay 3 vote 1 1 1 of 41,42\nsay 4 vote 1 1 1 of 41,42\nsettle\nshut 1 1\nsettle\n";
 
+const MOVES: &str = "open 1 1\ntick 7\nnext\nnext 9\nlose\nagain 3\nouter 1 5\ncheck 1\nopen 1 1\n";
+
+const POLL_MOVES: &str = "tally 1 2\nnudge 1 3\ngive-up 1 4\nfinish\n";
+
 fn joined(alloc: Global, pieces: &[&str]) -> Result<Vec<u8>, Fail> {
     let mut bytes = Vec::new(alloc);
     for piece in pieces {
@@ -96,8 +100,64 @@ fn a_whole_script(rt: HostRuntime) -> Result<(), Fail> {
 }
 
 #[test]
+fn lists_and_steps(rt: HostRuntime) -> Result<(), Fail> {
+    let bytes = joined(
+        rt.alloc(),
+        &[
+            TITLE,
+            RULES,
+            AU,
+            PEERS,
+            "friends 1 4 2\nrefs 1 2 3 4\n",
+            MOVES,
+            POLL_MOVES,
+        ],
+    )?;
+    let script = read_script(rt.alloc(), &bytes)
+        .ok()
+        .ok_or("the bytes are a script")?;
+    let [first, ..] = script.plan.peers.as_slice() else {
+        return Err("four peers".into());
+    };
+    assert_eq!(rt; first.friends.as_slice(), [4, 2].as_slice());
+    assert_eq!(rt; first.refs.as_slice(), [2, 3, 4].as_slice());
+    let [
+        open,
+        tick,
+        once,
+        often,
+        lose,
+        again,
+        outer,
+        check,
+        reopen,
+        more @ ..,
+    ] = script.steps.as_slice()
+    else {
+        return Err("nine steps".into());
+    };
+    let [tally, nudge, give_up, finish] = more else {
+        return Err("and four".into());
+    };
+    assert!(rt; matches!(open, Step::Peer(PeerStep::OpenPoll { peer: 1, au: 1 })));
+    assert!(rt; matches!(tick, Step::Tick { by: 7 }));
+    assert!(rt; matches!(once, Step::Next { times: 1 }));
+    assert!(rt; matches!(often, Step::Next { times: 9 }));
+    assert!(rt; matches!(lose, Step::Lose));
+    assert!(rt; matches!(again, Step::Again { envelope: 3 }));
+    assert!(rt; matches!(outer, Step::Peer(PeerStep::Widen { peer: 1, number: 5 })));
+    assert!(rt; matches!(check, Step::Peer(PeerStep::Check { peer: 1 })));
+    assert!(rt; matches!(reopen, Step::Peer(PeerStep::OpenPoll { peer: 1, au: 1 })));
+    assert!(rt; matches!(tally, Step::Peer(PeerStep::Tally { peer: 1, number: 2 })));
+    assert!(rt; matches!(nudge, Step::Peer(PeerStep::Nudge { peer: 1, number: 3 })));
+    assert!(rt; matches!(give_up, Step::Peer(PeerStep::GiveUp { peer: 1, number: 4 })));
+    assert!(rt; matches!(finish, Step::Finish));
+    Ok(())
+}
+
+#[test]
 fn first_bad_lines(rt: HostRuntime) -> Result<(), Fail> {
-    let rows: [(&[&str], u32); 73] = [
+    let rows: [(&[&str], u32); 35] = [
         // ends
         (&[], 1),
         (&["lockss 1"], 1),
@@ -105,10 +165,6 @@ fn first_bad_lines(rt: HostRuntime) -> Result<(), Fail> {
         (&[TITLE, RULES], 3),
         (&[TITLE, RULES, AU], 4),
         (&[TITLE, RULES, AU, PEERS], 0),
-        (
-            &[TITLE, RULES, AU, PEERS, "refs 1 2 3 4\ncopy 1 1 41,42"],
-            9,
-        ),
         (&[TITLE, RULES, AU, "peer 2 corrupt 02 01\n"], 5),
         // forms
         (&["lockss 2\n"], 1),
@@ -158,156 +214,134 @@ fn first_bad_lines(rt: HostRuntime) -> Result<(), Fail> {
         ),
         (&[TITLE, RULES, PEERS], 3),
         // peers
-        (&[TITLE, RULES, AU, PEERS, "peer 5 honest 05 01\n"], 8),
-        (&[TITLE, RULES, AU, PEERS, "peer 4 corrupt 05 01\n"], 8),
-        (&[TITLE, RULES, AU, PEERS, "peer 5 corrupt - 01\n"], 8),
-        (&[TITLE, RULES, AU, PEERS, "peer 5 corrupt 0 01\n"], 8),
-        (
-            &[
-                TITLE,
-                RULES,
-                AU,
-                PEERS,
-                "peer 5 corrupt 000102030405060708090a0b0c0d0e0f101112131415161718191A1B1C1D1E1F -\n",
-            ],
-            0,
-        ),
-        (
-            &[
-                TITLE,
-                RULES,
-                AU,
-                PEERS,
-                "peer 5 corrupt 000102030405060708090a0b0c0d0e0f101112131415161718191A1B1C1D1E1F20 -\n",
-            ],
-            8,
-        ),
         (&[TITLE, RULES, AU, "peer 2 corrupt 02 01\nrefs 2 2\n"], 5),
         (
             &[TITLE, RULES, AU, PEERS, LISTS, "peer 5 corrupt 05 01\n"],
             10,
         ),
         (&[TITLE, RULES, AU, PEERS, AU], 8),
-        // lists
-        (&[TITLE, RULES, AU, PEERS, "refs 1 2 2\n"], 8),
-        (&[TITLE, RULES, AU, PEERS, "refs 1 1\n"], 8),
-        (&[TITLE, RULES, AU, PEERS, "refs 1 9\n"], 8),
-        (&[TITLE, RULES, AU, PEERS, "refs 1\n"], 8),
-        (&[TITLE, RULES, AU, PEERS, "refs 2 1\n"], 8),
-        (&[TITLE, RULES, AU, PEERS, "refs 1 2\nrefs 1 3\n"], 9),
         // copies
-        (&[TITLE, RULES, AU, PEERS, "copy 1 1 41\n"], 8),
-        (&[TITLE, RULES, AU, PEERS, "copy 1 1 41,-\n"], 8),
-        (&[TITLE, RULES, AU, PEERS, "copy 1 1 41,\n"], 8),
-        (&[TITLE, RULES, AU, PEERS, "copy 1 2 41,42\n"], 8),
-        (&[TITLE, RULES, AU, PEERS, "copy 2 1 41,42\n"], 8),
         (&[TITLE, RULES, AU, PEERS, LISTS, "copy 1 1 41,42\n"], 10),
         (&[TITLE, RULES, AU, PEERS, "settle\n", LISTS], 9),
-        // steps
-        (&[TITLE, RULES, AU, PEERS, STEPS, "open 1 1\n"], 15),
-        (&[TITLE, RULES, AU, PEERS, "open 2 1\n"], 8),
-        (&[TITLE, RULES, AU, PEERS, "open 1 2\n"], 8),
-        (
-            &[
-                TITLE,
-                RULES,
-                AU,
-                PEERS,
-                "shut 1 4294967295\nshut 1 4294967296\n",
-            ],
-            9,
-        ),
-        (&[TITLE, RULES, AU, PEERS, "say 1 vote 2 1 1 of 41\n"], 8),
-        (
-            &[
-                TITLE,
-                RULES,
-                AU,
-                PEERS,
-                "say 2 vote 3 1 1 of 41\nsay 2 vote 9 1 1 of 41\n",
-            ],
-            9,
-        ),
-        (&[TITLE, RULES, AU, PEERS, "say 2 vote 1 1 1 41\n"], 8),
-        (
-            &[
-                TITLE,
-                RULES,
-                AU,
-                PEERS,
-                "say 2 repair 1 1 511 43\nsay 2 repair 1 1 512 43\n",
-            ],
-            9,
-        ),
-        (&[TITLE, RULES, AU, PEERS, "say 2 repair 1 1 0 -\n"], 8),
-        (&[TITLE, RULES, AU, PEERS, "say 2 repair 1 1 0\n"], 8),
-        (
-            &[
-                TITLE,
-                RULES,
-                AU,
-                PEERS,
-                "forge 2 1 -\nforge 2 1 0101000000010001\n",
-            ],
-            9,
-        ),
-        (&[TITLE, RULES, AU, PEERS, "forge 2 1 0g\n"], 8),
-        (&[TITLE, RULES, AU, PEERS, "forge 2 9 00\n"], 8),
-        (
-            &[
-                TITLE,
-                RULES,
-                AU,
-                PEERS,
-                "say 2 challenge 1 1 yes\nsay 2 challenge 1 1 no\nsay 2 challenge 1 1 maybe\n",
-            ],
-            10,
-        ),
-        (
-            &[
-                TITLE,
-                RULES,
-                AU,
-                PEERS,
-                "say 2 nominate 1 1\nsay 2 nominate 1 1 1 2 3 4 5 6 7 65535\nsay 2 nominate 1 1 1 2 3 4 5 6 7 8 9\n",
-            ],
-            10,
-        ),
-        (&[TITLE, RULES, AU, PEERS, "say 2 nominate 1 1 65536\n"], 8),
-        (
-            &[
-                TITLE,
-                RULES,
-                AU,
-                PEERS,
-                "say 2 proof 1 7\nsay 2 proof 1 7 1\n",
-            ],
-            9,
-        ),
-        (
-            &[
-                TITLE,
-                RULES,
-                AU,
-                PEERS,
-                "say 2 request 1 7 511\nsay 2 request 1 7 512\n",
-            ],
-            9,
-        ),
-        (
-            &[
-                TITLE,
-                RULES,
-                AU,
-                PEERS,
-                "say 2 receipt 1 7\nsay 1 receipt 2 7\n",
-            ],
-            9,
-        ),
-        (&[TITLE, RULES, AU, PEERS, "say 2 poll 1 1 1\n"], 8),
     ];
     for (at, (pieces, line)) in rows.iter().enumerate() {
         assert_eq!(rt; line_of(rt.alloc(), pieces)?, *line, "row {at}");
+    }
+    Ok(())
+}
+
+#[test]
+fn first_bad_lines_behind_the_peers(rt: HostRuntime) -> Result<(), Fail> {
+    let rows: [(&str, u32); 82] = [
+        // ends
+        ("refs 1 2 3 4\ncopy 1 1 41,42", 9),
+        // peers
+        ("peer 5 honest 05 01\n", 8),
+        ("peer 4 corrupt 05 01\n", 8),
+        ("peer 5 corrupt - 01\n", 8),
+        ("peer 5 corrupt 0 01\n", 8),
+        (
+            "peer 5 corrupt 000102030405060708090a0b0c0d0e0f101112131415161718191A1B1C1D1E1F -\n",
+            0,
+        ),
+        (
+            "peer 5 corrupt 000102030405060708090a0b0c0d0e0f101112131415161718191A1B1C1D1E1F20 -\n",
+            8,
+        ),
+        // lists
+        ("refs 1 2 2\n", 8),
+        ("refs 1 1\n", 8),
+        ("refs 1 9\n", 8),
+        ("refs 1\n", 8),
+        ("refs 2 1\n", 8),
+        ("refs 1 2\nrefs 1 3\n", 9),
+        (
+            "peer 5 corrupt 05 01\npeer 6 corrupt 06 01\nrefs 1 2 3 4 5 6\n",
+            0,
+        ),
+        ("refs 1 2 3\nfriends 1 4\ncopy 1 1 41,42\n", 0),
+        ("copy 1 1 41,42\nfriends 1 4 3 2\nrefs 1 2\nopen 1 1\n", 0),
+        ("friends 1\n", 8),
+        ("friends\n", 8),
+        ("friends 1 2\nfriends 1 2\n", 9),
+        ("friends 1 2\nrefs 1 3\nrefs 1 3\n", 10),
+        ("friends 2 3\n", 8),
+        ("friends 1 1\n", 8),
+        ("friends 1 9\n", 8),
+        ("friends 1 2 2\n", 8),
+        ("friends 1 65536\n", 8),
+        ("friends 1 2\npeer 5 corrupt 05 01\n", 9),
+        ("lose\nfriends 1 2\n", 9),
+        // copies
+        ("copy 1 1 41\n", 8),
+        ("copy 1 1 41,-\n", 8),
+        ("copy 1 1 41,\n", 8),
+        ("copy 1 2 41,42\n", 8),
+        ("copy 2 1 41,42\n", 8),
+        // steps
+        ("open 1 1\nopen 1 1\n", 0),
+        ("open 2 1\n", 8),
+        ("open 1 2\n", 8),
+        ("shut 1 4294967295\nshut 1 4294967296\n", 9),
+        ("say 1 vote 2 1 1 of 41\n", 8),
+        ("say 2 vote 3 1 1 of 41\nsay 2 vote 9 1 1 of 41\n", 9),
+        ("say 2 vote 1 1 1 41\n", 8),
+        ("say 2 repair 1 1 511 43\nsay 2 repair 1 1 512 43\n", 9),
+        ("say 2 repair 1 1 0 -\n", 8),
+        ("say 2 repair 1 1 0\n", 8),
+        ("forge 2 1 -\nforge 2 1 0101000000010001\n", 9),
+        ("forge 2 1 0g\n", 8),
+        ("forge 2 9 00\n", 8),
+        (
+            "say 2 challenge 1 1 yes\nsay 2 challenge 1 1 no\nsay 2 challenge 1 1 maybe\n",
+            10,
+        ),
+        (
+            "say 2 nominate 1 1\nsay 2 nominate 1 1 1 2 3 4 5 6 7 65535\nsay 2 nominate 1 1 1 2 3 4 5 6 7 8 9\n",
+            10,
+        ),
+        ("say 2 nominate 1 1 65536\n", 8),
+        ("say 2 proof 1 7\nsay 2 proof 1 7 1\n", 9),
+        ("say 2 request 1 7 511\nsay 2 request 1 7 512\n", 9),
+        ("say 2 receipt 1 7\nsay 1 receipt 2 7\n", 9),
+        ("say 2 poll 1 1 1\n", 8),
+        ("tick 1\ntick 1000000\ntick 1000001\n", 10),
+        ("tick 0\n", 8),
+        ("tick 01\n", 8),
+        ("tick\n", 8),
+        ("tick 1 1\n", 8),
+        ("tick 1000000\n", 0),
+        ("next\nnext 1\nnext 4096\nnext 4097\n", 11),
+        ("next 4096\nnext\n", 0),
+        ("next 0\n", 8),
+        ("next 65536\n", 8),
+        ("next 1 1\n", 8),
+        ("lose\nlose 1\n", 9),
+        ("again 0\nagain 4294967295\n", 0),
+        ("again\n", 8),
+        ("again 4294967296\n", 8),
+        ("again 1 1\n", 8),
+        ("outer 1 0\nouter 1 4294967295\ncheck 1\n", 0),
+        ("outer 1 4294967296\n", 8),
+        ("tally 1 1\nnudge 1 1\ngive-up 1 1\nfinish\n", 0),
+        ("tally 2 1\n", 8),
+        ("nudge 1\n", 8),
+        ("give-up 1 1 1\n", 8),
+        ("give up 1 1\n", 8),
+        ("finish 1\n", 8),
+        ("outer 2 1\n", 8),
+        ("outer 1\n", 8),
+        ("check 2\n", 8),
+        ("check 9\n", 8),
+        ("check\n", 8),
+        ("check 1 1\n", 8),
+    ];
+    for (at, (text, line)) in rows.iter().enumerate() {
+        assert_eq!(rt;
+            line_of(rt.alloc(), &[TITLE, RULES, AU, PEERS, text])?,
+            *line,
+            "row {at}"
+        );
     }
     Ok(())
 }

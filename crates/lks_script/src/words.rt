@@ -20,7 +20,7 @@ pub fn id(word: &[u8]) -> Result<u16, Stop>
     }
 }
 
-/// A count of blocks.
+/// A count: of blocks, or of envelopes.
 pub fn count(word: &[u8]) -> Result<u16, Stop>
     ensures { Gives result (number_in 65535 word.now) }
 {
@@ -37,11 +37,18 @@ pub fn index(word: &[u8]) -> Result<u16, Stop>
     }
 }
 
+/// A number that may be large: of ticks, or of an envelope.
+pub fn large(word: &[u8]) -> Result<u32, Stop>
+    ensures { Gives result (number_in 4294967295 word.now) }
+{
+    number(u32::MAX, word).ok_or(Stop::Bad)
+}
+
 /// The number of a poll.
 pub fn poll(word: &[u8]) -> Result<u32, Stop>
     ensures { Gives result (poll_in word.now) }
 {
-    number(u32::MAX, word).ok_or(Stop::Bad)
+    large(word)
 }
 
 /// The parts between marks: the words of a line, the blocks of a copy.

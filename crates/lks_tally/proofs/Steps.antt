@@ -11,8 +11,8 @@ use Rattle.lks_hash.proofs.RunningLaws.{running_more}
 use Rattle.lks_tally.specs.declared.ballots.Ballot.{Ballot}
 use Rattle.lks_tally.specs.declared.ballots.Vote.{Vote}
 use Rattle.lks_tally.specs.declared.ballots.At.{At}
-use Rattle.lks_tally.specs.Counting.{key_for, agrees, for_at, voters_against, landslide, verdict_at, decided, first_from}
-use Rattle.lks_tally.specs.Heads.{heads, matching, others}
+use Rattle.lks_tally.specs.Counting.{key_for, agrees, for_at, voters_against, voters_for, landslide, verdict_at, decided, first_from}
+use Rattle.lks_tally.specs.Heads.{heads, matching, holders, others}
 
 -- the first blocks with the next
 pub take_next : (blocks : List (List ℕ)) (b : ℕ) (block : List ℕ) → slice_get blocks b ≡ Some block
@@ -59,6 +59,26 @@ pub others_linked : (q : Ballot) (votes : List Vote) (blocks : List (List ℕ)) 
 others_linked q votes blocks b end hashes keys end_is keys_are hashes_are =
     ap (others b votes) (hashes_are ∙ keys_are ∙ ap (λ bs. heads q bs votes) (ap (λ n. take n blocks) end_is ∙ take_min (b + 1) blocks))
     ∙ others_heads q votes blocks b
+
+-- a voter that is put first or left out
+keep : (is_for : Bool) (v : Vote) (vs : List Vote)
+    → cond is_for (v.voter ∷ []) [] ++ map (λ x. x.voter) vs ≡ map (λ x. x.voter) (cond is_for (v ∷ vs) vs)
+keep true v vs = refl
+keep false v vs = refl
+
+-- those of the votes with the hash are for
+holders_heads : (q : Ballot) (votes : List Vote) (blocks : List (List ℕ)) (b : ℕ)
+    → holders b votes (heads q (take (b + 1) blocks) votes) ≡ voters_for q votes blocks b
+holders_heads q [] blocks b = refl
+holders_heads q (v ∷ vs) blocks b =
+    ap (λ ids. cond (agrees q blocks b v) (v.voter ∷ []) [] ++ ids) (holders_heads q vs blocks b)
+    ∙ keep (agrees q blocks b v) v (filter (agrees q blocks b) vs)
+
+pub holders_linked : (q : Ballot) (votes : List Vote) (blocks : List (List ℕ)) (b end : ℕ) (hashes keys : List (List ℕ)) → end ≡ min (b + 1) (length blocks)
+    → keys ≡ heads q (take end blocks) votes → hashes ≡ keys → holders b votes hashes ≡ voters_for q votes blocks b
+holders_linked q votes blocks b end hashes keys end_is keys_are hashes_are =
+    ap (holders b votes) (hashes_are ∙ keys_are ∙ ap (λ bs. heads q bs votes) (ap (λ n. take n blocks) end_is ∙ take_min (b + 1) blocks))
+    ∙ holders_heads q votes blocks b
 
 pub mul_more : (a b : ℕ) → a * (b + 1) ≡ a * b + a
 mul_more a b = rw add-one (mul-suc a b)

@@ -37,6 +37,10 @@ against_at q votes blocks b = length votes - for_at q votes blocks b
 abbrev pub voters_against : Ballot → List Vote → List (List ℕ) → ℕ → List ℕ
 voters_against q votes blocks b = map (λ v. v.voter) (filter (λ v. not (agrees q blocks b v)) votes)
 
+-- those for them
+abbrev pub voters_for : Ballot → List Vote → List (List ℕ) → ℕ → List ℕ
+voters_for q votes blocks b = map (λ v. v.voter) (filter (agrees q blocks b) votes)
+
 -- a landslide has at most `minority` votes on the losing side
 abbrev pub landslide : ℕ → ℕ → ℕ → At
 landslide minority votes_for votes_against =

@@ -19,6 +19,12 @@ matching b [] hashes = 0
 matching b (v ∷ vs) [] = 0
 matching b (v ∷ vs) (h ∷ hs) = cond (is_hash (slice_get v.hashes b) h) 1 0 + matching b vs hs
 
+-- the voters of the votes that have it
+abbrev pub holders : ℕ → List Vote → List (List ℕ) → List ℕ
+holders b [] hashes = []
+holders b (v ∷ vs) [] = []
+holders b (v ∷ vs) (h ∷ hs) = cond (is_hash (slice_get v.hashes b) h) (v.voter ∷ []) [] ++ holders b vs hs
+
 -- the voters of the votes that have not
 abbrev pub others : ℕ → List Vote → List (List ℕ) → List ℕ
 others b [] hashes = []

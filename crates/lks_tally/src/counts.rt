@@ -6,7 +6,7 @@ ghost use Rattle.lks_hash.specs.Running.{linked};
 ghost use Rattle.lks_tally.specs.Counting.{key_for, is_hash};
 ghost use Rattle.lks_tally.specs.Counting as count;
 ghost use Rattle.lks_tally.specs.Keeping as keeping;
-ghost use Rattle.lks_tally.specs.Heads.{keys_of, matching, others};
+ghost use Rattle.lks_tally.specs.Heads.{keys_of, matching, holders, others};
 
 use crate::ballots::{At, Ballot, Vote};
 use lks_base::{Ids, OutOfMemory};
@@ -73,6 +73,25 @@ pub fn count_for(votes: &[Vote], heads: &[[u8; 32]], b: u16) -> usize
         }
     }
     n
+}
+
+/// The voters whose votes have their voter's running hash at block `b`.
+pub fn voters_of_holders(
+    alloc: Global,
+    votes: &[Vote],
+    heads: &[[u8; 32]],
+    b: u16,
+) -> Result<Ids, OutOfMemory>
+    requires { length votes.now ≡ length heads.now }
+    ensures { IfOk result (λ ids. ids ≡ holders b votes.now heads.now) }
+{
+    let mut ids = Vec::new(alloc);
+    for (i, vote) in votes.iter().enumerate() {
+        if has_hash(vote, b, &heads[i]) {
+            ids.push(vote.voter)?;
+        }
+    }
+    Ok(Ids::from_vec(ids))
 }
 
 /// The voters whose votes have another hash at block `b`, or none.

@@ -33,5 +33,5 @@ mod tests;
 mod trials;
 
 pub use ballots::{At, Ballot, Verdict, Vote};
-pub use plain::{against_of, at_of, verdict_of};
+pub use plain::{against_of, at_of, for_of, verdict_of};
 pub use tallies::{Tally, VoteFault};

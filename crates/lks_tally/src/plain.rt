@@ -1,7 +1,7 @@
 //! Verdicts over votes in a slice, hashed afresh at each call.
 
 ghost use Rattle.std.specs.Prelude.{◌≡◌, ◌+◌, ◌*◌, ◌≤◌, min, length, take, IfOk};
-ghost use Rattle.lks_tally.specs.Counting.{first_from, verdict_at, verdict_on, voters_against};
+ghost use Rattle.lks_tally.specs.Counting.{first_from, verdict_at, verdict_on, voters_against, voters_for};
 ghost use Rattle.lks_tally.specs.Heads.{heads};
 
 use crate::ballots::{At, Ballot, Verdict, Vote};
@@ -98,6 +98,24 @@ pub fn against_of<C: Contents, L: Ledger>(
     let end = end_of(b, copy.count());
     link_blocks(ballot, votes, copy, end, &mut keys, steps);
     counts::voters_of_others(alloc, votes, &keys, b)
+}
+
+/// The voters of these votes that are for a copy at block `b`, in order of their votes.
+pub fn for_of<C: Contents, L: Ledger>(
+    alloc: Global,
+    ballot: &Ballot,
+    votes: &[Vote],
+    copy: &C,
+    b: u16,
+    steps: &mut Steps<L>,
+) -> Result<Ids, OutOfMemory>
+    ensures voters { IfOk result (λ ids. ids ≡ voters_for ballot.now votes.now (C.blocks copy.now) b) }
+    ensures cost { steps.new ≤ steps.old + length votes.now * length (C.blocks copy.now) }
+{
+    let mut keys = counts::keys(alloc, ballot, votes)?;
+    let end = end_of(b, copy.count());
+    link_blocks(ballot, votes, copy, end, &mut keys, steps);
+    counts::voters_of_holders(alloc, votes, &keys, b)
 }
 
 /// What these votes say of a copy at block `b`.

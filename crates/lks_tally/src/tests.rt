@@ -236,7 +236,12 @@ fn published(alloc: Global) -> Result<Hashes, Fail> {
     Ok(Hashes::from_vec(hashes))
 }
 
-fn against_counted<L: Ledger>(blank: Blank, alloc: Global, copy: &Pair) -> Result<(Ids, At), Fail>
+/// Who is against the copy at its second block, who is for it, and what the votes say there.
+fn against_counted<L: Ledger>(
+    blank: Blank,
+    alloc: Global,
+    copy: &Pair,
+) -> Result<(Ids, Ids, At), Fail>
     requires { Opens blank L.name L.parts }
 {
     let mut steps = Steps::<L>::open(blank);
@@ -247,22 +252,25 @@ fn against_counted<L: Ledger>(blank: Blank, alloc: Global, copy: &Pair) -> Resul
     })?;
     let ballot = ballot_of(HashKind::Sha256, 2);
     let against = against_of(alloc, &ballot, &votes, copy, 1, &mut steps)?;
+    let agreeing = for_of(alloc, &ballot, &votes, copy, 1, &mut steps)?;
     let at = at_of(alloc, &ballot, 0, &votes, copy, 1, &mut steps)?;
-    Ok((against, at))
+    Ok((against, agreeing, at))
 }
 
-fn against_on(alloc: Global, copy: &Pair) -> Result<(Ids, At), Fail> {
+fn against_on(alloc: Global, copy: &Pair) -> Result<(Ids, Ids, At), Fail> {
     against_counted::<Brand>(Blank::new(1), alloc, copy)
 }
 
 #[test]
 fn published_vote(rt: HostRuntime) -> Result<(), Fail> {
     let alloc = rt.alloc();
-    let (own, at) = against_on(alloc, &Pair(*b"B"))?;
-    assert_eq!(rt; own.as_slice(), [].as_slice());
+    let (against, agreeing, at) = against_on(alloc, &Pair(*b"B"))?;
+    assert_eq!(rt; against.as_slice(), [].as_slice());
+    assert_eq!(rt; agreeing.as_slice(), [2].as_slice());
     assert_eq!(rt; at, At::Win);
-    let (other, at) = against_on(alloc, &Pair(*b"C"))?;
-    assert_eq!(rt; other.as_slice(), [2].as_slice());
+    let (against, agreeing, at) = against_on(alloc, &Pair(*b"C"))?;
+    assert_eq!(rt; against.as_slice(), [2].as_slice());
+    assert_eq!(rt; agreeing.as_slice(), [].as_slice());
     assert_eq!(rt; at, At::Loss);
 
     let q = ballot_of(HashKind::Sha256, 2);

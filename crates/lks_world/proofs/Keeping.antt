@@ -1,26 +1,24 @@
 -- How a history grows, up to its limit.
-use Rattle.std.proofs.Common.{◌≡◌, ◌-◌, ◌≤◌, ◌<◌, ◌∙◌, ap, sym, subst, ℕ, suc, Bool, List, [], ◌∷◌, ◌++◌, length, refl, arith}
-use Rattle.std.specs.Prelude.{Some, None, map, filter, slice_get}
+use Rattle.std.proofs.Common.{◌≡◌, ◌+◌, ◌-◌, ◌≤◌, ◌<◌, ◌∙◌, ap, sym, subst, ℕ, suc, Bool, List, [], ◌∷◌, ◌++◌, length, refl, arith}
+use Rattle.std.specs.Prelude.{Option, Some, None, map, filter, slice_get, min}
 use Rattle.std.specs.Option.{option_map_or}
 use Rattle.std.proofs.lemmas.Bool.{lt-ltb, le-ltb}
 use Rattle.std.proofs.lemmas.List.{length-map}
 use Rattle.lks_base.specs.declared.entries.Entry.{Entry}
 use Rattle.lks_base.specs.declared.events.Event.{Event}
-use Rattle.lks_base.specs.declared.events.Event.TheVariants.{Step}
-use Rattle.lks_base.specs.declared.events.PeerStep.{PeerStep}
 use Rattle.lks_base.specs.declared.plans.Plan.{Plan}
 use Rattle.lks_host.specs.Hosted.{StandsFor}
 use Rattle.lks_host.specs.declared.hosts.Host.{Host}
 use Rattle.lks_law.specs.Batches.{alone, batches_at}
-use Rattle.lks_law.specs.Due.{is_pending, pending as waiting, ready, first_of, next_to_settle}
+use Rattle.lks_law.specs.Due.{is_pending, pending as waiting}
 use Rattle.lks_law.specs.Entries.{entries}
 use Rattle.lks_law.specs.World.{Standing, world, start, standing_of, is_honest}
 use Rattle.lks_world.proofs.HostLaws.{journal_there}
 use Rattle.lks_world.specs.Begun.{HaveBegun}
 use Rattle.lks_world.specs.Hosts.{peers_of, AreReady, IsHostAt}
-use Rattle.lks_world.specs.Follows.{most_events, kept, settled_within, settled}
+use Rattle.lks_world.specs.Follows.{most_events, kept, done_within, done}
 use Rattle.lks_world.specs.declared.states.State.{State}
-use Rattle.lks_world.specs.States.{world_in, events_in, IsStateOf, Becomes}
+use Rattle.lks_world.specs.States.{events_in, IsStateOf, Becomes}
 
 kept_room : (history : List Event) (e : Event) → length history < 4096 → kept history e ≡ history ++ e ∷ []
 unfolding most_events
@@ -46,12 +44,14 @@ module _ {D : Type 0} (seen : D → List ℕ) (may_leave : D → List ℕ → Ty
   count_events : (s : State D) → length (events_in s) ≡ length s.history.items
   count_events s = length-map s.history.items (λ (e : Entry). e.event)
 
-  pub room_kept : (plan : Plan) (s t : State D) (e : Event) → length s.history.items < 4096 → Becomes seen may_leave fused plan (events_in s ++ e ∷ []) t → Becomes seen may_leave fused plan (kept (events_in s) e) t
+  pub room_kept : (plan : Plan) (s t : State D) (e : Event) → 0 < most_events - length s.history.items → Becomes seen may_leave fused plan (events_in s ++ e ∷ []) t → Becomes seen may_leave fused plan (kept (events_in s) e) t
+  unfolding most_events
   room_kept plan s t e room b =
-      record { state = b.state; events = b.events ∙ sym (kept_room (events_in s) e (omega (arith, count_events s))) }
+      record { state = b.state; events = b.events ∙ sym (kept_room (events_in s) e (omega (arith, room, count_events s))) }
 
-  pub full_kept : (plan : Plan) (s : State D) (e : Event) → 4096 ≤ length s.history.items → IsStateOf seen may_leave fused plan s → Becomes seen may_leave fused plan (kept (events_in s) e) s
-  full_kept plan s e full is = record { state = is; events = sym (kept_full (events_in s) e (omega (arith, count_events s))) }
+  pub full_kept : (plan : Plan) (s : State D) (e : Event) → most_events - length s.history.items ≤ 0 → IsStateOf seen may_leave fused plan s → Becomes seen may_leave fused plan (kept (events_in s) e) s
+  unfolding most_events
+  full_kept plan s e full is = record { state = is; events = sym (kept_full (events_in s) e (omega (arith, full, count_events s))) }
 
   -- the state with which a world begins
   pub begun : (plan : Plan) (s : State D) → peers_of s.hosts.items ≡ map (standing_of plan) (filter is_honest plan.peers) → s.bag.items ≡ [] → s.pending.items ≡ [] → s.history.items ≡ [] → s.tick ≡ 0
@@ -62,6 +62,7 @@ module _ {D : Type 0} (seen : D → List ℕ) (may_leave : D → List ℕ → Ty
         world = (λ i. record { peers = peers_of s.hosts.items; bag = bag i; tick = tick i }) ∙ begun_world plan (peers_of s.hosts.items) peers ∙ ap (world plan) (sym events);
         entries = history ∙ begun_entries plan ∙ ap (entries plan) (sym events);
         pending = pending ∙ begun_pending plan ∙ ap (waiting plan) (sym events);
+        clock = omega (arith, tick);
         fresh = λ i le. ap (λ h. is_pending h i) events;
         hosts = λ place h at.
             subst (λ (n : ℕ). IsHostAt seen may_leave fused (batches_at place plan (events_in s)) n h) (sym (ap length history))
@@ -84,46 +85,48 @@ module _ {D : Type 0} (seen : D → List ℕ) (may_leave : D → List ℕ → Ty
         unfused = begins.unfused;
       }
 
-  -- while there is room for an event, each host can take a step
-  pub can_step : (plan : Plan) (s : State D) → IsStateOf seen may_leave fused plan s → length s.history.items < 4096 → AreReady seen may_leave fused s.hosts.items
+  -- while there is room for an event, each host can take a step, and the clock can move on
+  pub can_step : (plan : Plan) (s : State D) → IsStateOf seen may_leave fused plan s → 0 < most_events - length s.history.items → AreReady seen may_leave fused s.hosts.items
+  unfolding most_events
   can_step plan s is room place h at =
       let host = is.hosts place h at in
       record { whole = host.whole; room = omega (arith, host.room, room); unfused = host.unfused; batches = batches_at place plan (events_in s); stands = host.stands }
 
-  -- Settling: what is left to do from this state is what was to be done from the first.
-  pub record Settles (plan : Plan) (first now : State D) (left : ℕ) : Type 0 where
+  pub can_tick : (plan : Plan) (s : State D) (by : ℕ) → IsStateOf seen may_leave fused plan s → 0 < most_events - length s.history.items → by ≤ 1000000 → s.tick + by ≤ 4294967295
+  unfolding most_events
+  can_tick plan s by is room few = omega (arith, is.clock, room, few)
+
+  -- Going on by a rule: what is left to do from this state is what was to be done from the first.
+  pub record Goes (next : Plan → List Event → Option Event) (times : ℕ) (plan : Plan) (first now : State D) (left : ℕ) : Type 0 where
     pub state : IsStateOf seen may_leave fused plan now
-    pub rest : settled_within left plan (events_in now) ≡ settled plan (events_in first)
+    pub rest : done_within next left plan (events_in now) ≡ done next times plan (events_in first)
 
-  next_is : (plan : Plan) (s : State D) → IsStateOf seen may_leave fused plan s → next_to_settle plan (events_in s) ≡ first_of (world_in s) s.pending.items (ready (world_in s))
-  unfolding next_to_settle
-  next_is plan s is = let w = sym is.world in let p = sym is.pending in λ i. first_of (w i) (p i) (ready (w i))
+  module _ (next : Plan → List Event → Option Event) (times : ℕ) (plan : Plan) where
+    pub goes_first : (s : State D) (left : ℕ) → IsStateOf seen may_leave fused plan s → left ≡ min times (most_events - length s.history.items) → Goes next times plan s s left
+    unfolding done
+    goes_first s left is e =
+        record { state = is; rest = ap (λ n. done_within next n plan (events_in s)) (e ∙ ap (λ n. min times (most_events - n)) (sym (count_events s))) }
 
-  pub settles_first : (plan : Plan) (s : State D) (left : ℕ) → IsStateOf seen may_leave fused plan s → left ≡ 4096 - length s.history.items → Settles plan s s left
-  unfolding settled most_events
-  settles_first plan s left is e =
-      record { state = is; rest = ap (λ n. settled_within n plan (events_in s)) (e ∙ ap (λ n. 4096 - n) (sym (count_events s))) }
+    pub goes_on : (first s t : State D) (left m : ℕ) (e : Event) → Goes next times plan first s left → left ≡ suc m → Some e ≡ next plan (events_in s) → Becomes seen may_leave fused plan (events_in s ++ e ∷ []) t → Goes next times plan first t m
+    goes_on first s t left m e so_far more is b =
+        record {
+          state = b.state;
+          rest =
+              ap (done_within next m plan) b.events
+              ∙ ap (λ o. option_map_or (λ d. done_within next m plan (events_in s ++ d ∷ [])) o (events_in s)) is
+              ∙ ap (λ n. done_within next n plan (events_in s)) (sym more)
+              ∙ so_far.rest;
+        }
 
-  pub settles_on : (plan : Plan) (first s t : State D) (left m : ℕ) (p : PeerStep) → Settles plan first s left → left ≡ suc m → Some (Step p) ≡ first_of (world_in s) s.pending.items (ready (world_in s)) → Becomes seen may_leave fused plan (events_in s ++ Step p ∷ []) t → Settles plan first t m
-  settles_on plan first s t left m p so_far e next b =
-      record {
-        state = b.state;
-        rest =
-            ap (settled_within m plan) b.events
-            ∙ ap (λ o. option_map_or (λ d. settled_within m plan (events_in s ++ d ∷ [])) o (events_in s)) (next ∙ sym (next_is plan s so_far.state))
-            ∙ ap (λ n. settled_within n plan (events_in s)) (sym e)
-            ∙ so_far.rest;
-      }
+    pub goes_none : (first s : State D) (left m : ℕ) → Goes next times plan first s left → left ≡ suc m → None ≡ next plan (events_in s) → Becomes seen may_leave fused plan (done next times plan (events_in first)) s
+    goes_none first s left m so_far more is =
+        record {
+          state = so_far.state;
+          events =
+              ap (λ o. option_map_or (λ d. done_within next m plan (events_in s ++ d ∷ [])) o (events_in s)) is
+              ∙ ap (λ n. done_within next n plan (events_in s)) (sym more) ∙ so_far.rest;
+        }
 
-  pub settles_none : (plan : Plan) (first s : State D) (left m : ℕ) → Settles plan first s left → left ≡ suc m → None ≡ first_of (world_in s) s.pending.items (ready (world_in s)) → Becomes seen may_leave fused plan (settled plan (events_in first)) s
-  settles_none plan first s left m so_far e next =
-      record {
-        state = so_far.state;
-        events =
-            ap (λ o. option_map_or (λ d. settled_within m plan (events_in s ++ d ∷ [])) o (events_in s)) (next ∙ sym (next_is plan s so_far.state))
-            ∙ ap (λ n. settled_within n plan (events_in s)) (sym e) ∙ so_far.rest;
-      }
-
-  pub settles_end : (plan : Plan) (first s : State D) (left : ℕ) → Settles plan first s left → left ≡ 0 → Becomes seen may_leave fused plan (settled plan (events_in first)) s
-  settles_end plan first s left so_far e =
-      record { state = so_far.state; events = ap (λ n. settled_within n plan (events_in s)) (sym e) ∙ so_far.rest }
+    pub goes_end : (first s : State D) (left : ℕ) → Goes next times plan first s left → left ≡ 0 → Becomes seen may_leave fused plan (done next times plan (events_in first)) s
+    goes_end first s left so_far e =
+        record { state = so_far.state; events = ap (λ n. done_within next n plan (events_in s)) (sym e) ∙ so_far.rest }

@@ -3,6 +3,7 @@ pub mod CountLaws
 pub mod DiskLaws
 mod HostLaws
 mod Keeping
+mod NextLaws
 mod OwnSteps
 mod PlaceLaws
 mod ReadyLaws

@@ -5,17 +5,17 @@ use Rattle.lks_world.proofs.HostLaws.{stayed, journal_there}
 use Rattle.lks_world.specs.Hosts.{HaveGoneOn, IsHostAt}
 use Rattle.std.specs.List.{range_with_len}
 use Rattle.std.proofs.lemmas.Bool.Decides.{nat_tests}
-use Rattle.std.proofs.lemmas.List.{length-map, map-append}
+use Rattle.std.proofs.lemmas.List.{length-map, map-append, append-nil}
 use Rattle.lks_base.specs.declared.entries.Entry.{Entry}
 use Rattle.lks_base.specs.declared.events.Event.{Event}
-use Rattle.lks_base.specs.declared.events.Event.TheVariants.{Step, Forge}
+use Rattle.lks_base.specs.declared.events.Event.TheVariants.{Step, Tick, Lose, Forge}
 use Rattle.lks_base.specs.declared.events.PeerStep.{PeerStep}
 use Rattle.lks_base.specs.declared.events.PeerStep.TheVariants.{Deliver}
 use Rattle.lks_base.specs.declared.plans.Plan.{Plan}
 use Rattle.lks_host.specs.Hosted.{StandsFor}
 use Rattle.lks_host.specs.declared.hosts.Host.{Host}
 use Rattle.lks_law.proofs.Batches.{batches_more}
-use Rattle.lks_law.proofs.Histories.{world_more, entries_more, pending_more, fresh_more, pass_true}
+use Rattle.lks_law.proofs.Histories.{world_more, entries_more, entry_event, pending_more, fresh_more, pass_true}
 use Rattle.lks_law.specs.Batches.{with_batch, journal_at, batches_at}
 use Rattle.lks_law.specs.Due.{takes_out, is_pending, pending}
 use Rattle.lks_law.specs.Entries.{entry_of, entries}
@@ -40,33 +40,48 @@ grown_by w p =
     length-append w.bag (sent w.tick w.peers (deed_of w.bag p))
     ∙ ap (λ n. length w.bag + n) (length-map (effect_of w.tick w.peers (deed_of w.bag p)).sends (sent_by (actor_of (deed_of w.bag p))))
 
-step_event : (w : World) (p : PeerStep) → (entry_of w (Step p)).event ≡ Step p
-unfolding entry_of
-step_event w p = refl
-
-forge_event : (w : World) (from to : ℕ) (bytes : List ℕ) → (entry_of w (Forge from to bytes)).event ≡ Forge from to bytes
-unfolding entry_of
-forge_event w from to bytes = refl
-
 grown_by_one : (w : World) (from to : ℕ) (bytes : List ℕ) → length (happens w (Forge from to bytes)).bag ≡ length w.bag + 1
 unfolding happens
 grown_by_one w from to bytes = length-append w.bag (record { from = from; to = to; bytes = bytes } ∷ [])
+
+same_tick : (w : World) (p : PeerStep) → (happens w (Step p)).tick ≡ w.tick
+unfolding happens after_step
+same_tick w p = refl
+
+no_tick : (w : World) (from to : ℕ) (bytes : List ℕ) → (happens w (Forge from to bytes)).tick ≡ w.tick
+unfolding happens
+no_tick w from to bytes = refl
+
+ticked : (w : World) (by : ℕ) → (happens w (Tick by)).tick ≡ w.tick + by
+unfolding happens
+ticked w by = refl
+
+same_bag : (w : World) (by : ℕ) → length (happens w (Tick by)).bag ≡ length w.bag
+unfolding happens
+same_bag w by = refl
+
+unchanged : (w : World) (envelope : ℕ) → happens w (Lose envelope) ≡ w
+unfolding happens
+unchanged w envelope = refl
 
 module _ {D : Type 0} (seen : D → List ℕ) (may_leave : D → List ℕ → Type 0) (fused : D → Bool) where
   -- an event that put k envelopes into the bag
   record Happened (s t : State D) (e : Event) (k : ℕ) : Type 0 where
     world : world_in t ≡ happens (world_in s) e
-    event : (entry_of (world_in s) e).event ≡ e
     history : t.history.items ≡ s.history.items ++ entry_of (world_in s) e ∷ []
     pending : t.pending.items ≡ filter (λ i. not (takes_out i e)) s.pending.items ++ range_with_len (length s.bag.items) k
     grown : length t.bag.items ≡ length s.bag.items + k
     untouched : (i : ℕ) → length s.bag.items ≤ i → takes_out i e ≡ false
+    clock : t.tick ≤ s.tick + 1000000
     on : HaveGoneOn seen may_leave fused s.hosts.items t.hosts.items
 
-  more_events : (s t : State D) (e : Event) → (entry_of (world_in s) e).event ≡ e → t.history.items ≡ s.history.items ++ entry_of (world_in s) e ∷ [] → events_in t ≡ events_in s ++ e ∷ []
-  more_events s t e event history =
+  more_events : (s t : State D) (e : Event) → t.history.items ≡ s.history.items ++ entry_of (world_in s) e ∷ [] → events_in t ≡ events_in s ++ e ∷ []
+  more_events s t e history =
       ap (map (λ (x : Entry). x.event)) history ∙ map-append (λ (x : Entry). x.event) s.history.items (entry_of (world_in s) e ∷ [])
-      ∙ ap (λ d. events_in s ++ d ∷ []) event
+      ∙ ap (λ d. events_in s ++ d ∷ []) (entry_event (world_in s) e)
+
+  one_more : (s t : State D) (e : Event) → t.history.items ≡ s.history.items ++ entry_of (world_in s) e ∷ [] → length t.history.items ≡ length s.history.items + 1
+  one_more s t e history = ap length history ∙ length-append s.history.items (entry_of (world_in s) e ∷ [])
 
   host_after : (plan : Plan) (s t : State D) (e : Event) {k : ℕ} → IsStateOf seen may_leave fused plan s → Happened s t e k → events_in t ≡ events_in s ++ e ∷ [] → world_in t ≡ world plan (events_in s ++ e ∷ [])
       → (place : ℕ) (k : Host D) → slice_get t.hosts.items place ≡ Some k → IsHostAt seen may_leave fused (batches_at place plan (events_in t)) (length t.history.items) k
@@ -79,7 +94,7 @@ module _ {D : Type 0} (seen : D → List ℕ) (may_leave : D → List ℕ → Ty
       let batches : with_batch (batches_at place plan (events_in s)) (drop (length went.host.peer.journal) k.peer.journal) ≡ batches_at place plan (events_in t) =
       (λ i. with_batch (batches_at place plan (events_in s)) (drop (length (sym older i)) (sym newer i)))
       ∙ sym (batches_more place plan (events_in s) e) ∙ ap (batches_at place plan) (sym events) in
-      let one : length t.history.items ≡ length s.history.items + 1 = ap length happened.history ∙ length-append s.history.items (entry_of (world_in s) e ∷ []) in
+      let one = one_more s t e happened.history in
       record {
         stands = subst (StandsFor seen may_leave k) batches (went.on.stands (batches_at place plan (events_in s)) before.stands);
         whole = went.on.whole before.whole;
@@ -89,7 +104,8 @@ module _ {D : Type 0} (seen : D → List ℕ) (may_leave : D → List ℕ → Ty
 
   kept : (plan : Plan) (s t : State D) (e : Event) (k : ℕ) → IsStateOf seen may_leave fused plan s → Happened s t e k → IsStateOf seen may_leave fused plan t
   kept plan s t e k is h =
-      let events = more_events s t e h.event h.history in
+      let events = more_events s t e h.history in
+      let one = one_more s t e h.history in
       let size : length s.bag.items ≡ length (world plan (events_in s)).bag = ap (λ (w : World). length w.bag) is.world in
       let worlds : world_in t ≡ world plan (events_in s ++ e ∷ []) = h.world ∙ ap (λ w. happens w e) is.world ∙ sym (world_more plan (events_in s) e) in
       let grown : length (world plan (events_in s ++ e ∷ [])).bag ≡ length (world plan (events_in s)).bag + k =
@@ -106,45 +122,63 @@ module _ {D : Type 0} (seen : D → List ℕ) (may_leave : D → List ℕ → Ty
             ∙ ap (λ n. filter (λ i. not (takes_out i e)) (pending plan (events_in s)) ++ range_with_len n k) size
             ∙ sym (pending_more plan (events_in s) e k grown fresh untouched) ∙ ap (pending plan) (sym events);
         hosts = λ place k at. host_after plan s t e is h events worlds place k at;
+        clock = omega (arith, is.clock, h.clock, one);
         fresh = λ i le.
             ap (λ es. is_pending es i) events
             ∙ fresh_more (events_in s) e (length s.bag.items) (length t.bag.items) (omega (arith, h.grown)) is.fresh h.untouched i le;
       }
 
-  kept_step : (plan : Plan) (s t : State D) (p : PeerStep) → IsStateOf seen may_leave fused plan s → DeliversBelow (length s.bag.items) p → world_in t ≡ happens (world_in s) (Step p) → t.history.items ≡ s.history.items ++ entry_of (world_in s) (Step p) ∷ [] → t.pending.items ≡ left_after p s.pending.items ++ range_with_len (length s.bag.items) (sends_in (world_in s) p) → HaveGoneOn seen may_leave fused s.hosts.items t.hosts.items → IsStateOf seen may_leave fused plan t
-  kept_step plan s t p is known world history pending on =
-      kept plan s t (Step p) (sends_in (world_in s) p) is (record {
+  became : (plan : Plan) (s t : State D) (e : Event) (k : ℕ) → IsStateOf seen may_leave fused plan s → Happened s t e k → Becomes seen may_leave fused plan (events_in s ++ e ∷ []) t
+  became plan s t e k is h = record { state = kept plan s t e k is h; events = more_events s t e h.history }
+
+  same_hosts : (s t : State D) → t.hosts.items ≡ s.hosts.items → HaveGoneOn seen may_leave fused s.hosts.items t.hosts.items
+  same_hosts s t hosts = subst (HaveGoneOn seen may_leave fused s.hosts.items) (sym hosts) (stayed seen may_leave fused s.hosts.items)
+
+  pub became_step : (plan : Plan) (s t : State D) (p : PeerStep) → IsStateOf seen may_leave fused plan s → DeliversBelow (length s.bag.items) p → world_in t ≡ happens (world_in s) (Step p) → t.history.items ≡ s.history.items ++ entry_of (world_in s) (Step p) ∷ [] → t.pending.items ≡ left_after p s.pending.items ++ range_with_len (length s.bag.items) (sends_in (world_in s) p) → HaveGoneOn seen may_leave fused s.hosts.items t.hosts.items → Becomes seen may_leave fused plan (events_in s ++ Step p ∷ []) t
+  became_step plan s t p is known world history pending on =
+      became plan s t (Step p) (sends_in (world_in s) p) is (record {
         world = world;
-        event = step_event (world_in s) p;
         history = history;
         pending = pending ∙ ap (λ is. is ++ range_with_len (length s.bag.items) (sends_in (world_in s) p)) (left_by p s.pending.items);
         grown = ap (λ (w : World). length w.bag) world ∙ grown_by (world_in s) p;
         untouched = untouched_by p (length s.bag.items) known;
+        clock = let same = ap (λ (w : World). w.tick) world ∙ same_tick (world_in s) p in omega (arith, same);
         on = on;
       })
 
-  kept_forge : (plan : Plan) (s t : State D) (from to : ℕ) (bytes : List ℕ) → IsStateOf seen may_leave fused plan s → world_in t ≡ happens (world_in s) (Forge from to bytes) → t.history.items ≡ s.history.items ++ entry_of (world_in s) (Forge from to bytes) ∷ [] → t.pending.items ≡ s.pending.items ++ length s.bag.items ∷ [] → t.hosts.items ≡ s.hosts.items → IsStateOf seen may_leave fused plan t
-  kept_forge plan s t from to bytes is world history pending hosts =
-      kept plan s t (Forge from to bytes) 1 is (record {
+  pub became_forge : (plan : Plan) (s t : State D) (from to : ℕ) (bytes : List ℕ) → IsStateOf seen may_leave fused plan s → world_in t ≡ happens (world_in s) (Forge from to bytes) → t.history.items ≡ s.history.items ++ entry_of (world_in s) (Forge from to bytes) ∷ [] → t.pending.items ≡ s.pending.items ++ length s.bag.items ∷ [] → t.hosts.items ≡ s.hosts.items → Becomes seen may_leave fused plan (events_in s ++ Forge from to bytes ∷ []) t
+  became_forge plan s t from to bytes is world history pending hosts =
+      became plan s t (Forge from to bytes) 1 is (record {
         world = world;
-        event = forge_event (world_in s) from to bytes;
         history = history;
         pending = pending ∙ ap (λ is. is ++ length s.bag.items ∷ []) (sym (pass_true s.pending.items));
         grown = ap (λ (w : World). length w.bag) world ∙ grown_by_one (world_in s) from to bytes;
         untouched = λ i le. refl;
-        on = subst (HaveGoneOn seen may_leave fused s.hosts.items) (sym hosts) (stayed seen may_leave fused s.hosts.items);
+        clock = let same = ap (λ (w : World). w.tick) world ∙ no_tick (world_in s) from to bytes in omega (arith, same);
+        on = same_hosts s t hosts;
       })
 
-  pub became_step : (plan : Plan) (s t : State D) (p : PeerStep) → IsStateOf seen may_leave fused plan s → DeliversBelow (length s.bag.items) p → world_in t ≡ happens (world_in s) (Step p) → t.history.items ≡ s.history.items ++ entry_of (world_in s) (Step p) ∷ [] → t.pending.items ≡ left_after p s.pending.items ++ range_with_len (length s.bag.items) (sends_in (world_in s) p) → HaveGoneOn seen may_leave fused s.hosts.items t.hosts.items → Becomes seen may_leave fused plan (events_in s ++ Step p ∷ []) t
-  became_step plan s t p is known world history pending on =
-      record {
-        state = kept_step plan s t p is known world history pending on;
-        events = more_events s t (Step p) (step_event (world_in s) p) history;
-      }
+  pub became_tick : (plan : Plan) (s t : State D) (by : ℕ) → IsStateOf seen may_leave fused plan s → by ≤ 1000000 → world_in t ≡ happens (world_in s) (Tick by) → t.history.items ≡ s.history.items ++ entry_of (world_in s) (Tick by) ∷ [] → t.pending.items ≡ s.pending.items → t.hosts.items ≡ s.hosts.items → Becomes seen may_leave fused plan (events_in s ++ Tick by ∷ []) t
+  became_tick plan s t by is few world history pending hosts =
+      became plan s t (Tick by) 0 is (record {
+        world = world;
+        history = history;
+        pending = pending ∙ sym (pass_true s.pending.items) ∙ sym (append-nil (filter (λ i. true) s.pending.items));
+        grown = let same = ap (λ (w : World). length w.bag) world ∙ same_bag (world_in s) by in omega (arith, same);
+        untouched = λ i le. refl;
+        clock = let later = ap (λ (w : World). w.tick) world ∙ ticked (world_in s) by in omega (arith, later, few);
+        on = same_hosts s t hosts;
+      })
 
-  pub became_forge : (plan : Plan) (s t : State D) (from to : ℕ) (bytes : List ℕ) → IsStateOf seen may_leave fused plan s → world_in t ≡ happens (world_in s) (Forge from to bytes) → t.history.items ≡ s.history.items ++ entry_of (world_in s) (Forge from to bytes) ∷ [] → t.pending.items ≡ s.pending.items ++ length s.bag.items ∷ [] → t.hosts.items ≡ s.hosts.items → Becomes seen may_leave fused plan (events_in s ++ Forge from to bytes ∷ []) t
-  became_forge plan s t from to bytes is world history pending hosts =
-      record {
-        state = kept_forge plan s t from to bytes is world history pending hosts;
-        events = more_events s t (Forge from to bytes) (forge_event (world_in s) from to bytes) history;
-      }
+  pub became_lose : (plan : Plan) (s t : State D) (envelope : ℕ) → IsStateOf seen may_leave fused plan s → envelope < length s.bag.items → world_in t ≡ happens (world_in s) (Lose envelope) → t.history.items ≡ s.history.items ++ entry_of (world_in s) (Lose envelope) ∷ [] → t.pending.items ≡ filter (λ i. not (i == envelope)) s.pending.items → t.hosts.items ≡ s.hosts.items → Becomes seen may_leave fused plan (events_in s ++ Lose envelope ∷ []) t
+  became_lose plan s t envelope is stands world history pending hosts =
+      let same = world ∙ unchanged (world_in s) envelope in
+      became plan s t (Lose envelope) 0 is (record {
+        world = world;
+        history = history;
+        pending = pending ∙ sym (append-nil (filter (λ i. not (i == envelope)) s.pending.items));
+        grown = let size = ap (λ (w : World). length w.bag) same in omega (arith, size);
+        untouched = λ i le. not_same i envelope (length s.bag.items) stands le;
+        clock = let tick = ap (λ (w : World). w.tick) same in omega (arith, tick);
+        on = same_hosts s t hosts;
+      })

@@ -1,6 +1,7 @@
 pub mod Begun
 pub mod Blame
 pub mod Counts
+pub mod Courses
 pub mod Disks
 pub mod Follows
 pub mod Held

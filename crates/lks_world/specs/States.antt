@@ -1,5 +1,5 @@
 -- The state of a world, and the history that it stands for.
-use Rattle.std.specs.Prelude.{◌≡◌, ◌≤◌, ◌<◌, ◌==◌, ℕ, Bool, true, not, filter, map, Some, List, length, slice_get, Result, Ok, Err}
+use Rattle.std.specs.Prelude.{◌≡◌, ◌≤◌, ◌<◌, ◌==◌, ◌*◌, ℕ, Bool, true, not, filter, map, Some, List, length, slice_get, Result, Ok, Err}
 use Rattle.lks_base.specs.declared.events.Event.{Event}
 use Rattle.lks_base.specs.declared.events.PeerStep.{PeerStep}
 use Rattle.lks_base.specs.declared.events.PeerStep.TheVariants.{Deliver}
@@ -30,11 +30,12 @@ abbrev pub events_in : {D : Type 0} → State D → List Event
 events_in s = map (λ e. e.event) s.history.items
 
 -- the state is that of the plan's world after these events, each of which named envelopes that stood in the bag, and each
--- honest peer's disk holds the batches of these events
+-- honest peer's disk holds the batches of these events; the clock moved by at most 1,000,000 at each
 pub record IsStateOf {D : Type 0} (seen : D → List ℕ) (may_leave : D → List ℕ → Type 0) (fused : D → Bool) (plan : Plan) (s : State D) : Type 0 where
   pub world : world_in s ≡ world plan (events_in s)
   pub entries : s.history.items ≡ entries plan (events_in s)
   pub pending : s.pending.items ≡ pending plan (events_in s)
+  pub clock : s.tick ≤ 1000000 * length s.history.items
   pub fresh : (i : ℕ) → length s.bag.items ≤ i → is_pending (events_in s) i ≡ true
   pub hosts : (place : ℕ) (h : Host D) → slice_get s.hosts.items place ≡ Some h → IsHostAt seen may_leave fused (batches_at place plan (events_in s)) (length s.history.items) h
 

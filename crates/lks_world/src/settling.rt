@@ -1,13 +1,14 @@
-//! What is done next while a world settles.
+//! What is done next.
 
-ghost use Rattle.std.specs.Prelude.{◌≡◌, IfOk, IfSome, length, option_map};
+ghost use Rattle.std.specs.Prelude.{◌≡◌, IfOk, IfSome, length, option_map, slice_get};
 ghost use Rattle.std.specs.List.{flat_map};
 ghost use Rattle.lks_base.specs.declared.events.Event.TheVariants as events;
 ghost use Rattle.lks_base.specs.declared.plans.Plan.{Plan};
-ghost use Rattle.lks_law.specs.Due.{judgement_of, judgement_by, judgement_on, judgement, ready_at, ready, first_work, first_of};
+ghost use Rattle.lks_law.specs.Due.{judgement_of, judgement_by, judgement_on, judgement, first_work, next_to_settle, next_to_deliver, next_to_finish};
 ghost use Rattle.lks_law.specs.World.{message_in, peer_at};
+ghost use Rattle.lks_world.specs.Courses.{next_of, steps_of};
 ghost use Rattle.lks_world.specs.Hosts.{peers_of};
-ghost use Rattle.lks_world.specs.States.{DeliversBelow, IsStateOf, world_in};
+ghost use Rattle.lks_world.specs.States.{DeliversBelow, IsStateOf, world_in, events_in};
 
 use crate::deeds::read;
 use crate::places::place_of;
@@ -50,8 +51,9 @@ fn judge_envelope<D: Disk>(
     }
 }
 
+/// How the delivery of an envelope is judged.
 #[tactic(auto, unfolding(lks_law::specs::Due::judgement))]
-fn judge<D: CrashDisk>(
+pub fn judge<D: CrashDisk>(
     alloc: Global,
     state: &State<D>,
     envelope: u32,
@@ -64,13 +66,31 @@ fn judge<D: CrashDisk>(
     }
 }
 
-#[tactic(auto, unfolding(lks_law::specs::Due::ready))]
-fn first_ready<D: Disk>(hosts: &[Host<D>]) -> Option<PeerStep>
-    ensures work { option_map events.Step result ≡ first_work (flat_map ready_at (peers_of hosts.now)) }
+/// The steps of a peer that are due together.
+#[derive(Clone, Copy)]
+pub enum Part {
+    /// The tallies for which it is ready.
+    Ready,
+    /// Its turns in running polls.
+    Turns,
+}
+
+fn first_of_host<D: Disk>(host: &Host<D>, part: Part) -> Option<PeerStep>
+    ensures { result ≡ slice_get (steps_of part host.now.peer) 0 }
+{
+    match part {
+        Part::Ready => host.ready(0),
+        Part::Turns => host.turn(0),
+    }
+}
+
+/// The first of these steps of all peers.
+fn first_step<D: Disk>(hosts: &[Host<D>], part: Part) -> Option<PeerStep>
+    ensures work { option_map events.Step result ≡ first_work (flat_map (steps_of part) (peers_of hosts.now)) }
     ensures no_delivery { IfSome result (DeliversBelow 0) }
 {
     for host in hosts {
-        match host.ready(0) {
+        match first_of_host(host, part) {
             Some(s) => return Some(s),
             None => {}
         }
@@ -78,20 +98,84 @@ fn first_ready<D: Disk>(hosts: &[Host<D>]) -> Option<PeerStep>
     None
 }
 
-/// The first pending envelope is delivered, else the first ready work is done.
-#[tactic(auto, unfolding(lks_law::specs::Due::ready))]
-pub fn next<D: CrashDisk>(alloc: Global, state: &State<D>) -> Result<Option<PeerStep>, OutOfMemory>
-    ensures next { IfOk result (λ s. option_map events.Step s ≡ first_of (world_in state.now) state.now.pending.items (ready (world_in state.now))) }
-    ensures known { (plan : Plan) → IsStateOf D.seen D.may_leave D.fused plan state.now → IfOk result (λ s. IfSome s (DeliversBelow (length state.now.bag.items))) }
+/// The first envelope that waits.
+pub fn first_waiting<D: CrashDisk>(state: &State<D>) -> Option<u32>
+    ensures { result ≡ slice_get state.now.pending.items 0 }
 {
-    match state.pending.as_slice() {
-        [envelope, ..] => {
-            let judged = judge(alloc, state, *envelope)?;
-            Ok(Some(PeerStep::Deliver {
-                envelope: *envelope,
-                judged,
-            }))
-        }
-        [] => Ok(first_ready(&state.hosts)),
+    state.pending.as_slice().first().copied()
+}
+
+/// The first pending envelope is delivered.
+fn next_delivery<D: CrashDisk>(
+    alloc: Global,
+    state: &State<D>,
+) -> Result<Option<PeerStep>, OutOfMemory>
+    ensures next { (plan : Plan) → IsStateOf D.seen D.may_leave D.fused plan state.now →
+        IfOk result (λ s. option_map events.Step s ≡ next_to_deliver plan (events_in state.now)) }
+    ensures known { (plan : Plan) → IsStateOf D.seen D.may_leave D.fused plan state.now →
+        IfOk result (λ s. IfSome s (DeliversBelow (length state.now.bag.items))) }
+{
+    let Some(envelope) = first_waiting(state) else {
+        return Ok(None);
+    };
+    let judged = judge(alloc, state, envelope)?;
+    Ok(Some(PeerStep::Deliver { envelope, judged }))
+}
+
+/// The first pending envelope is delivered, else the first ready work is done.
+fn next_due<D: CrashDisk>(alloc: Global, state: &State<D>) -> Result<Option<PeerStep>, OutOfMemory>
+    ensures next { (plan : Plan) → IsStateOf D.seen D.may_leave D.fused plan state.now →
+        IfOk result (λ s. option_map events.Step s ≡ next_to_settle plan (events_in state.now)) }
+    ensures known { (plan : Plan) → IsStateOf D.seen D.may_leave D.fused plan state.now →
+        IfOk result (λ s. IfSome s (DeliversBelow (length state.now.bag.items))) }
+{
+    match next_delivery(alloc, state)? {
+        Some(s) => Ok(Some(s)),
+        None => Ok(first_step(&state.hosts, Part::Ready)),
+    }
+}
+
+/// The same, else the first turn of a peer is taken.
+fn next_until_finished<D: CrashDisk>(
+    alloc: Global,
+    state: &State<D>,
+) -> Result<Option<PeerStep>, OutOfMemory>
+    ensures next { (plan : Plan) → IsStateOf D.seen D.may_leave D.fused plan state.now →
+        IfOk result (λ s. option_map events.Step s ≡ next_to_finish plan (events_in state.now)) }
+    ensures known { (plan : Plan) → IsStateOf D.seen D.may_leave D.fused plan state.now →
+        IfOk result (λ s. IfSome s (DeliversBelow (length state.now.bag.items))) }
+{
+    match next_due(alloc, state)? {
+        Some(s) => Ok(Some(s)),
+        None => Ok(first_step(&state.hosts, Part::Turns)),
+    }
+}
+
+/// How it is chosen what comes next.
+#[derive(Clone, Copy)]
+pub enum Course {
+    /// The first pending envelope is delivered, else the first ready work is done.
+    Settling,
+    /// The first pending envelope is delivered.
+    Delivering,
+    /// The same as settling, else the first turn of a peer is taken.
+    Finishing,
+}
+
+/// What comes next on this course, if anything.
+pub fn next<D: CrashDisk>(
+    alloc: Global,
+    state: &State<D>,
+    course: Course,
+) -> Result<Option<PeerStep>, OutOfMemory>
+    ensures next { (plan : Plan) → IsStateOf D.seen D.may_leave D.fused plan state.now →
+        IfOk result (λ s. option_map events.Step s ≡ next_of course plan (events_in state.now)) }
+    ensures known { (plan : Plan) → IsStateOf D.seen D.may_leave D.fused plan state.now →
+        IfOk result (λ s. IfSome s (DeliversBelow (length state.now.bag.items))) }
+{
+    match course {
+        Course::Settling => next_due(alloc, state),
+        Course::Delivering => next_delivery(alloc, state),
+        Course::Finishing => next_until_finished(alloc, state),
     }
 }

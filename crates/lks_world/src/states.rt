@@ -18,8 +18,7 @@ use crate::faults::WorldFault;
 use crate::notes::notes;
 use crate::places::place_of;
 use lks_base::{
-    Bytes, Entry, Envelope, Event, Input, Note, OutOfMemory, Outgoing, PeerId, PeerStep, Reaction,
-    Seq,
+    Entry, Envelope, Event, Input, Note, OutOfMemory, Outgoing, PeerId, PeerStep, Reaction, Seq,
 };
 use lks_disk::CrashDisk;
 use lks_host::Host;
@@ -97,7 +96,8 @@ fn act<D: CrashDisk>(
     act_as(alloc, &mut hosts[place], tick, &deed.input)
 }
 
-fn forget(pending: &mut Vec<u32>, envelope: u32)
+/// Takes an envelope out of those that wait.
+pub fn forget(pending: &mut Vec<u32>, envelope: u32)
     ensures { pending.new.items ≡ filter (λ i. not (i == envelope)) pending.old.items }
 {
     pending.retain(|i| *i != envelope);
@@ -113,7 +113,7 @@ fn take_out(pending: &mut Vec<u32>, s: PeerStep)
 }
 
 /// Puts an envelope into the bag, where it waits. More than 4,294,967,295 count as want of memory.
-fn put(
+pub fn put(
     bag: &mut Vec<Envelope>,
     pending: &mut Vec<u32>,
     envelope: Envelope,
@@ -214,36 +214,6 @@ pub fn step<D: CrashDisk>(
         to,
         notes,
         sends: count as u32,
-    })?;
-    Ok(())
-}
-
-/// A corrupt peer sends bytes.
-#[tactic(auto, unfolding(lks_law::specs::World::happens, lks_law::specs::Entries::entry_of))]
-pub fn forge<D: CrashDisk>(
-    state: &mut State<D>,
-    from: PeerId,
-    to: PeerId,
-    bytes: Bytes,
-) -> Result<(), OutOfMemory>
-    ensures hosts { state.new.hosts.items ≡ state.old.hosts.items }
-    ensures world { OnOk result (world_in state.new ≡ happens (world_in state.old) (events.Forge from to bytes)) }
-    ensures history { OnOk result (state.new.history.items ≡ state.old.history.items ++ entry_of (world_in state.old) (events.Forge from to bytes) ∷ []) }
-    ensures pending { OnOk result (state.new.pending.items ≡ state.old.pending.items ++ length state.old.bag.items ∷ []) }
-{
-    let copy = bytes.clone()?;
-    let envelope = Envelope {
-        from,
-        to,
-        bytes: copy,
-    };
-    put(&mut state.bag, &mut state.pending, envelope)?;
-    state.history.push(Entry {
-        event: Event::Forge { from, to, bytes },
-        from: 0,
-        to: 0,
-        notes: Seq::from_vec(Vec::new(*state.history.allocator())),
-        sends: 1,
     })?;
     Ok(())
 }

@@ -1,13 +1,16 @@
 //! Whole runs: a script goes in, and a status and a report come out.
 
 mod disks;
+mod lists;
+mod turns;
 
 use super::*;
-use lks_base::{Input, Judged, Message, Plan, Reaction, Record, Seq};
+use lks_base::{Input, Judged, Message, Plan, Record, Seq};
 use lks_outside::{MemSink, MemSource};
 use lks_peer::Peer;
 use lks_script::read_script;
 use std::alloc::Global;
+use std::process::Abort;
 use std::test::Fail;
 
 const REPLAY: &[&str] = &["replay"];
@@ -118,7 +121,7 @@ shut 1 1
 settle
 ";
 
-const TWICE_REPORT: &str = "\
+const TWICE_EVENTS: &str = "\
 lockss report 1
 1 open 1 1 | opened 1 1 | 3
 2 forge 2 1 74 | - | 1
@@ -137,6 +140,9 @@ lockss report 1
 15 deliver 7 1 2 | - | 0
 16 deliver 8 1 3 | - | 0
 17 deliver 9 1 4 | - | 0
+";
+
+const TWICE_REPORT: &str = "\
 copy 1 1 0
 poll 1 1 1 3 0 agreed
 end 17
@@ -268,13 +274,16 @@ say 2 repair 1 1 1 44
 settle
 ";
 
-const FALSE_REPAIR_REPORT: &str = "\
+const FALSE_REPAIR_EVENTS: &str = "\
 12 tally 1 1 | asked 1 1 2 | 1
 13 deliver 6 1 2 | - | 0
 14 forge 2 1 11 | - | 1
 15 deliver 7 2 1 | repair-bad 1 1 2 | 0
 16 tally 1 1 | asked 1 1 3 | 1
 17 deliver 8 1 3 | - | 0
+";
+
+const FALSE_REPAIR_REPORT: &str = "\
 copy 1 1 0
 poll 1 1 1 3 0 running
 end 17
@@ -439,16 +448,16 @@ end 14
 /// A script in two parts, one behind the other, and what its replay answers and writes, in two parts too.
 #[derive(Drop)]
 struct Row<'a> {
-    script: [&'a str; 2],
+    script: &'a [&'a str],
     status: Status,
-    report: [&'a str; 2],
+    report: &'a [&'a str],
 }
 
 /// A run that writes nothing, perhaps since a call of its source or its sink fails.
 #[derive(Drop)]
 struct Refusal<'a> {
     words: &'a [&'a str],
-    script: [&'a str; 2],
+    script: &'a [&'a str],
     failing_reads: &'a [u32],
     failing_writes: &'a [u32],
     status: Status,
@@ -462,7 +471,7 @@ fn words_of(alloc: Global, words: &[&str]) -> Result<Vec<String>, Fail> {
     Ok(all)
 }
 
-fn joined(alloc: Global, pieces: [&str; 2]) -> Result<Vec<u8>, Fail> {
+fn joined(alloc: Global, pieces: &[&str]) -> Result<Vec<u8>, Fail> {
     let mut bytes = Vec::new(alloc);
     for piece in pieces {
         bytes.extend_from_slice(piece.as_bytes())?;
@@ -470,7 +479,7 @@ fn joined(alloc: Global, pieces: [&str; 2]) -> Result<Vec<u8>, Fail> {
     Ok(bytes)
 }
 
-fn done<'a>(script: [&'a str; 2], report: [&'a str; 2]) -> Row<'a> {
+fn done<'a>(script: &'a [&'a str], report: &'a [&'a str]) -> Row<'a> {
     Row {
         script,
         status: Status::Done,
@@ -478,31 +487,16 @@ fn done<'a>(script: [&'a str; 2], report: [&'a str; 2]) -> Row<'a> {
     }
 }
 
-#[test]
-fn reports(rt: HostRuntime) -> Result<(), Fail> {
-    let alloc = rt.alloc();
-    let rows = [
-        done([HEAD, AGREED], [VOTED, AGREED_REPORT]),
-        done([HEAD, REPAIRED], [VOTED, REPAIRED_REPORT]),
-        done([HEAD, FALSE_REPAIR], [VOTED, FALSE_REPAIR_REPORT]),
-        done([HEAD, LOST], [VOTED, LOST_REPORT]),
-        done(
-            [HEAD_OF_BAD_FIRST, FIRST_REPAIRED],
-            [VOTED, FIRST_REPAIRED_REPORT],
-        ),
-        done([HEAD_OF_ONE, ONE], [ONE_REPORT, ""]),
-        Row {
-            script: [HEAD_OF_FIVE, SPLIT],
-            status: Status::Alarmed,
-            report: [SPLIT_REPORT, ""],
-        },
-        done([HEAD, INQUORATE], [INQUORATE_REPORT, ""]),
-        done([HEAD, TWICE], [TWICE_REPORT, ""]),
-        done([HEAD, LENGTHS], [LENGTHS_REPORT, ""]),
-        done([HEAD, NO_MESSAGES], [NO_MESSAGES_REPORT, ""]),
-        done([HEAD, CHALLENGES], [CHALLENGES_REPORT, ""]),
-        done([HEAD, SAYINGS], [SAYINGS_REPORT, ""]),
-    ];
+fn alarmed<'a>(script: &'a [&'a str], report: &'a [&'a str]) -> Row<'a> {
+    Row {
+        script,
+        status: Status::Alarmed,
+        report,
+    }
+}
+
+/// Runs each script, and compares what it answers and writes.
+fn check_rows<R: Abort>(rt: &R, alloc: Global, rows: &[Row<'_>]) -> Result<(), Fail> {
     let words = words_of(alloc, REPLAY)?;
     for (at, row) in rows.iter().enumerate() {
         let mut source = MemSource::new(alloc, joined(alloc, row.script)?, [].to_vec(alloc)?);
@@ -519,18 +513,44 @@ fn reports(rt: HostRuntime) -> Result<(), Fail> {
     Ok(())
 }
 
+#[test]
+fn reports(rt: HostRuntime) -> Result<(), Fail> {
+    let rows = [
+        done(&[HEAD, AGREED], &[VOTED, AGREED_REPORT]),
+        done(&[HEAD, REPAIRED], &[VOTED, REPAIRED_REPORT]),
+        done(
+            &[HEAD, FALSE_REPAIR],
+            &[VOTED, FALSE_REPAIR_EVENTS, FALSE_REPAIR_REPORT],
+        ),
+        done(&[HEAD, LOST], &[VOTED, LOST_REPORT]),
+        done(
+            &[HEAD_OF_BAD_FIRST, FIRST_REPAIRED],
+            &[VOTED, FIRST_REPAIRED_REPORT],
+        ),
+        done(&[HEAD_OF_ONE, ONE], &[ONE_REPORT]),
+        alarmed(&[HEAD_OF_FIVE, SPLIT], &[SPLIT_REPORT]),
+        done(&[HEAD, INQUORATE], &[INQUORATE_REPORT]),
+        done(&[HEAD, TWICE], &[TWICE_EVENTS, TWICE_REPORT]),
+        done(&[HEAD, LENGTHS], &[LENGTHS_REPORT]),
+        done(&[HEAD, NO_MESSAGES], &[NO_MESSAGES_REPORT]),
+        done(&[HEAD, CHALLENGES], &[CHALLENGES_REPORT]),
+        done(&[HEAD, SAYINGS], &[SAYINGS_REPORT]),
+    ];
+    check_rows(&rt, rt.alloc(), &rows)
+}
+
 // A faulty command line is told before anything is read.
 fn misused<'a>(words: &'a [&'a str]) -> Refusal<'a> {
     Refusal {
         words,
-        script: [HEAD, AGREED],
+        script: &[HEAD, AGREED],
         failing_reads: &[1],
         failing_writes: &[1],
         status: Status::Usage,
     }
 }
 
-fn bad<'a>(script: [&'a str; 2], line: u32) -> Refusal<'a> {
+fn bad<'a>(script: &'a [&'a str], line: u32) -> Refusal<'a> {
     Refusal {
         words: REPLAY,
         script,
@@ -543,7 +563,7 @@ fn bad<'a>(script: [&'a str; 2], line: u32) -> Refusal<'a> {
 fn failing<'a>(reads: &'a [u32], writes: &'a [u32], status: Status) -> Refusal<'a> {
     Refusal {
         words: REPLAY,
-        script: [HEAD, AGREED],
+        script: &[HEAD, AGREED],
         failing_reads: reads,
         failing_writes: writes,
         status,
@@ -553,16 +573,17 @@ fn failing<'a>(reads: &'a [u32], writes: &'a [u32], status: Status) -> Refusal<'
 #[test]
 fn refusals(rt: HostRuntime) -> Result<(), Fail> {
     let alloc = rt.alloc();
+    let unended = [HEAD.trim_end()];
     let rows = [
         misused(&[]),
         misused(&["replay", "x"]),
-        bad(["", ""], 1),
-        bad(["lockss 1\n", ""], 2),
-        bad([HEAD.trim_end(), ""], 9),
-        bad([HEAD, "forge 1 2 00\n"], 10),
-        bad([HEAD, "# nothing\n"], 10),
-        bad([HEAD, "forge 2 1 0101000000010001\n"], 10),
-        bad([HEAD, "say 2 poll 1 1 1\n"], 10),
+        bad(&[], 1),
+        bad(&["lockss 1\n"], 2),
+        bad(&unended, 9),
+        bad(&[HEAD, "forge 1 2 00\n"], 10),
+        bad(&[HEAD, "# nothing\n"], 10),
+        bad(&[HEAD, "forge 2 1 0101000000010001\n"], 10),
+        bad(&[HEAD, "say 2 poll 1 1 1\n"], 10),
         failing(&[1], &[], Status::ReadFault),
         failing(&[], &[1], Status::WriteFault),
     ];
@@ -601,8 +622,8 @@ fn proof(alloc: Global) -> Result<Vec<u8>, Fail> {
     Ok(bytes)
 }
 
-/// The first peer of a plan with AU 1 of no blocks, and its reaction to opening a poll.
-fn opening(alloc: Global, plan: &Plan) -> Result<(Peer, Reaction), Fail> {
+/// The first peer of a plan with AU 1 of no blocks, once it opened a poll.
+fn polling(alloc: Global, plan: &Plan) -> Result<Peer, Fail> {
     let [planned, ..] = plan.peers.as_slice() else {
         return Err("a peer".into());
     };
@@ -617,11 +638,10 @@ fn opening(alloc: Global, plan: &Plan) -> Result<(Peer, Reaction), Fail> {
     let mut peer = Peer::begin(alloc, plan, planned, list)
         .ok()
         .ok_or("memory")?;
-    let reaction = peer
-        .step(0, &Input::OpenPoll { au: 1 })
+    peer.step(0, &Input::OpenPoll { au: 1 })
         .ok()
         .ok_or("memory")?;
-    Ok((peer, reaction))
+    Ok(peer)
 }
 
 #[test]
@@ -630,7 +650,7 @@ fn proof_after_challenge(rt: HostRuntime) -> Result<(), Fail> {
     let script = read_script(alloc, HEAD.as_bytes())
         .ok()
         .ok_or("the head is a script")?;
-    let (mut peer, _opened) = opening(alloc, &script.plan)?;
+    let mut peer = polling(alloc, &script.plan)?;
     let agreed = Input::Got {
         from: 2,
         message: Message::PollChallenge {
@@ -646,37 +666,5 @@ fn proof_after_challenge(rt: HostRuntime) -> Result<(), Fail> {
     };
     assert_eq!(rt; outgoing.to, 2);
     assert_eq!(rt; outgoing.bytes.as_slice(), proof(alloc)?.as_slice());
-    Ok(())
-}
-
-// Peer 1 lists six peers.
-const HEAD_OF_SEVEN: &str = "\
-lockss 1
-rules inner 6 quorum 3 minority 1 outer 0 repairs 2 pace 0 refractory 0 overdue 100 unknown 100 debt 100 churn 0
-au 1 2
-peer 1 honest 01 01
-peer 2 corrupt 02 01
-peer 3 corrupt 03 01
-peer 4 corrupt 04 01
-peer 5 corrupt 05 01
-peer 6 corrupt 06 01
-peer 7 corrupt 07 01
-refs 1 2 3 4 5 6 7
-copy 1 1 41,42
-";
-
-// By another implementation of SHA-256 and ChaCha20, the draw of poll 1 picks 5, 3 and 4 of the peers 2 to 7.
-#[test]
-fn inner_circle(rt: HostRuntime) -> Result<(), Fail> {
-    let alloc = rt.alloc();
-    let mut script = read_script(alloc, HEAD_OF_SEVEN.as_bytes())
-        .ok()
-        .ok_or("the head is a script")?;
-    script.plan.rules.inner = 3;
-    let (_peer, reaction) = opening(alloc, &script.plan)?;
-    let [first, second, third] = reaction.sends.as_slice() else {
-        return Err("three messages".into());
-    };
-    assert_eq!(rt; [first.to, second.to, third.to], [5, 3, 4]);
     Ok(())
 }

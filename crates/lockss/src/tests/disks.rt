@@ -28,7 +28,7 @@ fn failing_disks(alloc: Global, fail: &[u32]) -> Result<Vec<MemDisk>, Fail>
 /// The answer to a script whose first peer's disk fails at these calls, and that disk.
 fn replay_on(
     alloc: Global,
-    script: [&str; 2],
+    script: &[&str],
     fail: &[u32],
 ) -> Result<(Status, Option<MemDisk>), Fail> {
     let words = words_of(alloc, REPLAY)?;
@@ -54,7 +54,7 @@ fn batches_on(alloc: Global, disk: Option<MemDisk>) -> Result<Vec<Bytes>, Fail> 
 #[test]
 fn deposits_first(rt: HostRuntime) -> Result<(), Fail> {
     let alloc = rt.alloc();
-    let (status, disk) = replay_on(alloc, [HEAD, ""], &[])?;
+    let (status, disk) = replay_on(alloc, &[HEAD], &[])?;
     assert_eq!(rt; status, Status::Done);
     let Some(disk) = disk else {
         return Err("a disk".into());
@@ -68,13 +68,13 @@ fn deposits_first(rt: HostRuntime) -> Result<(), Fail> {
 #[test]
 fn each_call_fails(rt: HostRuntime) -> Result<(), Fail> {
     let alloc = rt.alloc();
-    let (status, _disk) = replay_on(alloc, [HEAD, AGREED], &[31])?;
+    let (status, _disk) = replay_on(alloc, &[HEAD, AGREED], &[31])?;
     assert_eq!(rt; status, Status::Done);
-    let (_status, disk) = replay_on(alloc, [HEAD, AGREED], &[])?;
+    let (_status, disk) = replay_on(alloc, &[HEAD, AGREED], &[])?;
     let whole = batches_on(alloc, disk)?;
     assert_eq!(rt; whole.len(), 7);
     for call in 1..31u32 {
-        let (status, disk) = replay_on(alloc, [HEAD, AGREED], &[call])?;
+        let (status, disk) = replay_on(alloc, &[HEAD, AGREED], &[call])?;
         assert_eq!(rt; status, Status::DiskFault { peer: 1 }, "call {call}");
         if call < 3 {
             continue;

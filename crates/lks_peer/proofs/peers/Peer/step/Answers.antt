@@ -10,7 +10,7 @@ invariant_of-self-2 c =
           ap are_small c.in_ok-append.ensures.ok
           ∙ small-append c.self.inside.list.items c.in_ok-added.added.items c.self.invariant.small
           (ap are_small (c.in_ok-added.ensures ∙ c.as_slice.ensures ∙ ap (λ r. r.records) c.in_ok-answer.ensures)
-          ∙ reaction_small c.self.inside.own c.deref.result.now c.args.tick c.args.input.now);
+          ∙ reaction_small c.self.inside.own c.deref.result.now c.args.tick c.args.input.now (ap are_small c.deref.ensures.value ∙ c.self.invariant.small));
       few = c.in_ok-append.ensures.few;
       short = c.self.invariant.short;
     }

@@ -1,0 +1,22 @@
+use Rattle.std.proofs.Common.{◌<◌, ◌≤◌, ◌-◌, length, arith}
+use Rattle.lks_base.specs.declared.events.Event.TheVariants.{Step}
+use Rattle.lks_world.proofs.Keeping.{room_kept, full_kept, can_step}
+use Rattle.lks_world.proofs.StateLaws.{became_step}
+use Rattle.lks_world.specs.Follows.{most_events}
+use Rattle.lks_world.proofs.adding.add_step.Goals as goal
+
+pub returns-in_ok-step-clause-becomes : goal.returns-in_ok-step-clause-becomes
+returns-in_ok-step-clause-becomes g c = λ plan is known.
+    let room : 0 < most_events - length c.args.state.now.history.items = omega (arith, c.if-room-gt0.true, c.room.ensures) in
+    room_kept g.D.Disk.seen g.D.Disk.may_leave g.D.Disk.fused plan c.args.state.now c.step.new.state (Step c.args.s) room
+    (became_step g.D.Disk.seen g.D.Disk.may_leave g.D.Disk.fused plan c.args.state.now c.step.new.state c.args.s is known c.in_ok-step.ensures.world c.in_ok-step.ensures.history c.in_ok-step.ensures.pending c.in_ok-step.ensures.on)
+
+pub returns-else-room-gt0-clause-becomes : goal.returns-else-room-gt0-clause-becomes
+returns-else-room-gt0-clause-becomes g c = λ plan is known.
+    let full : most_events - length c.args.state.now.history.items ≤ 0 = omega (arith, c.if-room-gt0.false, c.room.ensures) in
+    full_kept g.D.Disk.seen g.D.Disk.may_leave g.D.Disk.fused plan c.args.state.now (Step c.args.s) full is
+
+pub step-requires-clause-ready : goal.step-requires-clause-ready
+step-requires-clause-ready g c = λ κs lives.
+    let room : 0 < most_events - length c.args.state.now.history.items = omega (arith, c.if-room-gt0.true, c.room.ensures) in
+    can_step g.D.Disk.seen g.D.Disk.may_leave g.D.Disk.fused c.requires.0 c.args.state.now c.requires.1 room
