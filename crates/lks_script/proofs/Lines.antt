@@ -6,7 +6,7 @@ use Rattle.std.proofs.lemmas.List.Splits.{slice_split_first, slice_split_none}
 use Rattle.std.proofs.lemmas.List.Sums.{fails_before_first}
 use Rattle.lks_script.specs.declared.drafts.Draft.{Draft}
 use Rattle.lks_script.specs.Words.{parts}
-use Rattle.lks_script.specs.Grammar.{line_in, line_number, end_in, lines_in}
+use Rattle.lks_script.specs.Grammar.{with_line, line_number, end_in, lines_in}
 
 -- the place of the first element that passes
 placed : (b : Bool) (n at : ℕ) → cond b (Some n) None ≡ Some at → (b ≡ true) × (n ≡ at)
@@ -40,14 +40,14 @@ pub parts_cons : (code : ℕ) (text : List ℕ) → (y : List ℕ) × (ys : List
 parts_cons code [] = ([], [], refl)
 parts_cons code (x ∷ text) = cut_is_cons (x == code) x (parts code text)
 
-pub goes_on : (k : ℕ) (draft longer : Draft) (line more : List ℕ) → line_in draft (parts 32 line) ≡ Some longer
+pub goes_on : (k : ℕ) (draft longer : Draft) (line more : List ℕ) → with_line draft line ≡ Some longer
     → lines_in k draft (line ∷ parts 10 more) ≡ lines_in (k + 1) longer (parts 10 more)
 unfolding lines_in
 goes_on k draft longer line more h =
     let m = parts_cons 10 more in
     rw m.2 (rw (h, lines_in) refl)
 
-pub is_bad : (k : ℕ) (draft : Draft) (line more : List ℕ) → line_in draft (parts 32 line) ≡ None → lines_in k draft (line ∷ parts 10 more) ≡ Err (line_number k)
+pub is_bad : (k : ℕ) (draft : Draft) (line more : List ℕ) → with_line draft line ≡ None → lines_in k draft (line ∷ parts 10 more) ≡ Err (line_number k)
 unfolding lines_in
 is_bad k draft line more h =
     let m = parts_cons 10 more in

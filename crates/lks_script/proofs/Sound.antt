@@ -20,12 +20,12 @@ use Rattle.lks_script.specs.declared.plan_lines.ListKind.{ListKind}
 use Rattle.lks_script.specs.declared.plan_lines.ListKind.TheVariants.{Refs, Friends}
 use Rattle.lks_script.specs.declared.steps.Script.{Script}
 use Rattle.lks_script.specs.declared.steps.Step.{Step}
-use Rattle.lks_script.specs.Numbers.{◌>>=◌}
+use Rattle.lks_script.specs.Numbers.{◌>>=◌, number_in}
 use Rattle.lks_script.specs.Words.{parts, id_in, each_in, blocks_in}
 use Rattle.lks_script.specs.StepRules.{is_step_of, are_steps_of}
 use Rattle.lks_script.specs.PlanLines.{peer_in, some_honest, with_peers, checked, plan_with_peer, lacks_list, may_hold, with_list, with_copy, changed, is_list, list_given, plan_with_list, copy_given, plan_with_copy, rules_in, are_good, au_in, may_add_au}
 use Rattle.lks_script.specs.StepLines.{step_in, steps_with}
-use Rattle.lks_script.specs.Grammar.{title_line, numbers_line, rules_line, begun, au_line, peer_line, ruled_line, in_peers, in_steps, later_line, declares_peer, planned_line, line_in, ended, line_number, end_in, lines_in, script_of, Answers}
+use Rattle.lks_script.specs.Grammar.{title_line, numbers_line, rules_line, begun, turns_line, au_line, peer_line, ruled_line, in_peers, in_steps, later_line, declares_peer, planned_line, line_in, means_nothing, with_line, ended, line_number, end_in, lines_in, script_of, Answers}
 
 -- ---- steps that found something
 
@@ -187,20 +187,32 @@ planned_line_sound at plan steps (key ∷ more) draft h e =
       | inr f ↦ later_line_sound at plan steps key more draft h (if_some (some_honest plan.peers) (later_line at plan steps key more) draft f.1).1
     ]
 
-au_line_sound : (rules : Rules) (aus : List AuPlan) (more : List (List ℕ)) (draft : Draft) → au_line rules aus more ≡ Some draft → Sound draft
+au_line_sound : (rules : Rules) (turns : Option ℕ) (aus : List AuPlan) (more : List (List ℕ)) (draft : Draft) → au_line rules turns aus more ≡ Some draft → Sound draft
 unfolding au_line
-au_line_sound rules aus more draft e =
-    let a = bind_some (au_in more) (λ au. cond (may_add_au aus au) (Some (Ruled rules (aus ++ au ∷ []))) None) draft e in
-    let b = if_some (may_add_au aus a.0) (Some (Ruled rules (aus ++ a.0 ∷ []))) draft a.2 in
-    along (Ruled rules (aus ++ a.0 ∷ [])) draft (same_some (Ruled rules (aus ++ a.0 ∷ [])) draft b.1) tt
+au_line_sound rules turns aus more draft e =
+    let a = bind_some (au_in more) (λ au. cond (may_add_au aus au) (Some (Ruled rules turns (aus ++ au ∷ []))) None) draft e in
+    let b = if_some (may_add_au aus a.0) (Some (Ruled rules turns (aus ++ a.0 ∷ []))) draft a.2 in
+    along (Ruled rules turns (aus ++ a.0 ∷ [])) draft (same_some (Ruled rules turns (aus ++ a.0 ∷ [])) draft b.1) tt
 
-ruled_line_sound : (rules : Rules) (aus : List AuPlan) (words : List (List ℕ)) (draft : Draft) → ruled_line rules aus words ≡ Some draft → Sound draft
+turns_line_sound : (rules : Rules) (turns : Option ℕ) (aus : List AuPlan) (more : List (List ℕ)) (draft : Draft) → turns_line rules turns aus more ≡ Some draft → Sound draft
+unfolding turns_line
+turns_line_sound rules None [] (word ∷ []) draft e =
+    let a = bind_some (number_in 4096 word) (λ n. Some (Ruled rules (Some n) [])) draft e in
+    along (Ruled rules (Some a.0) []) draft (same_some (Ruled rules (Some a.0) []) draft a.2) tt
+turns_line_sound rules turns aus more draft e = absurd cc
+
+ruled_line_sound : (rules : Rules) (turns : Option ℕ) (aus : List AuPlan) (words : List (List ℕ)) (draft : Draft) → ruled_line rules turns aus words ≡ Some draft → Sound draft
 unfolding ruled_line
-ruled_line_sound rules aus [] draft e = absurd cc
-ruled_line_sound rules aus (key ∷ more) draft e =
-    elim (if_else (bytes_eq key (codes "au")) (au_line rules aus more) (cond (bytes_eq key (codes "peer")) (peer_line (begun rules aus) [] more) None) draft e) [
-      | inl t ↦ au_line_sound rules aus more draft t.1
-      | inr f ↦ peer_line_sound (begun rules aus) [] more draft refl (if_some (bytes_eq key (codes "peer")) (peer_line (begun rules aus) [] more) draft f.1).1
+ruled_line_sound rules turns aus [] draft e = absurd cc
+ruled_line_sound rules turns aus (key ∷ more) draft e =
+    let peered = cond (bytes_eq key (codes "peer")) (peer_line (begun rules turns aus) [] more) None in
+    elim (if_else (bytes_eq key (codes "turns")) (turns_line rules turns aus more) (cond (bytes_eq key (codes "au")) (au_line rules turns aus more) peered) draft e) [
+      | inl t ↦ turns_line_sound rules turns aus more draft t.1
+      | inr f ↦
+          elim (if_else (bytes_eq key (codes "au")) (au_line rules turns aus more) peered draft f.1) [
+            | inl t ↦ au_line_sound rules turns aus more draft t.1
+            | inr g ↦ peer_line_sound (begun rules turns aus) [] more draft refl (if_some (bytes_eq key (codes "peer")) (peer_line (begun rules turns aus) [] more) draft g.1).1
+          ]
     ]
 
 rules_line_sound : (words : List (List ℕ)) (draft : Draft) → rules_line words ≡ Some draft → Sound draft
@@ -208,9 +220,9 @@ unfolding rules_line numbers_line
 rules_line_sound [] draft e = absurd cc
 rules_line_sound (key ∷ more) draft e =
     let a = if_some (bytes_eq key (codes "rules")) (numbers_line more) draft e in
-    let b = bind_some (rules_in more) (λ rules. cond (are_good rules) (Some (Ruled rules [])) None) draft a.1 in
-    let c = if_some (are_good b.0) (Some (Ruled b.0 [])) draft b.2 in
-    along (Ruled b.0 []) draft (same_some (Ruled b.0 []) draft c.1) tt
+    let b = bind_some (rules_in more) (λ rules. cond (are_good rules) (Some (Ruled rules None [])) None) draft a.1 in
+    let c = if_some (are_good b.0) (Some (Ruled b.0 None [])) draft b.2 in
+    along (Ruled b.0 None []) draft (same_some (Ruled b.0 None []) draft c.1) tt
 
 title_line_sound : (words : List (List ℕ)) (draft : Draft) → title_line words ≡ Some draft → Sound draft
 unfolding title_line
@@ -225,8 +237,16 @@ line_sound : (draft longer : Draft) (words : List (List ℕ)) → Sound draft �
 unfolding line_in
 line_sound Blank longer words h e = title_line_sound words longer e
 line_sound Titled longer words h e = rules_line_sound words longer e
-line_sound (Ruled rules aus) longer words h e = ruled_line_sound rules aus words longer e
+line_sound (Ruled rules turns aus) longer words h e = ruled_line_sound rules turns aus words longer e
 line_sound (Planned at plan steps) longer words h e = planned_line_sound at plan steps words longer h e
+
+with_line_sound : (draft longer : Draft) (line : List ℕ) → Sound draft → with_line draft line ≡ Some longer → Sound longer
+unfolding with_line
+with_line_sound draft longer line h e =
+    elim (if_else (means_nothing line) (Some draft) (line_in draft (parts 32 line)) longer e) [
+      | inl idle ↦ along draft longer (same_some draft longer idle.1) h
+      | inr read ↦ line_sound draft longer (parts 32 line) h read.1
+    ]
 
 -- ---- the whole
 
@@ -234,7 +254,7 @@ ended_good : (draft : Draft) (script : Script) → Sound draft → ended draft �
 unfolding ended
 ended_good Blank script h e = absurd cc
 ended_good Titled script h e = absurd cc
-ended_good (Ruled rules aus) script h e = absurd cc
+ended_good (Ruled rules turns aus) script h e = absurd cc
 ended_good (Planned at plan steps) script h e =
     let a = if_some (some_honest plan.peers) (Some (record { plan = plan; steps = steps })) script e in
     let made : Script = record { plan = plan; steps = steps } in
@@ -259,8 +279,8 @@ unfolding lines_in
 lines_good k draft [] script h e = absurd cc
 lines_good k draft (last ∷ []) script h e = end_good k draft last script h e
 lines_good k draft (line ∷ next ∷ lines) script h e =
-    let a = found_draft (line_in draft (parts 32 line)) (λ longer. lines_in (k + 1) longer (next ∷ lines)) (line_number k) script e in
-    lines_good (k + 1) a.0 (next ∷ lines) script (line_sound draft a.0 (parts 32 line) h a.1) a.2
+    let a = found_draft (with_line draft line) (λ longer. lines_in (k + 1) longer (next ∷ lines)) (line_number k) script e in
+    lines_good (k + 1) a.0 (next ∷ lines) script (with_line_sound draft a.0 line h a.1) a.2
 
 -- a script that the bytes say has a good plan, and steps of that plan
 script_good : (bytes : List ℕ) (script : Script) → script_of bytes ≡ Ok script → (plan_fault script.plan ≡ None) × (are_steps_of script.plan script.steps ≡ true)

@@ -1,5 +1,6 @@
 -- What bytes say as a script, or the number of their first bad line.
-use Rattle.std.specs.Prelude.{◌≡◌, ℕ, ◌+◌, ◌==◌, Bool, true, false, not, ◌&&◌, min, if◌then◌else◌, List, [], ◌∷◌, ◌++◌, length, codes, Option, Some, None, Result, Ok, Err}
+use Rattle.std.specs.Prelude.{◌≡◌, ℕ, ◌+◌, ◌==◌, Bool, true, false, not, ◌&&◌, min, nat_lt, if◌then◌else◌, List, [], ◌∷◌, ◌++◌, length, codes, Option, Some, None, unwrap_or, Result, Ok, Err}
+use Rattle.std.specs.List.{list_all}
 use Rattle.std.specs.Option.{option_map}
 use Rattle.std.specs.Str.{bytes_eq}
 use Rattle.lks_base.specs.declared.plans.AuPlan.{AuPlan}
@@ -14,7 +15,7 @@ use Rattle.lks_script.specs.declared.faults.ScriptFault.TheVariants.{BadLine, Me
 use Rattle.lks_script.specs.declared.plan_lines.ListKind.TheVariants.{Refs, Friends}
 use Rattle.lks_script.specs.declared.steps.Script.{Script}
 use Rattle.lks_script.specs.declared.steps.Step.{Step}
-use Rattle.lks_script.specs.Numbers.{◌>>=◌}
+use Rattle.lks_script.specs.Numbers.{◌>>=◌, number_in}
 use Rattle.lks_script.specs.Words.{parts}
 use Rattle.lks_script.specs.PlanLines.{are_good, rules_in, au_in, may_add_au, some_honest, plan_with_peer, plan_with_list, plan_with_copy}
 use Rattle.lks_script.specs.StepLines.{steps_with}
@@ -28,31 +29,39 @@ title_line _ = None
 unfoldable pub numbers_line : List (List ℕ) → Option Draft
 numbers_line more = do
   rules ← rules_in more
-  if are_good rules then Some (Ruled rules []) else None
+  if are_good rules then Some (Ruled rules None []) else None
 
 unfoldable pub rules_line : List (List ℕ) → Option Draft
 rules_line (key ∷ more) = if bytes_eq key (codes "rules") then numbers_line more else None
 rules_line _ = None
 
 -- a plan without peers
-abbrev pub begun : Rules → List AuPlan → Plan
-begun rules aus = record { rules = rules; turns = 4096; aus = aus; peers = [] }
+abbrev pub begun : Rules → Option ℕ → List AuPlan → Plan
+begun rules turns aus = record { rules = rules; turns = unwrap_or turns 4096; aus = aus; peers = [] }
 
-unfoldable pub au_line : Rules → List AuPlan → List (List ℕ) → Option Draft
-au_line rules aus more = do
+-- turns N: once, before the AUs
+unfoldable pub turns_line : Rules → Option ℕ → List AuPlan → List (List ℕ) → Option Draft
+turns_line rules None [] (word ∷ []) = do
+  turns ← number_in 4096 word
+  Some (Ruled rules (Some turns) [])
+turns_line rules turns aus _ = None
+
+unfoldable pub au_line : Rules → Option ℕ → List AuPlan → List (List ℕ) → Option Draft
+au_line rules turns aus more = do
   au ← au_in more
-  if may_add_au aus au then Some (Ruled rules (aus ++ au ∷ [])) else None
+  if may_add_au aus au then Some (Ruled rules turns (aus ++ au ∷ [])) else None
 
 unfoldable pub peer_line : Plan → List Step → List (List ℕ) → Option Draft
 peer_line plan steps more = option_map (λ p. Planned part.Peers p steps) (plan_with_peer plan more)
 
--- behind the rules: an AU, or the first peer
-unfoldable pub ruled_line : Rules → List AuPlan → List (List ℕ) → Option Draft
-ruled_line rules aus (key ∷ more) =
-    if bytes_eq key (codes "au") then au_line rules aus more
-    else if bytes_eq key (codes "peer") then peer_line (begun rules aus) [] more
+-- behind the rules: how many turns there are, an AU, or the first peer
+unfoldable pub ruled_line : Rules → Option ℕ → List AuPlan → List (List ℕ) → Option Draft
+ruled_line rules turns aus (key ∷ more) =
+    if bytes_eq key (codes "turns") then turns_line rules turns aus more
+    else if bytes_eq key (codes "au") then au_line rules turns aus more
+    else if bytes_eq key (codes "peer") then peer_line (begun rules turns aus) [] more
     else None
-ruled_line rules aus _ = None
+ruled_line rules turns aus _ = None
 
 abbrev pub in_peers : Part → Bool
 in_peers part.Peers = true
@@ -81,12 +90,24 @@ planned_line at plan steps (key ∷ more) =
     else None
 planned_line at plan steps _ = None
 
--- what a line makes of the script so far
+-- what the words of a line make of the script so far
 unfoldable pub line_in : Draft → List (List ℕ) → Option Draft
 line_in Blank words = title_line words
 line_in Titled words = rules_line words
-line_in (Ruled rules aus) words = ruled_line rules aus words
+line_in (Ruled rules turns aus) words = ruled_line rules turns aus words
 line_in (Planned at plan steps) words = planned_line at plan steps words
+
+unfoldable pub are_ascii : List ℕ → Bool
+are_ascii text = list_all (λ b. nat_lt b 128) text
+
+-- a line that means nothing: an empty one, or a comment in ASCII
+unfoldable pub means_nothing : List ℕ → Bool
+means_nothing [] = true
+means_nothing (first ∷ rest) = first == 35 && are_ascii rest
+
+-- what a line makes of it
+unfoldable pub with_line : Draft → List ℕ → Option Draft
+with_line draft line = if means_nothing line then Some draft else line_in draft (parts 32 line)
 
 -- the script, where its end may come here
 unfoldable pub ended : Draft → Option Script
@@ -105,7 +126,7 @@ end_in k draft last = elim (if length last == 0 then ended draft else None) [ So
 unfoldable pub lines_in : ℕ → Draft → List (List ℕ) → Result Script ℕ
 lines_in k draft [] = Err (line_number k)
 lines_in k draft (last ∷ []) = end_in k draft last
-lines_in k draft (line ∷ next ∷ lines) = elim (line_in draft (parts 32 line)) [ Some longer ↦ lines_in (k + 1) longer (next ∷ lines) | None ↦ Err (line_number k) ]
+lines_in k draft (line ∷ next ∷ lines) = elim (with_line draft line) [ Some longer ↦ lines_in (k + 1) longer (next ∷ lines) | None ↦ Err (line_number k) ]
 
 -- the script that the bytes say, or its first bad line
 unfoldable pub script_of : List ℕ → Result Script ℕ

@@ -1,5 +1,5 @@
 -- What single words say: numbers of peers, bytes in hex, blocks.
-use Rattle.std.specs.Prelude.{◌≡◌, ℕ, ◌-◌, ◌==◌, Bool, true, false, if◌then◌else◌, List, [], ◌∷◌, ◌++◌, length, replicate, codes, Option, Some, None, Result, Ok, Err}
+use Rattle.std.specs.Prelude.{◌≡◌, ℕ, ◌-◌, ◌==◌, Bool, true, false, nat_le, slice_index, if◌then◌else◌, List, [], ◌∷◌, ◌++◌, length, replicate, codes, Option, Some, None, Result, Ok, Err}
 use Rattle.std.specs.List.{slice_split}
 use Rattle.std.specs.Str.{bytes_eq}
 use Rattle.hex.specs.Hex.{decode_of}
@@ -61,9 +61,22 @@ seed_in word = do
 unfoldable pub proof_in : List ℕ → Option (List ℕ)
 proof_in word = if bytes_eq word (codes "-") then Some [] else hex_in 64 word
 
--- a block in hex
+-- one byte, so many times
+unfoldable pub repeated_in : List ℕ → List ℕ → Option (List ℕ)
+repeated_in byte times = do
+  bytes ← hex_in 1 byte
+  n ← number_in 16384 times
+  if nat_le 1 n then Some (replicate n (slice_index bytes 0)) else None
+
+-- 1 to 16,384 bytes in hex, or one byte of them and how often it stands
+unfoldable pub filled_block_in : List (List ℕ) → Option (List ℕ)
+filled_block_in (word ∷ []) = hex_in 16384 word
+filled_block_in (byte ∷ times ∷ []) = repeated_in byte times
+filled_block_in _ = None
+
+-- a block: none as a hyphen
 unfoldable pub block_in : List ℕ → Option (List ℕ)
-block_in word = hex_in 16384 word
+block_in word = if bytes_eq word (codes "-") then Some [] else filled_block_in (parts 42 word)
 
 -- blocks parted by commas
 unfoldable pub blocks_in : List ℕ → Option (List (List ℕ))

@@ -2,9 +2,10 @@
 
 ghost use Rattle.std.specs.Prelude.{◌≡◌, map};
 ghost use Rattle.lks_script.specs.Words.{Gives};
-ghost use Rattle.lks_script.specs.Grammar.{title_line, numbers_line, rules_line, au_line, peer_line, ruled_line, in_peers, in_steps, later_line, declares_peer, planned_line, line_in, ended};
+ghost use Rattle.lks_script.specs.Grammar.{title_line, numbers_line, rules_line, begun, turns_line, au_line, peer_line, ruled_line, in_peers, in_steps, later_line, declares_peer, planned_line, line_in, ended};
 
 use crate::faults::Stop;
+use crate::numbers::number;
 use crate::plan_lines::{
     ListKind, add_copy, add_list, add_peer, any_honest, au, good, may_add, rules,
 };
@@ -13,7 +14,7 @@ use crate::steps::{Script, Step};
 use lks_base::{AuPlan, Plan, Rules, Seq};
 use std::alloc::Global;
 
-/// The events that threads may choose, where a script says nothing of them.
+/// The most events that threads may choose, and how many where a script says nothing of them.
 const TURNS: u32 = 4096;
 
 /// What the lines of a plan have come to.
@@ -34,9 +35,10 @@ pub enum Draft {
     Blank,
     /// Its first line.
     Titled,
-    /// Its rules, and AUs.
+    /// Its rules, its turns if it says so, and AUs.
     Ruled {
         rules: Rules,
+        turns: Option<u32>,
         aus: Seq<AuPlan>,
     },
     /// A plan that breaks no rule, and steps on it.
@@ -69,8 +71,11 @@ fn read_numbers(alloc: Global, more: &[&[u8]]) -> Result<Draft, Stop>
     if !good(&rules) {
         return Err(Stop::Bad);
     }
-    let aus = Seq::from_vec(Vec::new(alloc));
-    Ok(Draft::Ruled { rules, aus })
+    Ok(Draft::Ruled {
+        rules,
+        turns: None,
+        aus: Seq::from_vec(Vec::new(alloc)),
+    })
 }
 
 #[tactic(auto, unfolding(crate::specs::Grammar::rules_line))]
@@ -87,9 +92,37 @@ fn read_rules(alloc: Global, words: &[&[u8]]) -> Result<Draft, Stop>
     }
 }
 
+#[tactic(auto, unfolding(crate::specs::Grammar::turns_line))]
+fn read_turns(
+    alloc: Global,
+    rules: Rules,
+    turns: Option<u32>,
+    aus: Seq<AuPlan>,
+    more: &[&[u8]],
+) -> Result<Draft, Stop>
+    ensures { Gives result (turns_line rules turns aus (map (λ w. w.now) more.now)) }
+{
+    match (turns, aus.as_slice(), more) {
+        (None, [], [word]) => {
+            let turns = number(TURNS, word).ok_or(Stop::Bad)?;
+            Ok(Draft::Ruled {
+                rules,
+                turns: Some(turns),
+                aus: Seq::from_vec(Vec::new(alloc)),
+            })
+        }
+        _ => Err(Stop::Bad),
+    }
+}
+
 #[tactic(auto, unfolding(crate::specs::Grammar::au_line))]
-fn read_au(rules: Rules, aus: Seq<AuPlan>, more: &[&[u8]]) -> Result<Draft, Stop>
-    ensures { Gives result (au_line rules aus (map (λ w. w.now) more.now)) }
+fn read_au(
+    rules: Rules,
+    turns: Option<u32>,
+    aus: Seq<AuPlan>,
+    more: &[&[u8]],
+) -> Result<Draft, Stop>
+    ensures { Gives result (au_line rules turns aus (map (λ w. w.now) more.now)) }
 {
     let au = au(more)?;
     if !may_add(aus.as_slice(), &au) {
@@ -98,7 +131,7 @@ fn read_au(rules: Rules, aus: Seq<AuPlan>, more: &[&[u8]]) -> Result<Draft, Stop
     let mut aus = aus.into_vec();
     aus.push(au)?;
     let aus = Seq::from_vec(aus);
-    Ok(Draft::Ruled { rules, aus })
+    Ok(Draft::Ruled { rules, turns, aus })
 }
 
 #[tactic(auto, unfolding(crate::specs::Grammar::peer_line))]
@@ -110,22 +143,36 @@ fn read_peer(alloc: Global, plan: Plan, steps: Seq<Step>, more: &[&[u8]]) -> Res
     Ok(Draft::Planned { part, plan, steps })
 }
 
+fn begin(alloc: Global, rules: Rules, turns: Option<u32>, aus: Seq<AuPlan>) -> Plan
+    ensures { result ≡ begun rules turns aus }
+{
+    Plan {
+        rules,
+        turns: turns.unwrap_or(TURNS),
+        aus,
+        peers: Seq::from_vec(Vec::new(alloc)),
+    }
+}
+
 #[tactic(auto, unfolding(crate::specs::Grammar::ruled_line))]
-fn read_ruled(alloc: Global, rules: Rules, aus: Seq<AuPlan>, words: &[&[u8]]) -> Result<Draft, Stop>
-    ensures { Gives result (ruled_line rules aus (map (λ w. w.now) words.now)) }
+fn read_ruled(
+    alloc: Global,
+    rules: Rules,
+    turns: Option<u32>,
+    aus: Seq<AuPlan>,
+    words: &[&[u8]],
+) -> Result<Draft, Stop>
+    ensures { Gives result (ruled_line rules turns aus (map (λ w. w.now) words.now)) }
 {
     let [key, more @ ..] = words else {
         return Err(Stop::Bad);
     };
-    if *key == b"au".as_slice() {
-        read_au(rules, aus, more)
+    if *key == b"turns".as_slice() {
+        read_turns(alloc, rules, turns, aus, more)
+    } else if *key == b"au".as_slice() {
+        read_au(rules, turns, aus, more)
     } else if *key == b"peer".as_slice() {
-        let plan = Plan {
-            rules,
-            turns: TURNS,
-            aus,
-            peers: Seq::from_vec(Vec::new(alloc)),
-        };
+        let plan = begin(alloc, rules, turns, aus);
         read_peer(alloc, plan, Seq::from_vec(Vec::new(alloc)), more)
     } else {
         Err(Stop::Bad)
@@ -213,7 +260,7 @@ pub fn read_line(alloc: Global, draft: Draft, words: &[&[u8]]) -> Result<Draft, 
     match draft {
         Draft::Blank => read_title(words),
         Draft::Titled => read_rules(alloc, words),
-        Draft::Ruled { rules, aus } => read_ruled(alloc, rules, aus, words),
+        Draft::Ruled { rules, turns, aus } => read_ruled(alloc, rules, turns, aus, words),
         Draft::Planned { part, plan, steps } => read_planned(alloc, part, plan, steps, words),
     }
 }

@@ -5,7 +5,7 @@ ghost use Rattle.std.specs.List.{position};
 ghost use Rattle.lks_base.specs.Checking.{plan_fault};
 ghost use Rattle.lks_script.specs.StepRules.{are_steps_of};
 ghost use Rattle.lks_script.specs.Words.{Gives, parts};
-ghost use Rattle.lks_script.specs.Grammar.{line_in, line_number, end_in, script_of, Answers};
+ghost use Rattle.lks_script.specs.Grammar.{are_ascii, means_nothing, with_line, line_number, end_in, script_of, Answers};
 
 use crate::drafts::{Draft, into_script, read_line};
 use crate::faults::{ScriptFault, Stop};
@@ -32,9 +32,31 @@ fn first_line(bytes: &[u8]) -> Option<(&[u8], &[u8])>
     Some((line, rest))
 }
 
-fn extend(alloc: Global, draft: Draft, line: &[u8]) -> Result<Draft, Stop>
-    ensures { Gives result (line_in draft (parts 32 line.now)) }
+#[tactic(auto, unfolding(crate::specs::Grammar::are_ascii))]
+fn ascii(text: &[u8]) -> bool
+    ensures { result ≡ are_ascii text.now }
 {
+    text.iter().all(|b| *b < 128)
+}
+
+/// An empty line, or a comment in ASCII.
+#[tactic(auto, unfolding(crate::specs::Grammar::means_nothing))]
+fn is_idle(line: &[u8]) -> bool
+    ensures { result ≡ means_nothing line.now }
+{
+    match line {
+        [] => true,
+        [first, rest @ ..] => *first == b'#' && ascii(rest),
+    }
+}
+
+#[tactic(auto, unfolding(crate::specs::Grammar::with_line))]
+fn extend(alloc: Global, draft: Draft, line: &[u8]) -> Result<Draft, Stop>
+    ensures { Gives result (with_line draft line.now) }
+{
+    if is_idle(line) {
+        return Ok(draft);
+    }
     let words = split(alloc, line, b' ')?;
     read_line(alloc, draft, &words)
 }

@@ -156,8 +156,30 @@ fn lists_and_steps(rt: HostRuntime) -> Result<(), Fail> {
 }
 
 #[test]
+fn turns_and_blocks(rt: HostRuntime) -> Result<(), Fail> {
+    let pieces = [TITLE, RULES, "turns 7\n", AU, PEERS, "copy 1 1 -,5A*3\n"];
+    let bytes = joined(rt.alloc(), &pieces)?;
+    let script = read_script(rt.alloc(), &bytes)
+        .ok()
+        .ok_or("the bytes are a script")?;
+    assert_eq!(rt; script.plan.turns, 7);
+    let [first, ..] = script.plan.peers.as_slice() else {
+        return Err("four peers".into());
+    };
+    let [copy] = first.copies.as_slice() else {
+        return Err("one copy".into());
+    };
+    let [none, three] = copy.blocks.as_slice() else {
+        return Err("two blocks".into());
+    };
+    assert!(rt; none.as_slice().is_empty());
+    assert_eq!(rt; three.as_slice(), b"ZZZ".as_slice());
+    Ok(())
+}
+
+#[test]
 fn first_bad_lines(rt: HostRuntime) -> Result<(), Fail> {
-    let rows: [(&[&str], u32); 35] = [
+    let rows: [(&[&str], u32); 46] = [
         // ends
         (&[], 1),
         (&["lockss 1"], 1),
@@ -168,14 +190,35 @@ fn first_bad_lines(rt: HostRuntime) -> Result<(), Fail> {
         (&[TITLE, RULES, AU, "peer 2 corrupt 02 01\n"], 5),
         // forms
         (&["lockss 2\n"], 1),
-        (&["\n", TITLE], 1),
-        (&["# a comment\n"], 1),
+        (&["\n", TITLE], 3),
+        (&["# a comment\n"], 2),
+        (&[" # no comment\n"], 1),
+        (&["# \u{e9}\n"], 1),
+        (
+            &[
+                "# lockss\n\n",
+                TITLE,
+                "#\n",
+                RULES,
+                "\n",
+                AU,
+                "# four\n",
+                PEERS,
+                "\n",
+            ],
+            0,
+        ),
+        (&[TITLE, RULES, AU, "peer 2 corrupt 02 01\n# none\n"], 6),
         (&["lockss 1\r\n"], 1),
         (&["lockss  1\n"], 1),
         (&["lockss 1 \n"], 1),
         (&[TITLE, RULES, AU, PEERS, LISTS, "frob\n"], 10),
         (&[TITLE, RULES, AU, PEERS, LISTS, "forge 1 2 00\n"], 10),
-        (&[TITLE, RULES, AU, PEERS, LISTS, "settle\n\nsettle\n"], 11),
+        (
+            &[TITLE, RULES, AU, PEERS, LISTS, "settle\n\nsettle\n# end\n"],
+            0,
+        ),
+        (&[TITLE, RULES, AU, PEERS, LISTS, "settle\n# end"], 11),
         (&[TITLE, RULES, AU, PEERS, LISTS, "settle now\n"], 10),
         // rules
         (&[TITLE, "rules inner 4\n"], 2),
@@ -201,6 +244,13 @@ fn first_bad_lines(rt: HostRuntime) -> Result<(), Fail> {
             2,
         ),
         (&[TITLE, RULES, RULES], 3),
+        // turns
+        (&[TITLE, RULES, "turns 0\n", AU, PEERS], 0),
+        (&[TITLE, RULES, "turns 4096\nturns 4096\n"], 4),
+        (&[TITLE, RULES, "turns 4097\n"], 3),
+        (&[TITLE, RULES, "turns\n"], 3),
+        (&[TITLE, RULES, AU, "turns 7\n"], 4),
+        (&[TITLE, RULES, AU, PEERS, "turns 7\n"], 8),
         // AUs
         (&[TITLE, RULES, "au 1 0\n"], 3),
         (&[TITLE, RULES, "au 1 513\n"], 3),
@@ -232,7 +282,7 @@ fn first_bad_lines(rt: HostRuntime) -> Result<(), Fail> {
 
 #[test]
 fn first_bad_lines_behind_the_peers(rt: HostRuntime) -> Result<(), Fail> {
-    let rows: [(&str, u32); 82] = [
+    let rows: [(&str, u32); 91] = [
         // ends
         ("refs 1 2 3 4\ncopy 1 1 41,42", 9),
         // peers
@@ -274,7 +324,16 @@ fn first_bad_lines_behind_the_peers(rt: HostRuntime) -> Result<(), Fail> {
         ("lose\nfriends 1 2\n", 9),
         // copies
         ("copy 1 1 41\n", 8),
-        ("copy 1 1 41,-\n", 8),
+        ("copy 1 1 41,-\n", 0),
+        ("copy 1 1 41*2,fF*16384\n", 0),
+        ("copy 1 1 41*0,42\n", 8),
+        ("copy 1 1 41*16385,42\n", 8),
+        ("copy 1 1 41*02,42\n", 8),
+        ("copy 1 1 4142*2,42\n", 8),
+        ("copy 1 1 41*2*2,42\n", 8),
+        ("copy 1 1 *2,42\n", 8),
+        ("copy 1 1 41*,42\n", 8),
+        ("copy 1 1 -*2,42\n", 8),
         ("copy 1 1 41,\n", 8),
         ("copy 1 2 41,42\n", 8),
         ("copy 2 1 41,42\n", 8),
@@ -287,7 +346,7 @@ fn first_bad_lines_behind_the_peers(rt: HostRuntime) -> Result<(), Fail> {
         ("say 2 vote 3 1 1 of 41\nsay 2 vote 9 1 1 of 41\n", 9),
         ("say 2 vote 1 1 1 41\n", 8),
         ("say 2 repair 1 1 511 43\nsay 2 repair 1 1 512 43\n", 9),
-        ("say 2 repair 1 1 0 -\n", 8),
+        ("say 2 repair 1 1 0 -\nsay 2 repair 1 1 0 5a*16384\n", 0),
         ("say 2 repair 1 1 0\n", 8),
         ("forge 2 1 -\nforge 2 1 0101000000010001\n", 9),
         ("forge 2 1 0g\n", 8),

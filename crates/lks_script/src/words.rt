@@ -1,7 +1,7 @@
 //! Single words: numbers of peers, bytes in hex, blocks.
 
 ghost use Rattle.std.specs.Prelude.{◌≡◌, ◌≤◌, ◌-◌, ◌++◌, map, length, IfOk};
-ghost use Rattle.lks_script.specs.Words.{Gives, Shows, parts, each_in, id_in, poll_in, hex_in, zeros, seed_in, proof_in, index_in, bytes_in, block_in, blocks_in, answer_in, kind_in};
+ghost use Rattle.lks_script.specs.Words.{Gives, Shows, parts, each_in, id_in, poll_in, hex_in, zeros, seed_in, proof_in, index_in, bytes_in, repeated_in, filled_block_in, block_in, blocks_in, answer_in, kind_in};
 ghost use Rattle.lks_script.specs.Numbers.{number_in};
 
 use crate::faults::Stop;
@@ -61,6 +61,7 @@ pub fn split(alloc: Global, text: &[u8], mark: u8) -> Result<Vec<&[u8]>, AllocEr
 #[tactic(auto, unfolding(crate::specs::Words::hex_in))]
 fn hex_bytes(alloc: Global, word: &[u8], most: usize) -> Result<Vec<u8>, Stop>
     ensures value { Shows (λ v. v.items) result (hex_in most word.now) }
+    ensures some { IfOk result (λ v. 1 ≤ length v.items) }
     ensures few { IfOk result (λ v. length v.items ≤ most) }
 {
     match hex::decode(alloc, word) {
@@ -111,12 +112,40 @@ pub fn bytes(alloc: Global, word: &[u8]) -> Result<Bytes, Stop>
     Ok(Bytes::from_vec(hex_bytes(alloc, word, 40_000)?))
 }
 
-/// A block in hex.
+/// One byte, so many times.
+#[tactic(auto, unfolding(crate::specs::Words::repeated_in))]
+fn repeated(alloc: Global, word: &[u8], times: &[u8]) -> Result<Bytes, Stop>
+    ensures { Gives result (repeated_in word.now times.now) }
+{
+    let bytes = hex_bytes(alloc, word, 1)?;
+    let byte = bytes[0];
+    match number(16_384, times) {
+        Some(n) if 1 <= n => Ok(Bytes::from_vec(vec![in alloc; byte; n as usize]?)),
+        _ => Err(Stop::Bad),
+    }
+}
+
+#[tactic(auto, unfolding(crate::specs::Words::filled_block_in))]
+fn filled_block(alloc: Global, words: &[&[u8]]) -> Result<Bytes, Stop>
+    ensures { Gives result (filled_block_in (map (λ w. w.now) words.now)) }
+{
+    match words {
+        [word] => Ok(Bytes::from_vec(hex_bytes(alloc, word, 16_384)?)),
+        [word, times] => repeated(alloc, word, times),
+        _ => Err(Stop::Bad),
+    }
+}
+
+/// A block: a hyphen for none, bytes in hex, or a byte and how often it stands.
 #[tactic(auto, unfolding(crate::specs::Words::block_in))]
 pub fn block(alloc: Global, word: &[u8]) -> Result<Bytes, Stop>
     ensures { Gives result (block_in word.now) }
 {
-    Ok(Bytes::from_vec(hex_bytes(alloc, word, 16_384)?))
+    if word == b"-".as_slice() {
+        return Ok(Bytes::from_vec(Vec::new(alloc)));
+    }
+    let words = split(alloc, word, b'*')?;
+    filled_block(alloc, &words)
 }
 
 fn each_block(alloc: Global, words: &[&[u8]]) -> Result<Blocks, Stop>

@@ -328,6 +328,54 @@ poll 1 1 1 3 0 agreed
 end 19
 ";
 
+// An empty block and one of the greatest length. Comments and empty lines change nothing.
+const HEAD_OF_ENDS: &str = "\
+# Peer 1 holds an empty block.
+lockss 1
+rules inner 4 quorum 3 minority 1 outer 0 repairs 2 pace 0 refractory 0 overdue 100 unknown 100 debt 100 churn 0
+
+au 1 2
+peer 1 honest 01 01
+peer 2 corrupt 02 01
+peer 3 corrupt 03 01
+peer 4 corrupt 04 01
+refs 1 2 3 4
+copy 1 1 -,43
+";
+
+const ENDS: &str = "\
+open 1 1
+say 2 vote 1 1 1 of 4142,5a*16384
+say 3 vote 1 1 1 of 4142,5a*16384
+say 4 vote 1 1 1 of 4142,5a*16384
+settle
+shut 1 1
+settle
+# Both blocks are lost, one after the other.
+say 2 repair 1 1 0 4142
+settle
+say 2 repair 1 1 1 5a*16384
+settle
+";
+
+const ENDS_REPORT: &str = "\
+12 tally 1 1 | asked 1 0 2 | 1
+13 deliver 6 1 2 | - | 0
+14 forge 2 1 12 | - | 1
+15 deliver 7 2 1 | replaced 1 1 0 2 | 0
+16 tally 1 1 | asked 1 1 2 | 1
+17 deliver 8 1 2 | - | 0
+18 forge 2 1 16394 | - | 1
+19 deliver 9 2 1 | replaced 1 1 1 16384 | 0
+20 tally 1 1 | closed 1 agreed | 3
+21 deliver 10 1 2 | - | 0
+22 deliver 11 1 3 | - | 0
+23 deliver 12 1 4 | - | 0
+copy 1 1 2
+poll 1 1 1 3 0 agreed
+end 23
+";
+
 // One vote is a quorum, and one against is a landslide.
 const HEAD_OF_ONE: &str = "\
 lockss 1
@@ -527,6 +575,7 @@ fn reports(rt: HostRuntime) -> Result<(), Fail> {
             &[HEAD_OF_BAD_FIRST, FIRST_REPAIRED],
             &[VOTED, FIRST_REPAIRED_REPORT],
         ),
+        done(&[HEAD_OF_ENDS, ENDS], &[VOTED, ENDS_REPORT]),
         done(&[HEAD_OF_ONE, ONE], &[ONE_REPORT]),
         alarmed(&[HEAD_OF_FIVE, SPLIT], &[SPLIT_REPORT]),
         done(&[HEAD, INQUORATE], &[INQUORATE_REPORT]),
@@ -581,7 +630,7 @@ fn refusals(rt: HostRuntime) -> Result<(), Fail> {
         bad(&["lockss 1\n"], 2),
         bad(&unended, 9),
         bad(&[HEAD, "forge 1 2 00\n"], 10),
-        bad(&[HEAD, "# nothing\n"], 10),
+        bad(&[HEAD, "# nothing"], 10),
         bad(&[HEAD, "forge 2 1 0101000000010001\n"], 10),
         bad(&[HEAD, "say 2 poll 1 1 1\n"], 10),
         failing(&[1], &[], Status::ReadFault),
