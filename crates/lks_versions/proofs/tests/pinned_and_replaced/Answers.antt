@@ -1,0 +1,6 @@
+use Rattle.std.proofs.Common.{rules}
+use Rattle.lks_versions.specs.Shelf.{kept_pinned}
+use Rattle.lks_versions.proofs.tests.pinned_and_replaced.Goals as goal
+
+pub returns-in-Ok-clause-pinned : goal.returns-in-Ok-clause-pinned
+returns-in-Ok-clause-pinned c = kept_pinned _ 0 c.args.poll (search rules)

@@ -1,0 +1,4 @@
+pub mod Each
+pub mod Pins
+pub mod Shelf
+pub mod Whole

@@ -1,0 +1,25 @@
+//! The versions of one copy of an archival unit (AU), and the sessions that pin them.
+//!
+//! A poll or a vote speaks of a copy as it was at one moment (Maniatis et al., ACM TOCS 23(1), 2005, votes block by
+//! block), while a repair may replace a block of it at any time. So a replacement makes a new version that shares all
+//! other blocks with the one before, and a session pins the version that it began with.
+//!
+//! ```rust
+//! use lks_base::{OutOfMemory, PollName};
+//! use lks_blocks::BlockRef;
+//! use lks_versions::Versions;
+//!
+//! fn begin(versions: &mut Versions, poll: PollName) -> Result<Vec<BlockRef>, OutOfMemory>
+//!     requires { IsNone (pin_of poll versions.old.pins) }
+//! {
+//!     let version = versions.pin(poll)?;
+//!     versions.refs(version)
+//! }
+//! ```
+#![tactic(auto)]
+
+#[cfg(test)]
+mod tests;
+mod versions;
+
+pub use versions::{PinTag, Versions};

@@ -1,0 +1,161 @@
+//! A copy through a pin and a replacement, down to the bytes.
+
+ghost use Rattle.std.specs.Prelude.{◌≡◌, [], IfOk, IsNone, length};
+ghost use Rattle.lks_blocks.specs.Block.{AllOf};
+ghost use Rattle.lks_versions.specs.Each.{EachOf};
+ghost use Rattle.lks_versions.specs.Pins.{pin_of};
+ghost use Rattle.lks_versions.specs.Shelf.{IsKept, current_of, newest_of};
+
+use super::*;
+use lks_base::{OutOfMemory, PollName};
+use lks_blocks::{BlockPool, BlockRef};
+use std::alloc::{AllocError, Global};
+use std::sync::Wait;
+use std::test::Fail;
+
+/// The bytes of blocks, one after another.
+#[tactic(auto, unfolding(lks_blocks::specs::Block::AllOf))]
+fn text_of(alloc: Global, pool: &BlockPool, refs: &[BlockRef]) -> Result<Vec<u8>, AllocError>
+    requires { AllOf pool.now refs.now }
+{
+    let mut text = Vec::new(alloc);
+    for r in refs {
+        text.extend_from_slice(pool.read(r))?;
+    }
+    Ok(text)
+}
+
+/// Whether the blocks of a version have these bytes.
+#[tactic(auto, using(crate::specs::Each::each_at))]
+fn reads_as(
+    alloc: Global,
+    pool: &BlockPool,
+    versions: &Versions,
+    version: u32,
+    bytes: &[u8],
+) -> Result<bool, Fail>
+    requires of { EachOf pool.now versions.now.lists }
+    requires kept { IsKept versions.now version }
+{
+    let refs = versions.refs(version)?;
+    Ok(text_of(alloc, pool, refs.as_slice())?.as_slice() == bytes)
+}
+
+/// Whether two versions have the same blocks.
+#[tactic(auto, using(crate::specs::Each::each_at))]
+fn same_at(pool: &BlockPool, versions: &Versions, a: u32, b: u32) -> Result<bool, Fail>
+    requires of { EachOf pool.now versions.now.lists }
+    requires first { IsKept versions.now a }
+    requires second { IsKept versions.now b }
+{
+    let first = versions.refs(a)?;
+    let second = versions.refs(b)?;
+    Ok(pool.same_blocks(first.as_slice(), second.as_slice()))
+}
+
+fn block<R: Wait>(rt: &R, alloc: Global, pool: &BlockPool, bytes: &[u8]) -> Result<BlockRef, Fail>
+    ensures { IfOk result (λ r. r.pool ≡ pool.now) }
+{
+    Ok(pool.put(rt, bytes.to_vec(alloc)?)?)
+}
+
+/// A copy of two blocks.
+fn deposited(
+    alloc: Global,
+    pool: &BlockPool,
+    first: BlockRef,
+    second: BlockRef,
+) -> Result<Versions, Fail>
+    requires first { first.pool ≡ pool.now }
+    requires second { second.pool ≡ pool.now }
+    ensures of { IfOk result (λ v. EachOf pool.now v.lists) }
+    ensures count { IfOk result (λ v. length (newest_of v) ≡ 2) }
+    ensures current { IfOk result (λ v. current_of v ≡ 0) }
+    ensures pins { IfOk result (λ v. v.pins ≡ []) }
+{
+    let _ = pool;
+    Ok(Versions::deposit(alloc, vec![in alloc; first, second]?))
+}
+
+/// Pins the deposit, and puts a block in the place of its last one.
+#[tactic(auto, using(crate::specs::Each::each_replaced))]
+fn pinned_and_replaced(
+    pool: &BlockPool,
+    versions: &mut Versions,
+    poll: PollName,
+    r: BlockRef,
+) -> Result<(), Fail>
+    requires of { EachOf pool.now versions.old.lists }
+    requires block { r.pool ≡ pool.now }
+    requires count { length (newest_of versions.old) ≡ 2 }
+    requires current { current_of versions.old ≡ 0 }
+    requires free { IsNone (pin_of poll versions.old.pins) }
+    ensures of { IfOk result (λ _. EachOf pool.now versions.new.lists) }
+    ensures pinned { IfOk result (λ _. IsKept versions.new 0) }
+    ensures newest { IfOk result (λ _. IsKept versions.new 1) }
+{
+    let _ = pool;
+    versions.pin(poll)?;
+    match versions.replace(1, r) {
+        Ok(_number) => Ok(()),
+        Err(_back) => Err(Fail::from(OutOfMemory)),
+    }
+}
+
+const POLL: PollName = PollName {
+    poller: 2,
+    number: 7,
+};
+
+/// A copy whose deposit is pinned and whose second block was replaced.
+fn prepared<R: Wait>(rt: &R, alloc: Global, pool: &BlockPool) -> Result<Versions, Fail>
+    ensures of { IfOk result (λ v. EachOf pool.now v.lists) }
+    ensures pinned { IfOk result (λ v. IsKept v 0) }
+    ensures newest { IfOk result (λ v. IsKept v 1) }
+{
+    let first = block(rt, alloc, pool, b"A")?;
+    let second = block(rt, alloc, pool, b"bc")?;
+    let other = block(rt, alloc, pool, b"D")?;
+    let mut versions = deposited(alloc, pool, first, second)?;
+    pinned_and_replaced(pool, &mut versions, POLL, other)?;
+    Ok(versions)
+}
+
+/// Whether the deposit is as it was, and the next version has the new block.
+fn is_kept(alloc: Global, pool: &BlockPool, versions: &Versions) -> Result<bool, Fail>
+    requires of { EachOf pool.now versions.now.lists }
+    requires pinned { IsKept versions.now 0 }
+    requires newest { IsKept versions.now 1 }
+{
+    let old = reads_as(alloc, pool, versions, 0, b"Abc")?;
+    let new = reads_as(alloc, pool, versions, 1, b"AD")?;
+    let same = same_at(pool, versions, 0, 0)?;
+    let changed = !same_at(pool, versions, 0, 1)?;
+    Ok(old && new && same && changed)
+}
+
+/// Whether the deposit is pinned, and one replacement was made since.
+fn is_pinned(versions: &Versions) -> bool {
+    let tag = versions.tag(1);
+    versions.pinned(POLL) == Some(0)
+        && versions.current() == 1
+        && tag.first == 0
+        && tag.version == 1
+}
+
+/// Whether the session has no pin once it gave it up.
+fn is_free_after(versions: &mut Versions) -> bool {
+    versions.unpin(POLL);
+    versions.pinned(POLL).is_none()
+}
+
+#[test]
+fn a_pinned_version_stays(rt: HostRuntime) -> Result<(), Fail> {
+    let pool = BlockPool::new(rt.alloc())?;
+    let mut versions = prepared(&rt, rt.alloc(), &pool)?;
+    assert!(rt; is_kept(rt.alloc(), &pool, &versions)?);
+    assert!(rt; is_pinned(&versions));
+    assert!(rt; is_free_after(&mut versions));
+    assert!(rt; pool.reads() == 4);
+    Ok(())
+}
