@@ -1,0 +1,99 @@
+-- Votes by their voters.
+use Rattle.std.proofs.Common.{◌≡◌, ◌≤◌, ℕ, suc, Bool, true, false, ◌||◌, ◌==◌, ◌⊎◌, List, [], ◌∷◌, ◌++◌, length, refl, sym, ◌∙◌, ap, subst, inl, inr, append_assoc}
+use Rattle.std.specs.Prelude.{nat_eq}
+use Rattle.std.specs.Cmp.{nat_eq_equiv}
+use Rattle.std.specs.List.{list_any, IsDistinct, AllByRecursion}
+use Rattle.std.specs.Set.{is_member}
+use Rattle.std.proofs.lemmas.Bool.{or_cases, or_parts, or_from, eqb-true, eq-eqb}
+use Rattle.std.proofs.lemmas.List.{map-append, append-nil}
+use Rattle.std.proofs.lemmas.List.Folds.{list_any-append}
+use Rattle.std.proofs.lemmas.Map.Keys.{IsDistinct-push}
+use Rattle.std.proofs.lemmas.Map.Made.{length-le_from_is_member}
+use Rattle.lks_base.specs.Checking.{has_member}
+use Rattle.lks_tally.specs.declared.ballots.Vote.{Vote}
+use Rattle.lks_tally.specs.Keeping.{has_voted}
+use Rattle.lks_poller.specs.Sound.{voters, AreDistinct}
+
+voters_any : (votes : List Vote) (v : ℕ) → list_any (λ i. i == v) (voters votes) ≡ has_voted votes v
+voters_any [] v = refl
+voters_any (w ∷ ws) v = ap (λ rest. (w.voter == v) || rest) (voters_any ws v)
+
+-- who voted, asked of the voters that were noted
+pub voters_noted : (noted : List ℕ) (votes : List Vote) (v : ℕ) → noted ≡ voters votes → has_member noted v ≡ has_voted votes v
+unfolding has_member
+voters_noted noted votes v e = ap (list_any (λ i. i == v)) e ∙ voters_any votes v
+
+length_voters : (votes : List Vote) → length (voters votes) ≡ length votes
+length_voters [] = refl
+length_voters (w ∷ ws) = ap suc (length_voters ws)
+
+pub length_noted : (noted : List ℕ) (votes : List Vote) → noted ≡ voters votes → length noted ≡ length votes
+length_noted noted votes e = ap length e ∙ length_voters votes
+
+is_member_votes : (votes : List Vote) (v : ℕ) → is_member nat_eq (voters votes) v ≡ has_voted votes v
+is_member_votes [] v = refl
+is_member_votes (w ∷ ws) v = λ i. nat_eq_equiv.symm v w.voter i || is_member_votes ws v i
+
+is_member_ids : (ids : List ℕ) (v : ℕ) → is_member nat_eq ids v ≡ has_member ids v
+unfolding has_member
+is_member_ids [] v = refl
+is_member_ids (w ∷ ws) v = λ i. nat_eq_equiv.symm v w i || is_member_ids ws v i
+
+-- the vote of a peer that hasn't voted
+pub distinct_more : (votes : List Vote) (v : Vote) → AreDistinct votes → has_voted votes v.voter ≡ false → AreDistinct (votes ++ v ∷ [])
+distinct_more votes v distinct new =
+    rw (map-append (λ w. w.voter) votes (v ∷ []))
+    (IsDistinct-push nat_eq_equiv (voters votes) v.voter distinct (is_member_votes votes v.voter ∙ new))
+
+-- distinct voters out of a circle are no more than it has members
+pub few_voters : (ids : List ℕ) (votes : List Vote) → AreDistinct votes → ((v : ℕ) → has_voted votes v ≡ true → has_member ids v ≡ true)
+    → length votes ≤ length ids
+few_voters ids votes distinct within =
+    let fewer : length (voters votes) ≤ length ids =
+    length-le_from_is_member nat_eq_equiv (voters votes) ids distinct
+    (λ v found. is_member_ids ids v ∙ within v (sym (is_member_votes votes v) ∙ found)) in
+    rw (← length_voters votes) fewer
+
+-- one vote more makes one voter more
+pub voted_more : (votes : List Vote) (v : Vote) (w : ℕ) → has_voted (votes ++ v ∷ []) w ≡ true → (has_voted votes w ≡ true) ⊎ (v.voter ≡ w)
+voted_more votes v w found =
+    by_part (or_cases (has_voted votes w) ((v.voter == w) || false) (sym (list_any-append (λ x. x.voter == w) votes (v ∷ [])) ∙ found)) where
+      last : (v.voter == w || false) ≡ true → v.voter ≡ w
+      last h = elim (or_cases (v.voter == w) false h) [ inl same ↦ eqb-true v.voter w same | inr never ↦ absurd cc ]
+
+      by_part : (has_voted votes w ≡ true) ⊎ ((v.voter == w || false) ≡ true) → (has_voted votes w ≡ true) ⊎ (v.voter ≡ w)
+      by_part (inl before) = inl before
+      by_part (inr here) = inr (last here)
+
+-- Voters of two lists that share none.
+
+all_other : (v : ℕ) (votes : List Vote) → AllByRecursion (λ w. nat_eq v w ≡ false) (voters votes) → has_voted votes v ≡ false
+all_other v [] none = refl
+all_other v (w ∷ ws) others = or_from (w.voter == v) (has_voted ws v) (nat_eq_equiv.symm w.voter v ∙ others.0) (all_other v ws others.1)
+
+split : (y : Vote) (ys : List Vote) → AreDistinct (y ∷ ys) → (has_voted ys y.voter ≡ false) × AreDistinct ys
+unfolding IsDistinct
+split y ys distinct = (all_other y.voter ys distinct.0, distinct.1)
+
+pub distinct_append : (xs ys : List Vote) → AreDistinct xs → AreDistinct ys → ((v : ℕ) → has_voted xs v ≡ true → has_voted ys v ≡ false)
+    → AreDistinct (xs ++ ys)
+distinct_append xs [] distinct none apart = rw (append-nil xs) distinct
+distinct_append xs (y ∷ ys) distinct others apart =
+    rw (← append_assoc xs (y ∷ []) ys)
+    (distinct_append (xs ++ y ∷ []) ys (distinct_more xs y distinct new) parts.1 (λ v found. rest v (voted_more xs y v found))) where
+      parts : (has_voted ys y.voter ≡ false) × AreDistinct ys
+      parts = split y ys others
+
+      own : has_voted (y ∷ ys) y.voter ≡ true
+      own = ap (λ b. b || has_voted ys y.voter) (eq-eqb y.voter y.voter refl)
+
+      by_test : (b : Bool) → has_voted xs y.voter ≡ b → has_voted xs y.voter ≡ false
+      by_test true found = let no : has_voted (y ∷ ys) y.voter ≡ false = apart y.voter found in absurd (cc own)
+      by_test false found = found
+
+      new : has_voted xs y.voter ≡ false
+      new = by_test (has_voted xs y.voter) refl
+
+      rest : (v : ℕ) → (has_voted xs v ≡ true) ⊎ (y.voter ≡ v) → has_voted ys v ≡ false
+      rest v (inl before) = (or_parts (y.voter == v) (has_voted ys v) (apart v before)).1
+      rest v (inr here) = subst (λ w. has_voted ys w ≡ false) here parts.0

@@ -1,0 +1,7 @@
+use Rattle.std.proofs.Common.{refl, rules}
+use Rattle.lks_poller.proofs.Soundness.{sound_begun}
+use Rattle.lks_poller.proofs.sessions.PollSession.new.Goals as goal
+
+pub invariant_of-result : goal.invariant_of-result
+invariant_of-result c =
+    sound_begun _ c.requires.few (search rules) c.in_ok-votes.ensures.votes (search rules) refl refl (search rules)

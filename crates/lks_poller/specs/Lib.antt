@@ -1,0 +1,4 @@
+pub mod Polling
+pub mod Rules
+pub mod Shown
+pub mod Sound

@@ -1,0 +1,92 @@
+-- What contracts see of a poll that its poller runs, and what each call leaves of it.
+use Rattle.std.specs.Prelude.{ℕ, Bool, true, false, if◌then◌else◌, Option, Some, None, List, [], ◌∷◌, ◌++◌, nat_lt, length}
+use Rattle.lks_base.specs.Checking.{has_member}
+use Rattle.lks_base.specs.declared.names.Limits.{Limits}
+use Rattle.lks_repair.specs.Asking.{Asked}
+use Rattle.lks_tally.specs.declared.ballots.Ballot.{Ballot}
+use Rattle.lks_tally.specs.declared.ballots.Vote.{Vote}
+use Rattle.lks_tally.specs.Keeping as keeping
+use Rattle.lks_tally.specs.Keeping.{Tallied, forgotten}
+use Rattle.lks_poller.specs.declared.stages.Answer.{Answer}
+use Rattle.lks_poller.specs.declared.stages.Answer.TheVariants.{Replace, Bad, NotAsked}
+use Rattle.lks_poller.specs.declared.stages.Next.{Next}
+use Rattle.lks_poller.specs.declared.stages.Next.TheVariants.{Close, Ask}
+use Rattle.lks_poller.specs.declared.stages.Nomination.{Nomination}
+
+-- The tally of the inner votes, with the poll's ballot and numbers; the inner circle; who nominated whom, in order; the
+-- outer circle once it is invited, and its votes; whether voting ended and whether the poll did; who was asked for blocks.
+pub record Polled : Type 0 where
+  pub tally : Tallied
+  pub inner : List ℕ
+  pub nominations : List Nomination
+  pub outer : Option (List ℕ)
+  pub outer_votes : List Vote
+  pub shut : Bool
+  pub closed : Bool
+  pub suppliers : Asked
+
+-- a poll that begins; `room` is that of its tally
+abbrev pub begun : Ballot → Limits → List ℕ → ℕ → Polled
+begun ballot limits inner room =
+    record {
+      tally = record { ballot = ballot; limits = limits; votes = []; kept = 0; hashes = []; room = room };
+      inner = inner;
+      nominations = [];
+      outer = None;
+      outer_votes = [];
+      shut = false;
+      closed = false;
+      suppliers = record { asked = []; waiting = false };
+    }
+
+abbrev pub nominated : Polled → ℕ → List ℕ → Polled
+nominated s from list = record s { nominations = s.nominations ++ record { voter = from; nominees = list } ∷ [] }
+
+abbrev pub widened : Polled → List ℕ → Polled
+widened s outer = record s { outer = Some outer }
+
+abbrev pub voted_inner : Polled → Vote → Polled
+voted_inner s vote = record s { tally = keeping.voted s.tally vote }
+
+abbrev pub voted_outer : Polled → Vote → Polled
+voted_outer s vote = record s { outer_votes = s.outer_votes ++ vote ∷ [] }
+
+-- the vote of an inner peer is counted, and that of an outer one kept beside
+abbrev pub voted : Polled → ℕ → List (List ℕ) → Polled
+voted s from hashes =
+    if has_member s.inner from
+    then voted_inner s (record { voter = from; hashes = hashes })
+    else voted_outer s (record { voter = from; hashes = hashes })
+
+-- fewer inner votes than the quorum
+abbrev pub is_inquorate : Polled → Bool
+is_inquorate s = nat_lt (length s.tally.votes) s.tally.limits.quorum
+
+-- voting ends, and with fewer inner votes than the quorum the poll too
+abbrev pub ended : Polled → Polled
+ended s = record s { shut = true; closed = is_inquorate s }
+
+abbrev pub closed : Polled → Polled
+closed s = record s { closed = true }
+
+abbrev pub asked : Polled → ℕ → ℕ → Polled
+asked s b voter = record s { suppliers = record { asked = s.suppliers.asked ++ (b, voter) ∷ []; waiting = true } }
+
+-- the poll as it is once this is done
+abbrev pub moved : Polled → Next → Polled
+moved s (Close outcome) = closed s
+moved s (Ask b voter) = asked s b voter
+
+-- nothing is waited for
+abbrev pub released : Polled → Polled
+released s = record s { suppliers = record s.suppliers { waiting = false } }
+
+-- a replaced block ends the request, and the running hashes from it on are forgotten
+abbrev pub replaced : Polled → ℕ → Polled
+replaced s b = record s { tally = forgotten b s.tally; suppliers = record s.suppliers { waiting = false } }
+
+-- the poll after an answer about block b
+abbrev pub answered : Polled → ℕ → Answer → Polled
+answered s b Replace = replaced s b
+answered s b Bad = released s
+answered s b NotAsked = s

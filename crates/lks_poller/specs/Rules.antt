@@ -1,0 +1,106 @@
+-- The rules of a poll: when each call changes it, and what it answers.
+use Rattle.std.specs.Prelude.{◌≡◌, ◌<◌, ℕ, Bool, true, false, not, ◌&&◌, ◌||◌, ◌==◌, ◌-◌, if◌then◌else◌, Option, Some, None, is_some, unwrap_or, List, [], slice_set}
+use Rattle.std.specs.List.{list_any}
+use Rattle.lks_base.specs.Checking.{has_member}
+use Rattle.lks_base.specs.declared.names.Outcome.TheVariants as outcome
+use Rattle.lks_repair.specs.Asking.{next_at, awaited}
+use Rattle.lks_tally.specs.declared.ballots.At.{At}
+use Rattle.lks_tally.specs.declared.ballots.At.TheVariants as at
+use Rattle.lks_tally.specs.declared.ballots.Verdict.{Verdict}
+use Rattle.lks_tally.specs.declared.ballots.Verdict.TheVariants.{Inquorate, Agreed, Loss, Split}
+use Rattle.lks_tally.specs.Counting.{verdict_at, voters_against, voters_for}
+use Rattle.lks_tally.specs.Keeping as keeping
+use Rattle.lks_poller.specs.declared.stages.Answer.{Answer}
+use Rattle.lks_poller.specs.declared.stages.Answer.TheVariants.{Replace, Bad, NotAsked}
+use Rattle.lks_poller.specs.declared.stages.Next.{Next}
+use Rattle.lks_poller.specs.declared.stages.Next.TheVariants.{Close, Ask}
+use Rattle.lks_poller.specs.declared.stages.Nomination.{Nomination}
+use Rattle.lks_poller.specs.declared.stages.Stage.{Stage}
+use Rattle.lks_poller.specs.declared.stages.Stage.TheVariants as stage
+use Rattle.lks_poller.specs.Polling.{Polled}
+
+abbrev pub stage_of : Polled → Stage
+stage_of s =
+    if s.closed then stage.Closed
+    else (if s.suppliers.waiting then stage.Asking
+    else (if s.shut then stage.Shut else (if is_some s.outer then stage.Widened else stage.Inviting)))
+
+-- Votes are open until voting ends.
+unfoldable pub is_voting : Polled → Bool
+is_voting s = not s.closed && not s.shut
+
+-- what is true of a poll at this stage
+abbrev pub IsAt : Polled → Stage → Type 0
+IsAt s stage.Inviting = (is_voting s ≡ true) × (is_some s.outer ≡ false)
+IsAt s stage.Widened = (is_voting s ≡ true) × (is_some s.outer ≡ true)
+IsAt s stage.Shut = (s.shut ≡ true) × (s.closed ≡ false) × (s.suppliers.waiting ≡ false)
+IsAt s stage.Asking = (s.suppliers.waiting ≡ true) × (s.shut ≡ true) × (s.closed ≡ false)
+IsAt s stage.Closed = s.closed ≡ true
+
+-- The outer circle is invited once, while votes are open.
+unfoldable pub may_widen : Polled → Bool
+may_widen s = is_voting s && not (is_some s.outer)
+
+unfoldable pub has_nominated : List Nomination → ℕ → Bool
+has_nominated nominations from = list_any (λ n. n.voter == from) nominations
+
+-- Each inner peer nominates once, until the outer circle is invited.
+unfoldable pub may_nominate : Polled → ℕ → Bool
+may_nominate s from = may_widen s && has_member s.inner from && not (has_nominated s.nominations from)
+
+-- The inner circle is invited, then the outer one.
+unfoldable pub is_invited : Polled → ℕ → Bool
+is_invited s voter = has_member s.inner voter || has_member (unwrap_or s.outer []) voter
+
+unfoldable pub has_voted : Polled → ℕ → Bool
+has_voted s voter = keeping.has_voted s.tally.votes voter || keeping.has_voted s.outer_votes voter
+
+-- Each invited peer votes once, while votes are open, with a hash for each block.
+unfoldable pub may_vote : Polled → ℕ → ℕ → Bool
+may_vote s from hashes = is_voting s && is_invited s from && not (has_voted s from) && (hashes == s.tally.ballot.count)
+
+-- the first of the inner voters against the copy at b, in order of their votes, that wasn't asked for it
+abbrev pub candidate : Polled → List (List ℕ) → ℕ → Option ℕ
+candidate s blocks b = next_at s.suppliers.asked b (voters_against s.tally.ballot s.tally.votes blocks b)
+
+abbrev pub asking : ℕ → Option ℕ → Next
+asking b None = Close (outcome.NoSupplier b)
+asking b (Some voter) = Ask b voter
+
+-- The first block that isn't a win decides: a split closes the poll; at a loss the first candidate is asked for the
+-- block, and without one the poll is closed.
+abbrev pub next_of : Polled → Verdict → List (List ℕ) → Next
+next_of s Inquorate blocks = Close outcome.Inquorate
+next_of s Agreed blocks = Close outcome.Agreed
+next_of s (Split b) blocks = Close (outcome.Split b)
+next_of s (Loss b) blocks = asking b (candidate s blocks b)
+
+-- the running hashes of the block at which the copy lost are kept
+abbrev pub IsKept : Verdict → ℕ → Type 0
+IsKept (Loss b) kept = b < kept
+IsKept _ kept = Unit {0}
+
+abbrev pub names : Option (ℕ × ℕ) → ℕ → ℕ → Bool
+names None b voter = false
+names (Some request) b voter = request.0 == b && request.1 == voter
+
+-- whether the request that isn't answered yet is to this peer, for block b
+unfoldable pub is_asked : Polled → ℕ → ℕ → Bool
+is_asked s from b = names (awaited s.suppliers) b from
+
+-- what the inner votes say at b of the copy with these bytes there
+abbrev pub said : Polled → ℕ → List ℕ → List (List ℕ) → At
+said s b bytes blocks = verdict_at s.tally.limits.minority s.tally.ballot s.tally.votes (slice_set blocks b bytes) b
+
+abbrev pub judgment : At → Answer
+judgment at.Win = Replace
+judgment at.Loss = Bad
+judgment at.Split = Bad
+
+-- A repair answers the request to its sender for its block. It is taken where the votes are for the copy with it.
+abbrev pub answer_of : Polled → ℕ → ℕ → List ℕ → List (List ℕ) → Answer
+answer_of s from b bytes blocks = if is_asked s from b then judgment (said s b bytes blocks) else NotAsked
+
+-- the outer voters that are for the copy at its last block
+abbrev pub outer_for : Polled → List (List ℕ) → List ℕ
+outer_for s blocks = voters_for s.tally.ballot s.outer_votes blocks (s.tally.ballot.count - 1)

@@ -1,0 +1,16 @@
+-- What contracts see of a session.
+use Rattle.lks_poller.specs.declared.sessions.PollSession.TheInside.{Inside}
+use Rattle.lks_poller.specs.Polling.{Polled}
+
+abbrev pub shown : Inside → Polled
+shown a =
+    record {
+      tally = a.votes;
+      inner = a.inner;
+      nominations = a.nominations.items;
+      outer = a.outer;
+      outer_votes = a.outer_votes.items;
+      shut = a.shut;
+      closed = a.closed;
+      suppliers = a.suppliers;
+    }
