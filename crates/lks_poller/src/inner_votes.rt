@@ -152,6 +152,14 @@ impl InnerVotes {
         self.tally.against(alloc, b)
     }
 
+    /// A reserved copy of the tally.
+    pub fn copy(&self, alloc: Global) -> Result<Tally, OutOfMemory>
+        ensures same { IfOk result (λ t. t ≡ record self.now { room = t.room }) }
+        ensures reserved { IfOk result (λ t. IsReserved t) }
+    {
+        self.tally.copy(alloc)
+    }
+
     /// Puts a tally of the same votes in place.
     pub fn put(&mut self, t: Tally)
         requires reserved { IsReserved t }

@@ -264,6 +264,14 @@ impl PollSession {
         )
     }
 
+    /// A reserved copy of the session's tally, with the running hashes of its last verdict.
+    pub fn tally(&self) -> Result<Tally, OutOfMemory>
+        ensures same { IfOk result (λ t. t ≡ record self.now.tally { room = t.room }) }
+        ensures reserved { IfOk result (λ t. IsReserved t) }
+    {
+        self.votes.copy(self.alloc)
+    }
+
     /// Puts a tally of the same votes in the place of the session's.
     pub fn put_tally(&mut self, t: Tally)
         requires reserved { IsReserved t }

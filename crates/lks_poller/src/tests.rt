@@ -251,3 +251,12 @@ fn widening(rt: HostRuntime) -> Result<(), Fail> {
     ];
     play_all(&rt, rt.alloc(), &acts)
 }
+
+#[test]
+fn copied_tally(rt: HostRuntime) -> Result<(), Fail> {
+    let mut session = opened(rt.alloc())?;
+    let tally = session.tally()?;
+    session.put_tally(tally);
+    assert_eq!(rt; session.kept(), 0);
+    Ok(())
+}

@@ -167,3 +167,25 @@ pub fn same_votes(a: &[Vote], b: &[Vote]) -> bool
     }
     true
 }
+
+pub fn copy_votes(alloc: Global, votes: &[Vote]) -> Result<Vec<Vote>, OutOfMemory>
+    ensures { IfOk result (λ copies. copies.items ≡ votes.now) }
+{
+    let mut copies = Vec::new(alloc);
+    for vote in votes {
+        let hashes = vote.hashes.clone()?;
+        copies.push(Vote {
+            voter: vote.voter,
+            hashes,
+        })?;
+    }
+    Ok(copies)
+}
+
+pub fn copy_hashes(alloc: Global, hashes: &[[u8; 32]]) -> Result<Vec<[u8; 32]>, OutOfMemory>
+    ensures { IfOk result (λ copies. copies.items ≡ hashes.now) }
+{
+    let mut copies = Vec::new(alloc);
+    copies.extend_from_slice(hashes)?;
+    Ok(copies)
+}

@@ -203,6 +203,24 @@ impl Tally {
             && counts::same_votes(&self.votes, &other.votes)
     }
 
+    /// A reserved copy, with the running hashes that are kept.
+    pub fn copy(&self, alloc: Global) -> Result<Tally, OutOfMemory>
+        ensures same { IfOk result (λ t. t ≡ record self.now { room = t.room }) }
+        ensures reserved { IfOk result (λ t. IsReserved t) }
+    {
+        let mut copy = Tally {
+            ballot: self.ballot,
+            limits: self.limits,
+            votes: counts::copy_votes(alloc, &self.votes)?,
+            rows: Rows {
+                count: self.rows.count,
+                hashes: counts::copy_hashes(alloc, &self.rows.hashes)?,
+            },
+        };
+        copy.reserve()?;
+        Ok(copy)
+    }
+
     /// The voters against the copy of the last verdict at block `b`, in order of their votes.
     pub fn against(&self, alloc: Global, b: u16) -> Result<Ids, OutOfMemory>
         requires { b < self.now.kept }

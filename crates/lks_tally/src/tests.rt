@@ -196,6 +196,12 @@ fn second_kind(rt: HostRuntime) -> Result<(), Fail> {
     Ok(())
 }
 
+// Whether a copy of a tally has its votes and keeps as many hashes.
+fn is_copied(alloc: Global, tally: &Tally) -> Result<bool, Fail> {
+    let copy = tally.copy(alloc)?;
+    Ok(copy.same(tally) && copy.kept() == tally.kept())
+}
+
 // Three votes over `41,43`, on a copy `41,42` whose second block is repaired.
 fn repair_counted<L: Ledger, R: Abort>(rt: &R, blank: Blank, alloc: Global) -> Result<(), Fail>
     requires { Opens blank L.name L.parts }
@@ -216,6 +222,7 @@ fn repair_counted<L: Ledger, R: Abort>(rt: &R, blank: Blank, alloc: Global) -> R
     assert_eq!(rt; tally.verdict(&voted, &mut steps), Verdict::Agreed);
     let again = tally_of(alloc, kind, kind, 2, &votes, &mut steps)?;
     assert!(rt; tally.same(&again));
+    assert!(rt; is_copied(alloc, &tally)?);
     Ok(())
 }
 
