@@ -1,16 +1,14 @@
 //! Whether a plan is good, and if not, which rule it breaks first.
 
 ghost use Rattle.std.specs.Prelude.{◌≡◌, ◌+◌, ◌<◌, IfSome, IfNone, nat_le, []};
-ghost use Rattle.lks_base.specs.Checking.{fault_of, unless, each, is_within, are_bounded, are_ordered, has_au, au_fault, has_peer, has_member, member_fault, has_counted, has_copy, are_short, copy_fault, is_bare, is_fit, peer_fault, bytes_of_blocks, bytes_of_copies, bytes_of_peers, plan_fault};
+ghost use Rattle.lks_base.specs.Checking.{fault_of, unless, each, is_within, are_bounded, are_ordered, has_au, au_fault, has_peer, has_corrupt, has_honest, has_member, member_fault, has_counted, has_copy, are_short, copy_fault, is_bare, is_fit, peer_fault, bytes_of_blocks, bytes_of_copies, bytes_of_peers, plan_fault};
 
+use crate::limits::{
+    MOST_AUS, MOST_BLOCK_BYTES, MOST_BLOCKS, MOST_CIRCLE, MOST_COPY_BYTES, MOST_EVENTS, MOST_PEERS,
+    MOST_PROOF_BYTES, MOST_REPAIRS, MOST_TICKS, obeys_quorum_rule,
+};
 use crate::lists::Bytes;
 use crate::plans::{AuPlan, Holding, PeerPlan, Plan, PlanFault, Rules};
-
-/// The most bytes that all copies of a plan have together.
-const MOST_BYTES: usize = 134_217_728;
-
-/// The most bytes that a block has.
-const MOST_BLOCK_BYTES: usize = 16_384;
 
 fn rule(test: bool, fault: PlanFault) -> Result<(), PlanFault>
     ensures { fault_of result ≡ unless test fault }
@@ -29,16 +27,16 @@ fn within(low: usize, high: usize, n: usize) -> bool
 pub fn are_bounded(rules: &Rules) -> bool
     ensures { result ≡ are_bounded rules.now }
 {
-    within(1, 16, rules.inner as usize)
+    within(1, MOST_CIRCLE as usize, rules.inner as usize)
         && 1 <= rules.quorum
-        && rules.outer <= 16
-        && rules.repairs <= 512
-        && rules.pace <= 1_000_000
-        && rules.refractory <= 1_000_000
-        && rules.overdue <= 1_000_000
+        && rules.outer <= MOST_CIRCLE
+        && rules.repairs <= MOST_REPAIRS
+        && rules.pace <= MOST_TICKS
+        && rules.refractory <= MOST_TICKS
+        && rules.overdue <= MOST_TICKS
         && rules.unknown_pct <= 100
         && rules.debt_pct <= 100
-        && rules.churn <= 16
+        && rules.churn <= MOST_CIRCLE
 }
 
 /// Whether twice the minority is less than the quorum, and this no more than the inner circle.
@@ -46,7 +44,7 @@ pub fn are_bounded(rules: &Rules) -> bool
 pub fn are_ordered(rules: &Rules) -> bool
     ensures { result ≡ are_ordered rules.now }
 {
-    2 * u32::from(rules.minority) < u32::from(rules.quorum) && rules.quorum <= rules.inner
+    obeys_quorum_rule(rules.quorum, rules.minority) && rules.quorum <= rules.inner
 }
 
 /// Whether an AU of this number is among these.
@@ -61,7 +59,10 @@ pub fn has_au(aus: &[AuPlan], id: u16) -> bool
 fn check_au(before: &[AuPlan], au: &AuPlan) -> Result<(), PlanFault>
     ensures { fault_of result ≡ au_fault before.now au.now }
 {
-    rule(within(1, 512, au.count as usize), PlanFault::Bounds)?;
+    rule(
+        within(1, MOST_BLOCKS as usize, au.count as usize),
+        PlanFault::Bounds,
+    )?;
     rule(!has_au(before, au.id), PlanFault::Repeat)
 }
 
@@ -80,6 +81,22 @@ pub fn has_peer(peers: &[PeerPlan], id: u16) -> bool
     ensures { result ≡ has_peer peers.now id }
 {
     peers.iter().any(|p| p.id == id)
+}
+
+/// Whether a corrupt peer of this number is among these.
+#[tactic(auto, unfolding(crate::specs::Checking::has_corrupt))]
+pub fn has_corrupt(peers: &[PeerPlan], id: u16) -> bool
+    ensures { result ≡ has_corrupt peers.now id }
+{
+    peers.iter().any(|p| p.id == id && p.corrupt)
+}
+
+/// Whether an honest peer of this number is among these.
+#[tactic(auto, unfolding(crate::specs::Checking::has_honest))]
+pub fn has_honest(peers: &[PeerPlan], id: u16) -> bool
+    ensures { result ≡ has_honest peers.now id }
+{
+    peers.iter().any(|p| p.id == id && !p.corrupt)
 }
 
 /// Whether the number is among these.
@@ -130,7 +147,7 @@ pub fn are_short(blocks: &[Bytes]) -> bool
 {
     blocks
         .iter()
-        .all(|b| b.as_slice().len() <= MOST_BLOCK_BYTES)
+        .all(|b| b.as_slice().len() <= MOST_BLOCK_BYTES as usize)
 }
 
 #[tactic(auto, unfolding(crate::specs::Checking::copy_fault))]
@@ -165,7 +182,7 @@ fn bare(peer: &PeerPlan) -> bool
 fn fit(peer: &PeerPlan) -> bool
     ensures { result ≡ is_fit peer.now }
 {
-    peer.proof.as_slice().len() <= 64 && (!peer.corrupt || bare(peer))
+    peer.proof.as_slice().len() <= MOST_PROOF_BYTES as usize && (!peer.corrupt || bare(peer))
 }
 
 #[tactic(auto, unfolding(crate::specs::Checking::peer_fault))]
@@ -225,9 +242,9 @@ fn room_after_peers(mut room: usize, peers: &[PeerPlan]) -> Option<usize>
 }
 
 fn few_bytes(peers: &[PeerPlan]) -> bool
-    ensures { result ≡ nat_le (bytes_of_peers peers.now) 134217728 }
+    ensures { result ≡ nat_le (bytes_of_peers peers.now) MOST_COPY_BYTES }
 {
-    room_after_peers(MOST_BYTES, peers).is_some()
+    room_after_peers(MOST_COPY_BYTES as usize, peers).is_some()
 }
 
 impl Plan {
@@ -240,10 +257,13 @@ impl Plan {
         let peers = self.peers.as_slice();
         rule(are_bounded(&self.rules), PlanFault::Bounds)?;
         rule(are_ordered(&self.rules), PlanFault::RulesOrder)?;
-        rule(self.turns <= 4096, PlanFault::Bounds)?;
-        rule(within(1, 4, aus.len()), PlanFault::Bounds)?;
+        rule(self.turns <= MOST_EVENTS as u32, PlanFault::Bounds)?;
+        rule(within(1, MOST_AUS as usize, aus.len()), PlanFault::Bounds)?;
         check_aus(aus)?;
-        rule(within(1, 32, peers.len()), PlanFault::Bounds)?;
+        rule(
+            within(1, MOST_PEERS as usize, peers.len()),
+            PlanFault::Bounds,
+        )?;
         check_peers(aus, peers)?;
         rule(few_bytes(peers), PlanFault::Bounds)
     }

@@ -54,6 +54,13 @@ pub enum PeerStep {
     },
 }
 
+/// What is due in a world: an envelope waits to be delivered, or a peer has a step of its own to take.
+#[derive(Clone, Copy)]
+pub enum Due {
+    Delivery { envelope: u32 },
+    Own(PeerStep),
+}
+
 /// One event of a history.
 #[derive(Drop)]
 pub enum Event {

@@ -4,6 +4,7 @@
 mod checking;
 mod entries;
 mod events;
+mod limits;
 mod lists;
 mod memory;
 mod messages;
@@ -12,13 +13,21 @@ mod plans;
 mod reactions;
 mod records;
 
-pub use checking::{are_bounded, are_ordered, are_short, has_au, has_copy, has_member, has_peer};
+pub use checking::{
+    are_bounded, are_ordered, are_short, has_au, has_copy, has_corrupt, has_honest, has_member,
+    has_peer,
+};
 pub use entries::{Entry, Note};
-pub use events::{Envelope, Event, PeerStep};
+pub use events::{Due, Envelope, Event, PeerStep};
+pub use limits::{
+    LAST_BLOCK, MOST_AUS, MOST_BLOCK_BYTES, MOST_BLOCKS, MOST_CIRCLE, MOST_COPY_BYTES, MOST_EVENTS,
+    MOST_FORGED_BYTES, MOST_NOMINEES, MOST_PEERS, MOST_PROOF_BYTES, MOST_REPAIRS, MOST_TICKS,
+    obeys_quorum_rule,
+};
 pub use lists::{Blocks, Bytes, Contents, Hashes, Ids, Seq};
 pub use memory::OutOfMemory;
 pub use messages::Message;
-pub use names::{AuId, HashKind, Judged, Limits, Outcome, PeerId, PollName};
+pub use names::{AuId, HashKind, Judged, Limits, Numbers, Outcome, PeerId, PollName};
 pub use plans::{AuPlan, Holding, PeerPlan, Plan, PlanFault, Rules};
 pub use reactions::{Input, Outgoing, Reaction};
 pub use records::Record;

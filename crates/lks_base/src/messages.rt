@@ -24,12 +24,12 @@ pub enum Message {
         kind: HashKind,
         proof: Bytes,
     },
-    /// Names peers for the outer circle, at most 8.
+    /// Names peers for the outer circle, at most `MOST_NOMINEES`.
     Nominate {
         number: u32,
         nominees: Ids,
     },
-    /// The running hash after each block, at most 512, with proof of the voter's effort.
+    /// The running hash after each block, with proof of the voter's effort.
     Vote {
         number: u32,
         hashes: Hashes,

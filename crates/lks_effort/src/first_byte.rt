@@ -1,7 +1,7 @@
 //! A judge that looks at one byte.
 
 ghost use Rattle.std.specs.Prelude.{◌≡◌, [], IfOk};
-ghost use Rattle.lks_effort.specs.Verdicts.{begins_with_one};
+ghost use Rattle.lks_effort.specs.Verdicts.{begins_with_one, first_byte};
 
 use crate::judges::EffortJudge;
 use crate::questions::{Heard, Question};
@@ -29,7 +29,7 @@ impl FirstByteJudge {
     pub fn new(alloc: Global) -> Result<FirstByteJudge, OutOfMemory>
         ensures heard { IfOk result (λ j. j ≡ []) }
         ensures verdict { IfOk result (λ j.
-            ⟦<FirstByteJudge as EffortJudge>⟧.verdict j ≡ (λ _ q. begins_with_one q.proof)) }
+            ⟦<FirstByteJudge as EffortJudge>⟧.verdict j ≡ first_byte) }
     {
         let heard = Heard::new(alloc)?;
         Ok(FirstByteJudge { heard })
@@ -39,7 +39,7 @@ impl FirstByteJudge {
 impl EffortJudge for FirstByteJudge {
     ghost heard = { λ j. j };
 
-    ghost verdict = { λ _ _ q. begins_with_one q.proof };
+    ghost verdict = { λ _. first_byte };
 
     fn judge(&mut self, q: Question) -> bool {
         let accepted = begins_with_one(q.proof.as_slice());
@@ -48,7 +48,8 @@ impl EffortJudge for FirstByteJudge {
     }
 }
 
-fn begins_with_one(proof: &[u8]) -> bool
+/// Whether the first byte of a proof is 1.
+pub fn begins_with_one(proof: &[u8]) -> bool
     ensures { result ≡ begins_with_one proof.now }
 {
     match proof {

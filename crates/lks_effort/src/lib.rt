@@ -2,7 +2,8 @@
 //! 23(1), 2005, section 4).
 //!
 //! A judge stands in for the check of a real proof. Its verdict is a function of the questions that it heard before and
-//! of the one that it is asked. It hears at most 4,096 questions, and has the room for them from the start.
+//! of the one that it is asked. It hears at most as many questions as a history has events, and has the room for them from
+//! the start.
 //!
 //! ```rust
 //! use lks_base::OutOfMemory;
@@ -22,7 +23,7 @@ mod judges;
 mod listed;
 mod questions;
 
-pub use first_byte::FirstByteJudge;
+pub use first_byte::{FirstByteJudge, begins_with_one};
 pub use judges::EffortJudge;
 pub use listed::ListJudge;
 pub use questions::Question;

@@ -2,7 +2,7 @@
 
 ghost use Rattle.std.specs.Prelude.{◌≡◌, ◌<◌, [], ◌∷◌, ◌++◌, IfOk, length};
 
-use lks_base::{Bytes, OutOfMemory, PeerId};
+use lks_base::{Bytes, MOST_EVENTS, OutOfMemory, PeerId};
 use std::alloc::Global;
 use std::marker::Model;
 
@@ -17,10 +17,7 @@ pub struct Question {
     pub proof: Bytes,
 }
 
-/// How many questions a judge has room for.
-const ROOM: usize = 4096;
-
-/// Questions in order, with room for 4,096, of which contracts see the questions alone.
+/// Questions in order, with room for as many as a history has events, of which contracts see the questions alone.
 #[derive(Drop)]
 pub(crate) struct Heard {
     questions: Vec<Question>,
@@ -28,21 +25,21 @@ pub(crate) struct Heard {
 
 impl Model for Heard {
     ghost use Rattle.std.specs.Prelude.{◌≤◌, List, vec_capacity};
-    ghost use Rattle.lks_effort.specs.declared.questions.TheConstants.{ROOM};
+    ghost use Rattle.lks_base.specs.declared.limits.TheConstants.{MOST_EVENTS};
     ghost use Rattle.lks_effort.specs.declared.questions.Question.{Question};
 
     ghost Value = { List Question };
 
     ghost view = { λ h. h.questions.items };
 
-    ghost invariant = { λ h. ROOM ≤ vec_capacity h.questions };
+    ghost invariant = { λ h. MOST_EVENTS ≤ vec_capacity h.questions };
 }
 
 impl Heard {
     pub(crate) fn new(alloc: Global) -> Result<Heard, OutOfMemory>
         ensures { IfOk result (λ h. h ≡ []) }
     {
-        let questions = Vec::with_capacity(alloc, ROOM)?;
+        let questions = Vec::with_capacity(alloc, MOST_EVENTS as usize)?;
         Ok(Heard { questions })
     }
 
@@ -53,7 +50,7 @@ impl Heard {
     }
 
     pub(crate) fn keep(&mut self, q: Question)
-        requires { length self.old < ROOM }
+        requires { length self.old < MOST_EVENTS }
         ensures { self.new ≡ self.old ++ q ∷ [] }
     {
         self.questions.push_reserved(q);

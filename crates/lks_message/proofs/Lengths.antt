@@ -1,12 +1,17 @@
 -- How long a message's spelling is.
-use Rattle.std.proofs.Common.{◌≡◌, ℕ, ◌+◌, ◌*◌, List, [], ◌∷◌, length, refl, ap, ◌∙◌, arith}
+use Rattle.std.proofs.Common.{◌≡◌, ℕ, ◌+◌, ◌*◌, ◌≤◌, List, [], ◌∷◌, length, refl, ap, ◌∙◌, arith}
 use Rattle.std.specs.Prelude.{All}
+use Rattle.std.specs.Int.{w16, to_be_bytes}
 use Rattle.std.specs.List.{flat_map, AllByRecursion}
 use Rattle.std.proofs.lemmas.List.{length-append}
 use Rattle.std.proofs.lemmas.List.Concat.{flat_map-cons}
 use Rattle.std.proofs.lemmas.List.Elements.{recursion_from_All}
-use Rattle.lks_base.specs.declared.messages.Message.TheVariants.{Vote, Repair}
-use Rattle.lks_message.specs.Spelling.{spelling}
+use Rattle.lks_base.specs.declared.limits.TheConstants.{MOST_FORGED_BYTES}
+use Rattle.lks_base.specs.declared.messages.Message.{Message}
+use Rattle.lks_base.specs.declared.messages.Message.TheVariants.{Poll, PollChallenge, PollProof, Nominate, Vote, RepairRequest, Repair, Receipt}
+use Rattle.lks_base.specs.declared.names.HashKind.{HashKind}
+use Rattle.lks_base.specs.declared.names.HashKind.TheVariants.{Sha256, Sha512_256}
+use Rattle.lks_message.specs.Spelling.{spelling, kind_bytes, IsInLimits}
 
 joined_length : (hashes : List (List ℕ)) → AllByRecursion (λ h. length h ≡ 32) hashes → length (flat_map (λ h. h) hashes) ≡ 32 * length hashes
 joined_length [] h = refl
@@ -22,3 +27,36 @@ length-spelling_vote number hashes proof all =
 pub length-spelling_repair : (number block : ℕ) (bytes : List ℕ) → length (spelling (Repair number block bytes)) ≡ 10 + length bytes
 unfolding spelling
 length-spelling_repair number block bytes = simp length-append (omega arith)
+
+nominee_length : (nominees : List ℕ) → length (flat_map (to_be_bytes w16) nominees) ≡ 2 * length nominees
+nominee_length [] = refl
+nominee_length (x ∷ xs) = ap length (flat_map-cons (to_be_bytes w16) x xs) ∙ simp length-append (omega (arith, nominee_length xs))
+
+kind_length : (kind : HashKind) → length (kind_bytes kind) ≤ 1
+kind_length Sha256 = omega arith
+kind_length Sha512_256 = omega arith
+
+-- a message in its limits is no longer than a forged one may be
+pub short_spelling : (m : Message) → IsInLimits m → length (spelling m) ≤ MOST_FORGED_BYTES
+unfolding spelling
+short_spelling (Poll number au) h = omega arith
+short_spelling (PollChallenge number joins) h = omega arith
+short_spelling (PollProof number nonce kind proof) h =
+    let k = kind_length kind in
+    let few = h.0 in
+    let size = h.1.1 in
+    simp length-append (omega (arith, k, few, size))
+short_spelling (Nominate number nominees) h =
+    let few = h.0 in
+    let size = nominee_length nominees in
+    simp length-append (omega (arith, few, size))
+short_spelling (Vote number hashes proof) h =
+    let few = h.0.0 in
+    let short = h.0.1 in
+    let joined : length (flat_map (λ (h : List ℕ). h) hashes) ≡ 32 * length hashes = joined_length hashes (recursion_from_All (λ h. length h ≡ 32) hashes h.1.1) in
+    simp length-append (omega (arith, few, short, joined))
+short_spelling (RepairRequest number block) h = omega arith
+short_spelling (Repair number block bytes) h =
+    let short = h.0.1 in
+    simp length-append (omega (arith, short))
+short_spelling (Receipt number) h = omega arith

@@ -2,3 +2,4 @@ pub mod Stops
 pub mod Parts
 pub mod Laws
 pub mod Lengths
+pub mod Within

@@ -5,6 +5,7 @@ use Rattle.std.specs.List.{flat_map, AllByRecursion}
 use Rattle.std.specs.Int.{w16, to_be_bytes}
 use Rattle.std.proofs.lemmas.Bool.{eqb-true}
 use Rattle.std.proofs.lemmas.List.Elements.{All-from_recursion, recursion_from_All}
+use Rattle.lks_base.specs.declared.limits.TheConstants.{LAST_BLOCK, MOST_BLOCKS, MOST_BLOCK_BYTES, MOST_NOMINEES, MOST_PROOF_BYTES}
 use Rattle.lks_base.specs.declared.names.HashKind.{HashKind}
 use Rattle.lks_base.specs.declared.names.HashKind.TheVariants.{Sha256, Sha512_256}
 use Rattle.lks_field.specs.Reading.{◌>>=◌, byte_at, bytes_at, hash_at, number_at, upto_at, many_at}
@@ -36,9 +37,9 @@ au_field = told_field told_as (number_at w16) (to_be_bytes w16) (λ n. n < 2 ^ 1
 pub flag_field : IsField (λ bytes. field (upto_at 1 byte_at bytes)) single (λ n. n ≤ 1)
 flag_field = byte_upto 1 (omega arith)
 
-pub block_field : IsField block_at (to_be_bytes w16) (λ n. n ≤ 511)
+pub block_field : IsField block_at (to_be_bytes w16) (λ n. n ≤ LAST_BLOCK)
 unfolding block_at
-block_field = be16_upto 511 (omega arith)
+block_field = be16_upto LAST_BLOCK (omega arith)
 
 -- ---- bytes
 
@@ -49,36 +50,36 @@ nonce_field = told_field told_as hash_at (λ x. x) (λ x. length x ≡ 32) hash_
 run_of : (n : ℕ) → IsField (λ bytes. field (bytes_at n bytes)) (λ x. x) (λ x. (length x ≡ n) × Unit {0})
 run_of n = field_as (λ bytes. field (bytes_at n bytes)) (λ x. x) (λ x. length x ≡ n) (λ x. (length x ≡ n) × Unit {0}) (λ x h. (h, tt)) (λ x h. h.0) (told_field told_as (bytes_at n) (λ x. x) (λ x. length x ≡ n) (run_field n))
 
-pub proof_field : IsField proof_at proof_bytes (λ x. length x ≤ 64)
+pub proof_field : IsField proof_at proof_bytes (λ x. length x ≤ MOST_PROOF_BYTES)
 unfolding proof_at
 proof_field =
-    field_as proof_at proof_bytes (λ x. (length x ≤ 64) × Unit {0}) (λ x. length x ≤ 64) (λ x h. h.0) (λ x h. (h, tt))
-    (sized_field (λ bytes. field (upto_at 64 byte_at bytes)) single (λ n. n ≤ 64) (byte_upto 64 (omega arith)) (λ n bytes. field (bytes_at n bytes)) (λ x. length x) (λ x. x) (λ _. Unit {0}) run_of)
+    field_as proof_at proof_bytes (λ x. (length x ≤ MOST_PROOF_BYTES) × Unit {0}) (λ x. length x ≤ MOST_PROOF_BYTES) (λ x h. h.0) (λ x h. (h, tt))
+    (sized_field (λ bytes. field (upto_at MOST_PROOF_BYTES byte_at bytes)) single (λ n. n ≤ MOST_PROOF_BYTES) (byte_upto MOST_PROOF_BYTES (omega arith)) (λ n bytes. field (bytes_at n bytes)) (λ x. length x) (λ x. x) (λ _. Unit {0}) run_of)
 
-pub content_field : IsField content_at content_bytes (λ x. length x ≤ 16384)
+pub content_field : IsField content_at content_bytes (λ x. length x ≤ MOST_BLOCK_BYTES)
 unfolding content_at
 content_field =
-    field_as content_at content_bytes (λ x. (length x ≤ 16384) × Unit {0}) (λ x. length x ≤ 16384) (λ x h. h.0) (λ x h. (h, tt))
-    (sized_field (λ bytes. field (upto_at 16384 (number_at w16) bytes)) (to_be_bytes w16) (λ n. n ≤ 16384) (be16_upto 16384 (omega arith)) (λ n bytes. field (bytes_at n bytes)) (λ x. length x) (λ x. x) (λ _. Unit {0}) run_of)
+    field_as content_at content_bytes (λ x. (length x ≤ MOST_BLOCK_BYTES) × Unit {0}) (λ x. length x ≤ MOST_BLOCK_BYTES) (λ x h. h.0) (λ x h. (h, tt))
+    (sized_field (λ bytes. field (upto_at MOST_BLOCK_BYTES (number_at w16) bytes)) (to_be_bytes w16) (λ n. n ≤ MOST_BLOCK_BYTES) (be16_upto MOST_BLOCK_BYTES (omega arith)) (λ n bytes. field (bytes_at n bytes)) (λ x. length x) (λ x. x) (λ _. Unit {0}) run_of)
 
 -- ---- lists
 
 many_of : {X : Type 0} (reader : _) (spell : X → List ℕ) (Fits : X → Type 0) → IsField reader spell Fits → (n : ℕ) → IsField (λ bytes. field (many_at reader n bytes)) (flat_map spell) (λ xs. (length xs ≡ n) × AllByRecursion Fits xs)
 many_of reader spell Fits is n = told_field told_as (many_at reader n) (flat_map spell) (λ xs. (length xs ≡ n) × AllByRecursion Fits xs) (many_field reader spell Fits is n)
 
-pub nominees_field : IsField nominees_at nominee_bytes (λ xs. (length xs ≤ 8) × All (λ n. n < 2 ^ 16) xs)
+pub nominees_field : IsField nominees_at nominee_bytes (λ xs. (length xs ≤ MOST_NOMINEES) × All (λ n. n < 2 ^ 16) xs)
 unfolding nominees_at
 nominees_field =
-    field_as nominees_at nominee_bytes (λ xs. (length xs ≤ 8) × AllByRecursion (λ n. n < 2 ^ 16) xs) (λ xs. (length xs ≤ 8) × All (λ n. n < 2 ^ 16) xs)
+    field_as nominees_at nominee_bytes (λ xs. (length xs ≤ MOST_NOMINEES) × AllByRecursion (λ n. n < 2 ^ 16) xs) (λ xs. (length xs ≤ MOST_NOMINEES) × All (λ n. n < 2 ^ 16) xs)
     (λ xs h. (h.0, All-from_recursion (λ n. n < 2 ^ 16) xs h.1)) (λ xs h. (h.0, recursion_from_All (λ n. n < 2 ^ 16) xs h.1))
-    (sized_field (λ bytes. field (upto_at 8 byte_at bytes)) single (λ n. n ≤ 8) (byte_upto 8 (omega arith)) (λ n bytes. field (many_at (number_at w16) n bytes)) (λ xs. length xs) (flat_map (to_be_bytes w16)) (AllByRecursion (λ n. n < 2 ^ 16)) (many_of (number_at w16) (to_be_bytes w16) (λ n. n < 2 ^ 16) be16_field))
+    (sized_field (λ bytes. field (upto_at MOST_NOMINEES byte_at bytes)) single (λ n. n ≤ MOST_NOMINEES) (byte_upto MOST_NOMINEES (omega arith)) (λ n bytes. field (many_at (number_at w16) n bytes)) (λ xs. length xs) (flat_map (to_be_bytes w16)) (AllByRecursion (λ n. n < 2 ^ 16)) (many_of (number_at w16) (to_be_bytes w16) (λ n. n < 2 ^ 16) be16_field))
 
-pub hashes_field : IsField hashes_at hash_bytes (λ xs. (length xs ≤ 512) × All (λ h. length h ≡ 32) xs)
+pub hashes_field : IsField hashes_at hash_bytes (λ xs. (length xs ≤ MOST_BLOCKS) × All (λ h. length h ≡ 32) xs)
 unfolding hashes_at
 hashes_field =
-    field_as hashes_at hash_bytes (λ xs. (length xs ≤ 512) × AllByRecursion (λ h. length h ≡ 32) xs) (λ xs. (length xs ≤ 512) × All (λ h. length h ≡ 32) xs)
+    field_as hashes_at hash_bytes (λ xs. (length xs ≤ MOST_BLOCKS) × AllByRecursion (λ h. length h ≡ 32) xs) (λ xs. (length xs ≤ MOST_BLOCKS) × All (λ h. length h ≡ 32) xs)
     (λ xs h. (h.0, All-from_recursion (λ h. length h ≡ 32) xs h.1)) (λ xs h. (h.0, recursion_from_All (λ h. length h ≡ 32) xs h.1))
-    (sized_field (λ bytes. field (upto_at 512 (number_at w16) bytes)) (to_be_bytes w16) (λ n. n ≤ 512) (be16_upto 512 (omega arith)) (λ n bytes. field (many_at hash_at n bytes)) (λ xs. length xs) (flat_map (λ h. h)) (AllByRecursion (λ h. length h ≡ 32)) (many_of hash_at (λ h. h) (λ h. length h ≡ 32) hash_field))
+    (sized_field (λ bytes. field (upto_at MOST_BLOCKS (number_at w16) bytes)) (to_be_bytes w16) (λ n. n ≤ MOST_BLOCKS) (be16_upto MOST_BLOCKS (omega arith)) (λ n bytes. field (many_at hash_at n bytes)) (λ xs. length xs) (flat_map (λ h. h)) (AllByRecursion (λ h. length h ≡ 32)) (many_of hash_at (λ h. h) (λ h. length h ≡ 32) hash_field))
 
 -- ---- kinds
 

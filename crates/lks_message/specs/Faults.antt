@@ -6,10 +6,12 @@ use Rattle.lks_field.specs.Reading.{told}
 use Rattle.lks_message.specs.declared.fault.MsgFault.{MsgFault}
 use Rattle.lks_message.specs.declared.fault.MsgFault.TheVariants.{Short, Limit, Trailing}
 
+-- the fault of a message that a fault of a field is
 abbrev pub told_as : FieldFault → MsgFault
 told_as fields.Short = Short
 told_as fields.Value = Limit
 told_as fields.Long = Trailing
 
+-- what is read of a field, with its fault told so
 abbrev pub field : {X : Type 0} → Result X FieldFault → Result X MsgFault
 field read = told told_as read

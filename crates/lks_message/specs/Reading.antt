@@ -1,6 +1,7 @@
 -- Reading a message from left to right, with the first fault that is met.
 use Rattle.std.specs.Prelude.{◌≡◌, ◌==◌, ℕ, List, Result, Ok, Err, if◌then◌else◌}
 use Rattle.std.specs.Int.{w16, w32}
+use Rattle.lks_base.specs.declared.limits.TheConstants.{LAST_BLOCK, MOST_BLOCKS, MOST_BLOCK_BYTES, MOST_NOMINEES, MOST_PROOF_BYTES}
 use Rattle.lks_base.specs.declared.messages.Message.{Message}
 use Rattle.lks_base.specs.declared.messages.Message.TheVariants as messages
 use Rattle.lks_base.specs.declared.names.HashKind.{HashKind}
@@ -14,6 +15,7 @@ use Rattle.lks_message.specs.Faults.{field}
 
 -- ---- version and tag
 
+-- what a tag announces under the first version
 unfoldable pub first_heading : ℕ → Result Heading MsgFault
 first_heading tag =
     if tag == 1 then Ok Poll
@@ -26,6 +28,7 @@ first_heading tag =
     else if tag == 8 then Ok Receipt
     else Err Tag
 
+-- and under the second, which has the proofs of the second kind of hash alone
 unfoldable pub second_heading : ℕ → Result Heading MsgFault
 second_heading tag = if tag == 3 then Ok (PollProof Sha512_256) else Err Tag
 
@@ -36,6 +39,7 @@ tagged heading_of bytes = do
   heading ← heading_of tag.0
   Ok (heading, tag.1)
 
+-- version and tag: the version is judged before the tag is read
 unfoldable pub heading_at : List ℕ → Result (Heading × List ℕ) MsgFault
 heading_at bytes = do
   version ← field (byte_at bytes)
@@ -45,47 +49,56 @@ heading_at bytes = do
 
 -- ---- fields
 
+-- the second kind is spelled by a byte, the first by none
 unfoldable pub kind_at : HashKind → List ℕ → Result (Unit {0} × List ℕ) MsgFault
 kind_at Sha256 bytes = Ok (tt, bytes)
 kind_at Sha512_256 bytes = do
   kind ← field (byte_at bytes)
   if kind.0 == 2 then Ok (tt, kind.1) else Err Limit
 
+-- a proof of effort behind its length
 unfoldable pub proof_at : List ℕ → Result (List ℕ × List ℕ) MsgFault
 proof_at bytes = do
-  n ← field (upto_at 64 byte_at bytes)
+  n ← field (upto_at MOST_PROOF_BYTES byte_at bytes)
   field (bytes_at n.0 n.1)
 
+-- nominees behind their count
 unfoldable pub nominees_at : List ℕ → Result (List ℕ × List ℕ) MsgFault
 nominees_at bytes = do
-  n ← field (upto_at 8 byte_at bytes)
+  n ← field (upto_at MOST_NOMINEES byte_at bytes)
   field (many_at (number_at w16) n.0 n.1)
 
+-- hashes behind their count
 unfoldable pub hashes_at : List ℕ → Result (List (List ℕ) × List ℕ) MsgFault
 hashes_at bytes = do
-  n ← field (upto_at 512 (number_at w16) bytes)
+  n ← field (upto_at MOST_BLOCKS (number_at w16) bytes)
   field (many_at hash_at n.0 n.1)
 
+-- the number of a block
 unfoldable pub block_at : List ℕ → Result (ℕ × List ℕ) MsgFault
-block_at bytes = field (upto_at 511 (number_at w16) bytes)
+block_at bytes = field (upto_at LAST_BLOCK (number_at w16) bytes)
 
+-- the bytes of a block behind their length
 unfoldable pub content_at : List ℕ → Result (List ℕ × List ℕ) MsgFault
 content_at bytes = do
-  n ← field (upto_at 16384 (number_at w16) bytes)
+  n ← field (upto_at MOST_BLOCK_BYTES (number_at w16) bytes)
   field (bytes_at n.0 n.1)
 
 -- ---- messages, behind their number
 
+-- an invitation to a poll: its AU
 unfoldable pub poll_at : ℕ → List ℕ → Result (Message × List ℕ) MsgFault
 poll_at number bytes = do
   au ← field (number_at w16 bytes)
   Ok (messages.Poll number au.0, au.1)
 
+-- the answer to one: whether the peer takes part
 unfoldable pub challenge_at : ℕ → List ℕ → Result (Message × List ℕ) MsgFault
 challenge_at number bytes = do
   joins ← field (upto_at 1 byte_at bytes)
   Ok (messages.PollChallenge number (joins.0 == 1), joins.1)
 
+-- the proof of a poll: its nonce, its kind of hash and the proof
 unfoldable pub poll_proof_at : HashKind → ℕ → List ℕ → Result (Message × List ℕ) MsgFault
 poll_proof_at kind number bytes = do
   nonce ← field (hash_at bytes)
@@ -93,28 +106,33 @@ poll_proof_at kind number bytes = do
   proof ← proof_at known.1
   Ok (messages.PollProof number nonce.0 kind proof.0, proof.1)
 
+-- a nomination: its nominees
 unfoldable pub nominate_at : ℕ → List ℕ → Result (Message × List ℕ) MsgFault
 nominate_at number bytes = do
   nominees ← nominees_at bytes
   Ok (messages.Nominate number nominees.0, nominees.1)
 
+-- a vote: its hashes and the proof
 unfoldable pub vote_at : ℕ → List ℕ → Result (Message × List ℕ) MsgFault
 vote_at number bytes = do
   hashes ← hashes_at bytes
   proof ← proof_at hashes.1
   Ok (messages.Vote number hashes.0 proof.0, proof.1)
 
+-- a request for a repair: the block
 unfoldable pub request_at : ℕ → List ℕ → Result (Message × List ℕ) MsgFault
 request_at number bytes = do
   block ← block_at bytes
   Ok (messages.RepairRequest number block.0, block.1)
 
+-- a repair: the block and its bytes
 unfoldable pub repair_at : ℕ → List ℕ → Result (Message × List ℕ) MsgFault
 repair_at number bytes = do
   block ← block_at bytes
   content ← content_at block.1
   Ok (messages.Repair number block.0 content.0, content.1)
 
+-- the message that the heading announces
 abbrev pub message_at : Heading → ℕ → List ℕ → Result (Message × List ℕ) MsgFault
 message_at Poll number bytes = poll_at number bytes
 message_at PollChallenge number bytes = challenge_at number bytes
@@ -125,6 +143,7 @@ message_at RepairRequest number bytes = request_at number bytes
 message_at Repair number bytes = repair_at number bytes
 message_at Receipt number bytes = Ok (messages.Receipt number, bytes)
 
+-- the message that all of the bytes spell, or their first fault
 unfoldable pub decode_of : List ℕ → Result Message MsgFault
 decode_of bytes = do
   heading ← heading_at bytes

@@ -2,14 +2,17 @@
 use Rattle.std.specs.Prelude.{◌≡◌, ℕ, ◌<◌, ◌≤◌, ◌^◌, Bool, true, false, List, [], ◌∷◌, ◌++◌, length, All}
 use Rattle.std.specs.List.{flat_map}
 use Rattle.std.specs.Int.{w16, w32, to_be_bytes}
+use Rattle.lks_base.specs.declared.limits.TheConstants.{LAST_BLOCK, MOST_BLOCKS, MOST_BLOCK_BYTES, MOST_NOMINEES, MOST_PROOF_BYTES}
 use Rattle.lks_base.specs.declared.messages.Message.{Message}
 use Rattle.lks_base.specs.declared.messages.Message.TheVariants.{Poll, PollChallenge, PollProof, Nominate, Vote, RepairRequest, Repair, Receipt}
 use Rattle.lks_base.specs.declared.names.HashKind.{HashKind}
 use Rattle.lks_base.specs.declared.names.HashKind.TheVariants.{Sha256, Sha512_256}
 
+-- what each message begins with: its version, its tag and the number of its poll
 abbrev pub start : ℕ → ℕ → ℕ → List ℕ
 start version tag number = version ∷ tag ∷ to_be_bytes w32 number
 
+-- the byte of yes or no
 abbrev pub flag : Bool → ℕ
 flag false = 0
 flag true = 1
@@ -19,22 +22,28 @@ abbrev pub version_of : HashKind → ℕ
 version_of Sha256 = 1
 version_of Sha512_256 = 2
 
+-- the second kind has a byte, the first none
 abbrev pub kind_bytes : HashKind → List ℕ
 kind_bytes Sha256 = []
 kind_bytes Sha512_256 = 2 ∷ []
 
+-- a proof behind its length
 abbrev pub proof_bytes : List ℕ → List ℕ
 proof_bytes proof = length proof ∷ proof
 
+-- nominees behind their count
 abbrev pub nominee_bytes : List ℕ → List ℕ
 nominee_bytes nominees = length nominees ∷ flat_map (to_be_bytes w16) nominees
 
+-- hashes behind their count
 abbrev pub hash_bytes : List (List ℕ) → List ℕ
 hash_bytes hashes = to_be_bytes w16 (length hashes) ++ flat_map (λ h. h) hashes
 
+-- the bytes of a block behind their length
 abbrev pub content_bytes : List ℕ → List ℕ
 content_bytes bytes = to_be_bytes w16 (length bytes) ++ bytes
 
+-- the one spelling of a message
 unfoldable pub spelling : Message → List ℕ
 spelling (Poll number au) = start 1 1 number ++ to_be_bytes w16 au
 spelling (PollChallenge number joins) = start 1 2 number ++ flag joins ∷ []
@@ -49,11 +58,11 @@ spelling (Receipt number) = start 1 8 number
 abbrev pub IsWithin : Message → Type 0
 IsWithin (Poll number au) = Unit {0}
 IsWithin (PollChallenge number joins) = Unit {0}
-IsWithin (PollProof number nonce kind proof) = length proof ≤ 64
-IsWithin (Nominate number nominees) = length nominees ≤ 8
-IsWithin (Vote number hashes proof) = (length hashes ≤ 512) × (length proof ≤ 64)
-IsWithin (RepairRequest number block) = block ≤ 511
-IsWithin (Repair number block bytes) = (block ≤ 511) × (length bytes ≤ 16384)
+IsWithin (PollProof number nonce kind proof) = length proof ≤ MOST_PROOF_BYTES
+IsWithin (Nominate number nominees) = length nominees ≤ MOST_NOMINEES
+IsWithin (Vote number hashes proof) = (length hashes ≤ MOST_BLOCKS) × (length proof ≤ MOST_PROOF_BYTES)
+IsWithin (RepairRequest number block) = block ≤ LAST_BLOCK
+IsWithin (Repair number block bytes) = (block ≤ LAST_BLOCK) × (length bytes ≤ MOST_BLOCK_BYTES)
 IsWithin (Receipt number) = Unit {0}
 
 -- numbers, nonces and hashes have the sizes of their types
@@ -67,5 +76,6 @@ IsSized (RepairRequest number block) = number < 2 ^ 32
 IsSized (Repair number block bytes) = number < 2 ^ 32
 IsSized (Receipt number) = number < 2 ^ 32
 
+-- a message that has a spelling which is read again
 abbrev pub IsInLimits : Message → Type 0
 IsInLimits m = IsWithin m × IsSized m

@@ -9,19 +9,12 @@ ghost use Rattle.lks_message.specs.Reading.{Reads, Gives, kind_at, proof_at, nom
 
 use crate::fault::MsgFault;
 use crate::heading::{Heading, heading_of};
-use lks_base::{Bytes, HashKind, Hashes, Ids, Message};
+use lks_base::{
+    Bytes, HashKind, Hashes, Ids, LAST_BLOCK, MOST_BLOCK_BYTES, MOST_BLOCKS, MOST_NOMINEES,
+    MOST_PROOF_BYTES, Message,
+};
 use lks_field::Fields;
 use std::alloc::Global;
-
-const MOST_NOMINEES: u8 = 8;
-
-const MOST_HASHES: u16 = 512;
-
-const MOST_PROOF: u8 = 64;
-
-const LAST_BLOCK: u16 = 511;
-
-const MOST_CONTENT: u16 = 16_384;
 
 #[tactic(auto, unfolding(lks_field::specs::Reading::upto_at))]
 fn byte_upto(most: u8, fields: &mut Fields<'_>) -> Result<u8, MsgFault>
@@ -51,7 +44,7 @@ fn kind_of(kind: HashKind, fields: &mut Fields<'_>) -> Result<(), MsgFault>
 fn proof_of(alloc: Global, fields: &mut Fields<'_>) -> Result<Bytes, MsgFault>
     ensures { Reads result fields.new (proof_at fields.old) }
 {
-    let length = byte_upto(MOST_PROOF, fields)?;
+    let length = byte_upto(MOST_PROOF_BYTES, fields)?;
     let proof = fields.get_bytes(length as usize)?;
     Ok(Bytes::from_vec(Vec::from_slice(alloc, proof)?))
 }
@@ -90,7 +83,7 @@ fn many_hashes(alloc: Global, count: u16, fields: &mut Fields<'_>) -> Result<Has
 fn hashes_of(alloc: Global, fields: &mut Fields<'_>) -> Result<Hashes, MsgFault>
     ensures { Reads result fields.new (hashes_at fields.old) }
 {
-    let count = fields.get_upto(MOST_HASHES)?;
+    let count = fields.get_upto(MOST_BLOCKS)?;
     many_hashes(alloc, count, fields)
 }
 
@@ -105,7 +98,7 @@ fn block_of(fields: &mut Fields<'_>) -> Result<u16, MsgFault>
 fn content_of(alloc: Global, fields: &mut Fields<'_>) -> Result<Bytes, MsgFault>
     ensures { Reads result fields.new (content_at fields.old) }
 {
-    let length = fields.get_upto(MOST_CONTENT)?;
+    let length = fields.get_upto(MOST_BLOCK_BYTES)?;
     let content = fields.get_bytes(length as usize)?;
     Ok(Bytes::from_vec(Vec::from_slice(alloc, content)?))
 }

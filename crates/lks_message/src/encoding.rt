@@ -1,6 +1,7 @@
 //! Messages to bytes.
 
 ghost use Rattle.std.specs.Prelude.{◌≡◌, ◌≤◌, ◌++◌, length, OnOk, IfOk};
+ghost use Rattle.lks_base.specs.declared.limits.TheConstants.{MOST_BLOCKS, MOST_BLOCK_BYTES, MOST_FORGED_BYTES, MOST_NOMINEES, MOST_PROOF_BYTES};
 ghost use Rattle.lks_message.specs.Spelling.{start, version_of, kind_bytes, proof_bytes, nominee_bytes, hash_bytes, content_bytes, spelling, IsWithin, IsSized};
 ghost use Rattle.lks_message.specs.Reading.{decode_of};
 
@@ -19,7 +20,7 @@ fn put_start(out: &mut Vec<u8>, version: u8, tag: u8, number: u32) -> Written
 }
 
 fn put_proof(out: &mut Vec<u8>, proof: &[u8]) -> Written
-    requires { length proof.now ≤ 64 }
+    requires { length proof.now ≤ MOST_PROOF_BYTES }
     ensures { OnOk result (out.new.items ≡ out.old.items ++ proof_bytes proof.now) }
 {
     put_u8(out, proof.len() as u8)?;
@@ -27,7 +28,7 @@ fn put_proof(out: &mut Vec<u8>, proof: &[u8]) -> Written
 }
 
 fn put_nominees(out: &mut Vec<u8>, nominees: &[u16]) -> Written
-    requires { length nominees.now ≤ 8 }
+    requires { length nominees.now ≤ MOST_NOMINEES }
     ensures { OnOk result (out.new.items ≡ out.old.items ++ nominee_bytes nominees.now) }
 {
     put_u8(out, nominees.len() as u8)?;
@@ -38,7 +39,7 @@ fn put_nominees(out: &mut Vec<u8>, nominees: &[u16]) -> Written
 }
 
 fn put_hashes(out: &mut Vec<u8>, hashes: &[[u8; 32]]) -> Written
-    requires { length hashes.now ≤ 512 }
+    requires { length hashes.now ≤ MOST_BLOCKS }
     ensures { OnOk result (out.new.items ≡ out.old.items ++ hash_bytes hashes.now) }
 {
     put_be16(out, hashes.len() as u16)?;
@@ -49,7 +50,7 @@ fn put_hashes(out: &mut Vec<u8>, hashes: &[[u8; 32]]) -> Written
 }
 
 fn put_content(out: &mut Vec<u8>, bytes: &[u8]) -> Written
-    requires { length bytes.now ≤ 16384 }
+    requires { length bytes.now ≤ MOST_BLOCK_BYTES }
     ensures { OnOk result (out.new.items ≡ out.old.items ++ content_bytes bytes.now) }
 {
     put_be16(out, bytes.len() as u16)?;
@@ -100,7 +101,7 @@ fn put_poll_proof(
     kind: HashKind,
     proof: &[u8],
 ) -> Written
-    requires { length proof.now ≤ 64 }
+    requires { length proof.now ≤ MOST_PROOF_BYTES }
     ensures spelled { OnOk result (out.new.items ≡ out.old.items ++ spelling (Message.PollProof number nonce.now kind proof.now)) }
     ensures sized { IsSized (Message.PollProof number nonce.now kind proof.now) }
 {
@@ -112,7 +113,7 @@ fn put_poll_proof(
 
 #[tactic(auto, unfolding(crate::specs::Spelling::spelling))]
 fn put_nominate(out: &mut Vec<u8>, number: u32, nominees: &[u16]) -> Written
-    requires { length nominees.now ≤ 8 }
+    requires { length nominees.now ≤ MOST_NOMINEES }
     ensures spelled { OnOk result (out.new.items ≡ out.old.items ++ spelling (Message.Nominate number nominees.now)) }
     ensures sized { IsSized (Message.Nominate number nominees.now) }
 {
@@ -122,8 +123,8 @@ fn put_nominate(out: &mut Vec<u8>, number: u32, nominees: &[u16]) -> Written
 
 #[tactic(auto, unfolding(crate::specs::Spelling::spelling))]
 fn put_vote(out: &mut Vec<u8>, number: u32, hashes: &[[u8; 32]], proof: &[u8]) -> Written
-    requires hashes { length hashes.now ≤ 512 }
-    requires proof { length proof.now ≤ 64 }
+    requires hashes { length hashes.now ≤ MOST_BLOCKS }
+    requires proof { length proof.now ≤ MOST_PROOF_BYTES }
     ensures spelled { OnOk result (out.new.items ≡ out.old.items ++ spelling (Message.Vote number hashes.now proof.now)) }
     ensures sized { IsSized (Message.Vote number hashes.now proof.now) }
 {
@@ -143,7 +144,7 @@ fn put_request(out: &mut Vec<u8>, number: u32, block: u16) -> Written
 
 #[tactic(auto, unfolding(crate::specs::Spelling::spelling))]
 fn put_repair(out: &mut Vec<u8>, number: u32, block: u16, bytes: &[u8]) -> Written
-    requires { length bytes.now ≤ 16384 }
+    requires { length bytes.now ≤ MOST_BLOCK_BYTES }
     ensures spelled { OnOk result (out.new.items ≡ out.old.items ++ spelling (Message.Repair number block bytes.now)) }
     ensures sized { IsSized (Message.Repair number block bytes.now) }
 {
@@ -196,6 +197,7 @@ pub fn encode(alloc: Global, m: &Message) -> Result<Vec<u8>, OutOfMemory>
     ensures spelled { IfOk result (λ v. v.items ≡ spelling m.now) }
     // The message is read again from it.
     ensures read { IfOk result (λ v. decode_of v.items ≡ Ok m.now) }
+    ensures short { IfOk result (λ v. length v.items ≤ MOST_FORGED_BYTES) }
 {
     let mut out = Vec::new(alloc);
     match put_message(&mut out, m) {

@@ -5,7 +5,7 @@ use crate::{
 };
 use std::alloc::Global;
 use std::io;
-use std::io::{Error, ErrorKind, Read};
+use std::io::{Error, ErrorKind, Read, Write};
 use std::test::Fail;
 
 const TEXT: &[u8] = b"lots of copies";
@@ -121,6 +121,26 @@ impl Read for Broken {
     }
 }
 
+// Shows what it took only once it is flushed.
+#[derive(Drop)]
+struct Late {
+    held: Vec<u8>,
+    shown: Vec<u8>,
+}
+
+impl Write for Late {
+    fn write(&mut self, buf: &[u8]) -> io::Result<usize> {
+        self.held.extend_from_slice(buf)?;
+        Ok(buf.len())
+    }
+
+    fn flush(&mut self) -> io::Result<()> {
+        self.shown.extend_from_slice(&self.held)?;
+        self.held.clear();
+        Ok(())
+    }
+}
+
 #[test]
 fn stands_on_std(rt: HostRuntime) -> Result<(), Fail> {
     let alloc = rt.alloc();
@@ -137,5 +157,16 @@ fn stands_on_std(rt: HostRuntime) -> Result<(), Fail> {
     let answer = write_all(&mut StdSink::new(room.as_mut_slice()), TEXT);
     assert_eq!(rt; answer, Err(WriteStop::Failed));
     assert_eq!(rt; room.as_slice(), b"lots".as_slice());
+    Ok(())
+}
+
+#[test]
+fn holds_nothing_back(rt: HostRuntime) -> Result<(), Fail> {
+    let mut late = Late {
+        held: Vec::new(rt.alloc()),
+        shown: Vec::new(rt.alloc()),
+    };
+    assert_eq!(rt; write_all(&mut StdSink::new(&mut late), TEXT), Ok(()));
+    assert_eq!(rt; late.shown.as_slice(), TEXT);
     Ok(())
 }

@@ -12,6 +12,7 @@ use Rattle.lks_tally.specs.declared.ballots.Verdict.{Verdict}
 use Rattle.lks_tally.specs.declared.ballots.Verdict.TheVariants.{Inquorate, Agreed, Loss, Split}
 use Rattle.lks_tally.specs.declared.ballots.Vote.{Vote}
 use Rattle.lks_tally.specs.Counting.{verdict_at, decided, first_from, verdict_on, voters_against}
+use Rattle.lks_tally.specs.Distinct.{AreDistinct}
 use Rattle.lks_tally.specs.Keeping as keeping
 use Rattle.lks_tally.specs.Keeping.{IsCacheOf}
 use Rattle.lks_tally.proofs.Caching as caching
@@ -22,7 +23,7 @@ use Rattle.lks_poller.specs.declared.stages.Next.TheVariants.{Close, Ask}
 use Rattle.lks_poller.specs.declared.stages.Stage.TheVariants as stage
 use Rattle.lks_poller.specs.Polling.{Polled, voted, voted_inner, voted_outer, moved, answered, replaced}
 use Rattle.lks_poller.specs.Rules.{IsAt, stage_of, is_voting, next_of, asking, candidate}
-use Rattle.lks_poller.specs.Sound.{IsSound, AreDistinct}
+use Rattle.lks_poller.specs.Sound.{IsSound}
 use Rattle.lks_poller.proofs.Members.{distinct_append}
 use Rattle.lks_poller.proofs.Soundness.{never}
 

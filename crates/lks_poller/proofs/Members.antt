@@ -1,18 +1,21 @@
 -- Votes by their voters.
-use Rattle.std.proofs.Common.{◌≡◌, ◌≤◌, ℕ, suc, Bool, true, false, ◌||◌, ◌==◌, ◌⊎◌, List, [], ◌∷◌, ◌++◌, length, refl, sym, ◌∙◌, ap, subst, inl, inr, append_assoc}
+use Rattle.std.proofs.Common.{◌≡◌, ◌≢◌, ◌<◌, ◌≤◌, ℕ, suc, Bool, true, false, ◌||◌, ◌==◌, ◌⊎◌, List, [], ◌∷◌, ◌++◌, length, refl, sym, ◌∙◌, ap, subst, inl, inr, append_assoc, arith}
 use Rattle.std.specs.Prelude.{nat_eq}
 use Rattle.std.specs.Cmp.{nat_eq_equiv}
-use Rattle.std.specs.List.{list_any, IsDistinct, AllByRecursion}
+use Rattle.std.specs.List.{list_any, All, AllPairs}
 use Rattle.std.specs.Set.{is_member}
-use Rattle.std.proofs.lemmas.Bool.{or_cases, or_parts, or_from, eqb-true, eq-eqb}
-use Rattle.std.proofs.lemmas.List.{map-append, append-nil}
-use Rattle.std.proofs.lemmas.List.Folds.{list_any-append}
-use Rattle.std.proofs.lemmas.Map.Keys.{IsDistinct-push}
-use Rattle.std.proofs.lemmas.Map.Made.{length-le_from_is_member}
+use Rattle.std.proofs.lemmas.Bool.{or_cases, or_parts, or_from, eqb-true, eq-eqb, ne_eqb, false≢true}
+use Rattle.std.proofs.lemmas.Bool.Decides.{Decides-eqb}
+use Rattle.std.proofs.lemmas.List.{append-nil, get_or-map}
+use Rattle.std.proofs.lemmas.List.Elements.{All-head, All-tail}
+use Rattle.std.proofs.lemmas.List.Folds.{list_any_at, list_any-append}
+use Rattle.std.proofs.lemmas.List.Quantifiers.{all_pairs_push}
+use Rattle.std.proofs.lemmas.Map.Made.{IsDistinct-from_AllPairs, length-le_from_is_member}
 use Rattle.lks_base.specs.Checking.{has_member}
 use Rattle.lks_tally.specs.declared.ballots.Vote.{Vote}
+use Rattle.lks_tally.specs.Distinct.{AreDistinct}
 use Rattle.lks_tally.specs.Keeping.{has_voted}
-use Rattle.lks_poller.specs.Sound.{voters, AreDistinct}
+use Rattle.lks_poller.specs.Sound.{voters}
 
 voters_any : (votes : List Vote) (v : ℕ) → list_any (λ i. i == v) (voters votes) ≡ has_voted votes v
 voters_any [] v = refl
@@ -39,18 +42,29 @@ unfolding has_member
 is_member_ids [] v = refl
 is_member_ids (w ∷ ws) v = λ i. nat_eq_equiv.symm v w i || is_member_ids ws v i
 
+-- who hasn't voted is the voter of no vote
+unvoted_apart : (votes : List Vote) (v : ℕ) → has_voted votes v ≡ false → All (λ w. w.voter ≢ v) votes
+unvoted_apart votes v new = λ k d within same.
+    false≢true (sym new ∙ list_any_at (λ w. w.voter == v) votes k d within (eq-eqb _ v same))
+
 -- the vote of a peer that hasn't voted
 pub distinct_more : (votes : List Vote) (v : Vote) → AreDistinct votes → has_voted votes v.voter ≡ false → AreDistinct (votes ++ v ∷ [])
-distinct_more votes v distinct new =
-    rw (map-append (λ w. w.voter) votes (v ∷ []))
-    (IsDistinct-push nat_eq_equiv (voters votes) v.voter distinct (is_member_votes votes v.voter ∙ new))
+distinct_more votes v distinct new = all_pairs_push (λ x y. x.voter ≢ y.voter) votes v distinct (unvoted_apart votes v.voter new)
+
+distinct_voters : (votes : List Vote) → AreDistinct votes → AllPairs ◌≢◌ (voters votes)
+distinct_voters votes distinct = λ i j d before within same.
+    let vote : Vote = record { voter = d; hashes = [] } in
+    let second : j < length votes = omega (arith, within, length_voters votes) in
+    let first : i < length votes = omega arith in
+    distinct i j vote before second
+    (sym (get_or-map (λ (v : Vote). v.voter) votes i vote d first) ∙ same ∙ get_or-map (λ (v : Vote). v.voter) votes j vote d second)
 
 -- distinct voters out of a circle are no more than it has members
 pub few_voters : (ids : List ℕ) (votes : List Vote) → AreDistinct votes → ((v : ℕ) → has_voted votes v ≡ true → has_member ids v ≡ true)
     → length votes ≤ length ids
 few_voters ids votes distinct within =
     let fewer : length (voters votes) ≤ length ids =
-    length-le_from_is_member nat_eq_equiv (voters votes) ids distinct
+    length-le_from_is_member nat_eq_equiv (voters votes) ids (IsDistinct-from_AllPairs Decides-eqb (voters votes) (distinct_voters votes distinct))
     (λ v found. is_member_ids ids v ∙ within v (sym (is_member_votes votes v) ∙ found)) in
     rw (← length_voters votes) fewer
 
@@ -67,13 +81,17 @@ voted_more votes v w found =
 
 -- Voters of two lists that share none.
 
-all_other : (v : ℕ) (votes : List Vote) → AllByRecursion (λ w. nat_eq v w ≡ false) (voters votes) → has_voted votes v ≡ false
-all_other v [] none = refl
-all_other v (w ∷ ws) others = or_from (w.voter == v) (has_voted ws v) (nat_eq_equiv.symm w.voter v ∙ others.0) (all_other v ws others.1)
+all_other : (v : ℕ) (votes : List Vote) → All (λ w. v ≢ w.voter) votes → has_voted votes v ≡ false
+all_other v [] others = refl
+all_other v (w ∷ ws) others =
+    or_from (w.voter == v) (has_voted ws v) (ne_eqb w.voter v (λ same. All-head (λ x. v ≢ x.voter) w ws others (sym same)))
+    (all_other v ws (All-tail (λ x. v ≢ x.voter) w ws others))
 
 split : (y : Vote) (ys : List Vote) → AreDistinct (y ∷ ys) → (has_voted ys y.voter ≡ false) × AreDistinct ys
-unfolding IsDistinct
-split y ys distinct = (all_other y.voter ys distinct.0, distinct.1)
+split y ys distinct = (
+  all_other y.voter ys (λ k d within. distinct 0 (suc k) d (omega arith) (omega arith)),
+  (λ i j d before within. distinct (suc i) (suc j) d (omega arith) (omega arith)),
+)
 
 pub distinct_append : (xs ys : List Vote) → AreDistinct xs → AreDistinct ys → ((v : ℕ) → has_voted xs v ≡ true → has_voted ys v ≡ false)
     → AreDistinct (xs ++ ys)

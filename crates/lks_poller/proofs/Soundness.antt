@@ -1,13 +1,15 @@
 -- Each call leaves a sound poll sound.
 use Rattle.std.proofs.Common.{◌≡◌, ◌≤◌, ℕ, Bool, true, false, cond, not, ◌&&◌, ◌==◌, ◌⊎◌, Option, Some, None, List, [], length, sym, subst, inl, inr, arith}
-use Rattle.std.specs.List.{IsDistinct}
 use Rattle.std.proofs.lemmas.Bool.{and_parts, or_parts, not-true, eqb-true}
 use Rattle.lks_base.specs.Checking.{has_member}
+use Rattle.lks_base.specs.declared.limits.TheConstants.{MOST_CIRCLE}
 use Rattle.lks_tally.specs.declared.ballots.Vote.{Vote}
+use Rattle.lks_tally.specs.Distinct.{AreDistinct}
 use Rattle.lks_tally.specs.Keeping as keeping
+use Rattle.lks_tally.specs.PollRules as poll
 use Rattle.lks_poller.specs.Polling.{Polled, voted_inner, voted_outer}
 use Rattle.lks_poller.specs.Rules.{is_voting, is_invited, has_voted, may_vote, names}
-use Rattle.lks_poller.specs.Sound.{IsSound, AreDistinct}
+use Rattle.lks_poller.specs.Sound.{IsSound}
 use Rattle.lks_poller.proofs.Members.{distinct_more, few_voters, voted_more}
 
 -- The parts of the rules.
@@ -28,9 +30,9 @@ pub record IsVote (s : Polled) (from hashes : ℕ) : Type 0 where
 pub vote_parts : (s : Polled) (from hashes : ℕ) → may_vote s from hashes ≡ true → IsVote s from hashes
 unfolding may_vote has_voted
 vote_parts s from hashes h =
-    let whole = and_parts (is_voting s && is_invited s from && not (has_voted s from)) (hashes == s.tally.ballot.count) h in
-    let new = and_parts (is_voting s && is_invited s from) (not (has_voted s from)) whole.0 in
-    let open_to = and_parts (is_voting s) (is_invited s from) new.0 in
+    let open_to = and_parts (is_voting s) (poll.may_vote (is_invited s from) (has_voted s from) hashes s.tally.ballot.count) h in
+    let whole = and_parts (is_invited s from && not (has_voted s from)) (hashes == s.tally.ballot.count) open_to.1 in
+    let new = and_parts (is_invited s from) (not (has_voted s from)) whole.0 in
     let both = or_parts (keeping.has_voted s.tally.votes from) (keeping.has_voted s.outer_votes from) (not-true (has_voted s from) new.1) in
     record {
       voting = (voting_parts s open_to.0).1;
@@ -45,9 +47,9 @@ is_named (Some r) b voter h =
     let parts = and_parts (r.0 == b) (r.1 == voter) h in
     λ i. Some (eqb-true r.0 b parts.0 i, eqb-true r.1 voter parts.1 i)
 
--- An inner circle of 16 casts at most so many votes.
+-- An inner circle casts at most one vote a member.
 
-pub few_votes : (s : Polled) → IsSound s → length s.tally.votes ≤ 16
+pub few_votes : (s : Polled) → IsSound s → length s.tally.votes ≤ MOST_CIRCLE
 few_votes s sound = let fewer = few_voters s.inner s.tally.votes sound.distinct sound.of_inner in let few = sound.few in omega arith
 
 pub never : {A : Type 0} (b : Bool) → b ≡ false → b ≡ true → A
@@ -56,10 +58,9 @@ never b is_false is_true = absurd cc
 -- A poll that begins.
 
 nobody : (votes : List Vote) → votes ≡ [] → AreDistinct votes
-unfolding IsDistinct
-nobody votes e = subst AreDistinct (sym e) tt
+nobody votes e = subst AreDistinct (sym e) (λ i j d before within. absurd (omega arith))
 
-pub sound_begun : (s : Polled) → length s.inner ≤ 16 → 1 ≤ s.tally.ballot.count → s.tally.votes ≡ [] → s.outer_votes ≡ []
+pub sound_begun : (s : Polled) → length s.inner ≤ MOST_CIRCLE → 1 ≤ s.tally.ballot.count → s.tally.votes ≡ [] → s.outer_votes ≡ []
     → s.shut ≡ false → s.closed ≡ false → s.suppliers.waiting ≡ false → IsSound s
 sound_begun s few blocks none no_outer voting running idle = record {
   few = few;

@@ -1,5 +1,5 @@
 -- What contracts see of a poll that its poller runs, and what each call leaves of it.
-use Rattle.std.specs.Prelude.{ℕ, Bool, true, false, if◌then◌else◌, Option, Some, None, List, [], ◌∷◌, ◌++◌, nat_lt, length}
+use Rattle.std.specs.Prelude.{ℕ, Bool, true, false, if◌then◌else◌, Option, Some, None, List, [], ◌∷◌, ◌++◌, length}
 use Rattle.lks_base.specs.Checking.{has_member}
 use Rattle.lks_base.specs.declared.names.Limits.{Limits}
 use Rattle.lks_repair.specs.Asking.{Asked}
@@ -7,6 +7,7 @@ use Rattle.lks_tally.specs.declared.ballots.Ballot.{Ballot}
 use Rattle.lks_tally.specs.declared.ballots.Vote.{Vote}
 use Rattle.lks_tally.specs.Keeping as keeping
 use Rattle.lks_tally.specs.Keeping.{Tallied, forgotten}
+use Rattle.lks_tally.specs.PollRules as poll
 use Rattle.lks_poller.specs.declared.stages.Answer.{Answer}
 use Rattle.lks_poller.specs.declared.stages.Answer.TheVariants.{Replace, Bad, NotAsked}
 use Rattle.lks_poller.specs.declared.stages.Next.{Next}
@@ -39,15 +40,19 @@ begun ballot limits inner room =
       suppliers = record { asked = []; waiting = false };
     }
 
+-- one nomination more
 abbrev pub nominated : Polled → ℕ → List ℕ → Polled
 nominated s from list = record s { nominations = s.nominations ++ record { voter = from; nominees = list } ∷ [] }
 
+-- the outer circle is invited
 abbrev pub widened : Polled → List ℕ → Polled
 widened s outer = record s { outer = Some outer }
 
+-- one inner vote more, which is counted
 abbrev pub voted_inner : Polled → Vote → Polled
 voted_inner s vote = record s { tally = keeping.voted s.tally vote }
 
+-- one outer vote more
 abbrev pub voted_outer : Polled → Vote → Polled
 voted_outer s vote = record s { outer_votes = s.outer_votes ++ vote ∷ [] }
 
@@ -60,15 +65,17 @@ voted s from hashes =
 
 -- fewer inner votes than the quorum
 abbrev pub is_inquorate : Polled → Bool
-is_inquorate s = nat_lt (length s.tally.votes) s.tally.limits.quorum
+is_inquorate s = poll.is_inquorate (length s.tally.votes) s.tally.limits.quorum
 
 -- voting ends, and with fewer inner votes than the quorum the poll too
 abbrev pub ended : Polled → Polled
 ended s = record s { shut = true; closed = is_inquorate s }
 
+-- the poll ends
 abbrev pub closed : Polled → Polled
 closed s = record s { closed = true }
 
+-- a voter is asked for block b, and waited for
 abbrev pub asked : Polled → ℕ → ℕ → Polled
 asked s b voter = record s { suppliers = record { asked = s.suppliers.asked ++ (b, voter) ∷ []; waiting = true } }
 

@@ -10,6 +10,7 @@ use Rattle.lks_tally.specs.declared.ballots.Verdict.{Verdict}
 use Rattle.lks_tally.specs.declared.ballots.Verdict.TheVariants.{Inquorate, Agreed, Loss, Split}
 use Rattle.lks_tally.specs.Counting.{verdict_at, voters_against, voters_for}
 use Rattle.lks_tally.specs.Keeping as keeping
+use Rattle.lks_tally.specs.PollRules as poll
 use Rattle.lks_poller.specs.declared.stages.Answer.{Answer}
 use Rattle.lks_poller.specs.declared.stages.Answer.TheVariants.{Replace, Bad, NotAsked}
 use Rattle.lks_poller.specs.declared.stages.Next.{Next}
@@ -19,6 +20,7 @@ use Rattle.lks_poller.specs.declared.stages.Stage.{Stage}
 use Rattle.lks_poller.specs.declared.stages.Stage.TheVariants as stage
 use Rattle.lks_poller.specs.Polling.{Polled}
 
+-- how far a poll is
 abbrev pub stage_of : Polled → Stage
 stage_of s =
     if s.closed then stage.Closed
@@ -39,30 +41,33 @@ IsAt s stage.Closed = s.closed ≡ true
 
 -- The outer circle is invited once, while votes are open.
 unfoldable pub may_widen : Polled → Bool
-may_widen s = is_voting s && not (is_some s.outer)
+may_widen s = poll.may_widen (is_voting s) (is_some s.outer)
 
+-- whether one of the nominations is of this peer
 unfoldable pub has_nominated : List Nomination → ℕ → Bool
 has_nominated nominations from = list_any (λ n. n.voter == from) nominations
 
 -- Each inner peer nominates once, until the outer circle is invited.
 unfoldable pub may_nominate : Polled → ℕ → Bool
-may_nominate s from = may_widen s && has_member s.inner from && not (has_nominated s.nominations from)
+may_nominate s from = may_widen s && poll.may_nominate (has_member s.inner from) (has_nominated s.nominations from)
 
 -- The inner circle is invited, then the outer one.
 unfoldable pub is_invited : Polled → ℕ → Bool
-is_invited s voter = has_member s.inner voter || has_member (unwrap_or s.outer []) voter
+is_invited s voter = poll.is_invited s.inner (unwrap_or s.outer []) voter
 
+-- whether this peer voted, in either circle
 unfoldable pub has_voted : Polled → ℕ → Bool
 has_voted s voter = keeping.has_voted s.tally.votes voter || keeping.has_voted s.outer_votes voter
 
 -- Each invited peer votes once, while votes are open, with a hash for each block.
 unfoldable pub may_vote : Polled → ℕ → ℕ → Bool
-may_vote s from hashes = is_voting s && is_invited s from && not (has_voted s from) && (hashes == s.tally.ballot.count)
+may_vote s from hashes = is_voting s && poll.may_vote (is_invited s from) (has_voted s from) hashes s.tally.ballot.count
 
 -- the first of the inner voters against the copy at b, in order of their votes, that wasn't asked for it
 abbrev pub candidate : Polled → List (List ℕ) → ℕ → Option ℕ
 candidate s blocks b = next_at s.suppliers.asked b (voters_against s.tally.ballot s.tally.votes blocks b)
 
+-- a voter is asked for block b, or without one the poll ends
 abbrev pub asking : ℕ → Option ℕ → Next
 asking b None = Close (outcome.NoSupplier b)
 asking b (Some voter) = Ask b voter
@@ -77,9 +82,12 @@ next_of s (Loss b) blocks = asking b (candidate s blocks b)
 
 -- the running hashes of the block at which the copy lost are kept
 abbrev pub IsKept : Verdict → ℕ → Type 0
+IsKept Inquorate kept = Unit {0}
+IsKept Agreed kept = Unit {0}
 IsKept (Loss b) kept = b < kept
-IsKept _ kept = Unit {0}
+IsKept (Split b) kept = Unit {0}
 
+-- whether the request is to this voter, for block b
 abbrev pub names : Option (ℕ × ℕ) → ℕ → ℕ → Bool
 names None b voter = false
 names (Some request) b voter = request.0 == b && request.1 == voter
@@ -92,6 +100,7 @@ is_asked s from b = names (awaited s.suppliers) b from
 abbrev pub said : Polled → ℕ → List ℕ → List (List ℕ) → At
 said s b bytes blocks = verdict_at s.tally.limits.minority s.tally.ballot s.tally.votes (slice_set blocks b bytes) b
 
+-- the answer to a block with which the votes say this of the copy
 abbrev pub judgment : At → Answer
 judgment at.Win = Replace
 judgment at.Loss = Bad

@@ -2,6 +2,7 @@
 use Rattle.lks_poller.specs.declared.sessions.PollSession.TheInside.{Inside}
 use Rattle.lks_poller.specs.Polling.{Polled}
 
+-- the poll that the fields of a session stand for
 abbrev pub shown : Inside → Polled
 shown a =
     record {

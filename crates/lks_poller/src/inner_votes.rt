@@ -1,10 +1,12 @@
 //! The votes of an inner circle.
 
-ghost use Rattle.std.specs.Prelude.{◌≡◌, ◌<◌, ◌≤◌, ℕ, List, [], ◌∷◌, ◌++◌, length, vec_len, vec_capacity, nat_lt, false, slice_set, IfOk, OnOk, OnErr};
+ghost use Rattle.std.specs.Prelude.{◌≡◌, ◌<◌, ◌≤◌, ℕ, List, [], ◌∷◌, ◌++◌, length, vec_len, vec_capacity, false, slice_set, IfOk, OnOk, OnErr};
+ghost use Rattle.lks_base.specs.declared.limits.TheConstants.{MOST_CIRCLE};
 ghost use Rattle.lks_hash.specs.Counting.{Opens};
 ghost use Rattle.lks_tally.specs.Counting.{verdict_at, verdict_on, voters_against};
 ghost use Rattle.lks_tally.specs.Keeping as keeping;
 ghost use Rattle.lks_tally.specs.Keeping.{IsCacheOf, IsReserved, IsSame, forgotten, kept_after};
+ghost use Rattle.lks_tally.specs.PollRules as poll_rules;
 
 use lks_base::{
     AuId, Contents, HashKind, Hashes, Ids, OutOfMemory, PeerId, PollName, Rules, has_member,
@@ -36,7 +38,7 @@ impl Model for InnerVotes {
 }
 
 impl InnerVotes {
-    /// No votes, with room for 16.
+    /// No votes, with room for those of a whole circle.
     pub fn new(
         alloc: Global,
         rules: &Rules,
@@ -85,7 +87,7 @@ impl InnerVotes {
     /// Whether there are fewer votes than the quorum.
     #[tactic(auto, using(crate::proofs::Members::length_noted))]
     pub fn is_inquorate(&self) -> bool
-        ensures { result ≡ nat_lt (length self.now.votes) self.now.limits.quorum }
+        ensures { result ≡ poll_rules.is_inquorate (length self.now.votes) self.now.limits.quorum }
     {
         self.voters.len() < self.quorum as usize
     }
@@ -105,7 +107,7 @@ impl InnerVotes {
 
     /// The verdict of the votes on a copy.
     pub fn verdict<C: Contents>(&mut self, c: &C) -> Verdict
-        requires few { length self.old.votes ≤ 16 }
+        requires few { length self.old.votes ≤ MOST_CIRCLE }
         requires count { length (C.blocks c.now) ≡ self.old.ballot.count }
         requires cache { IsCacheOf self.old (C.blocks c.now) }
         ensures verdict { result ≡ verdict_on self.old.limits.quorum self.old.limits.minority self.old.ballot self.old.votes (C.blocks c.now) }
@@ -180,7 +182,7 @@ fn add_vote(tally: &mut Tally, voter: PeerId, hashes: Hashes) -> Result<(), OutO
     match tally.add_vote(voter, hashes) {
         Ok(()) => Ok(()),
         Err(VoteFault::Memory) => Err(OutOfMemory),
-        Err(_) => unreachable!(),
+        Err(VoteFault::Twice | VoteFault::Length) => unreachable!(),
     }
 }
 
@@ -197,7 +199,7 @@ fn push_reserved(voters: &mut Vec<PeerId>, voter: PeerId)
 fn verdict_counted<C: Contents, L: Ledger>(tally: &mut Tally, c: &C, blank: Blank) -> Verdict
     requires opens { Opens blank L.name L.parts }
     requires reserved { IsReserved tally.old }
-    requires few { length tally.old.votes ≤ 16 }
+    requires few { length tally.old.votes ≤ MOST_CIRCLE }
     requires count { length (C.blocks c.now) ≡ tally.old.ballot.count }
     requires cache { IsCacheOf tally.old (C.blocks c.now) }
     ensures verdict { result ≡ verdict_on tally.old.limits.quorum tally.old.limits.minority tally.old.ballot tally.old.votes (C.blocks c.now) }

@@ -2,6 +2,7 @@
 
 ghost use Rattle.std.specs.Prelude.{◌≡◌, ◌<◌, ◌≤◌, ◌↔◌, ℕ, List, [], true, false, length, unwrap_or, if◌then◌else◌, IfOk, OnOk, OnErr, IsNone};
 ghost use Rattle.lks_base.specs.Checking.{has_member as is_member};
+ghost use Rattle.lks_base.specs.declared.limits.TheConstants.{MOST_CIRCLE};
 ghost use Rattle.lks_base.specs.declared.names.Limits.{Limits};
 ghost use Rattle.lks_hash.specs.Counting.{Opens};
 ghost use Rattle.lks_repair.specs.Asking.{awaited};
@@ -69,7 +70,7 @@ impl PollSession {
         nonce: [u8; 32],
         inner: Ids,
     ) -> Result<PollSession, OutOfMemory>
-        requires few { length inner ≤ 16 }
+        requires few { length inner ≤ MOST_CIRCLE }
         requires blocks { 1 ≤ count }
         ensures { let ballot : BallotOf = record { poll = poll; au = au; kind = kind; nonce = nonce; count = count } in
             let limits : Limits = record { quorum = rules.now.quorum; minority = rules.now.minority } in

@@ -4,6 +4,7 @@ use Rattle.std.specs.Prelude.{IfOk, IfSome, All}
 use Rattle.std.specs.Int.{w16, to_be_bytes}
 use Rattle.std.proofs.lemmas.Bool.{cases_lt}
 use Rattle.std.proofs.lemmas.List.{append-nil, get_or_default}
+use Rattle.lks_base.specs.declared.limits.TheConstants.{MOST_CIRCLE, MOST_NOMINEES, MOST_REPAIRS}
 use Rattle.lks_base.specs.declared.records.Record.{Record}
 use Rattle.lks_base.specs.declared.records.Record.TheVariants as records
 use Rattle.lks_base.specs.declared.names.HashKind.{HashKind}
@@ -81,17 +82,17 @@ deposit_reads = reads_then _ id_field (λ au. reads_then _ blocks_field (λ bloc
 opened_reads : (opening : Opening) → ReadsAs (PollOpened opening) (opened_at opening)
 unfolding opened_at spelling
 opened_reads opening =
-    reads_then _ long_field (λ number. reads_then _ id_field (λ au. reads_then _ nonce_field (λ nonce. reads_then _ (peers_field 16 (omega arith)) (λ inner. reads_then _ long_field (λ tick.
+    reads_then _ long_field (λ number. reads_then _ id_field (λ au. reads_then _ nonce_field (λ nonce. reads_then _ (peers_field MOST_CIRCLE (omega arith)) (λ inner. reads_then _ long_field (λ tick.
     reads_then _ (optional_field limits_at limit_bytes AreLimits limits_field (is_limited opening)) (λ limits. reads_then _ (kind_field (kind_in opening)) (λ kind. reads_end (records.PollOpened number au nonce inner tick limits kind)
     (λ h. (rw (opening_is opening limits kind h.0.1.0 h.1) refl, ((h.0.0.0.1.0, has_limits opening limits kind h.0.1.0 h.1 h.0.1.1), (h.0.0.0.0.0.0.1, h.0.0.0.0.0.1, h.0.0.0.0.1, h.0.0.0.1.1, h.0.0.1)))))))))))
 
 nominated_reads : ReadsAs Nominated nominated_at
 unfolding nominated_at spelling
-nominated_reads = reads_then _ long_field (λ number. reads_then _ id_field (λ voter. reads_then _ (peers_field 8 (omega arith)) (λ nominees. reads_end (records.Nominated number voter nominees) (λ h. (refl, (h.1.0, (h.0.0.1, h.0.1, h.1.1)))))))
+nominated_reads = reads_then _ long_field (λ number. reads_then _ id_field (λ voter. reads_then _ (peers_field MOST_NOMINEES (omega arith)) (λ nominees. reads_end (records.Nominated number voter nominees) (λ h. (refl, (h.1.0, (h.0.0.1, h.0.1, h.1.1)))))))
 
 outer_reads : ReadsAs OuterOpened outer_at
 unfolding outer_at spelling
-outer_reads = reads_then _ long_field (λ number. reads_then _ (peers_field 16 (omega arith)) (λ outer. reads_end (records.OuterOpened number outer) (λ h. (refl, (h.1.0, (h.0.1, h.1.1))))))
+outer_reads = reads_then _ long_field (λ number. reads_then _ (peers_field MOST_CIRCLE (omega arith)) (λ outer. reads_end (records.OuterOpened number outer) (λ h. (refl, (h.1.0, (h.0.1, h.1.1))))))
 
 vote_in_reads : ReadsAs VoteIn vote_in_at
 unfolding vote_in_at spelling
@@ -124,7 +125,7 @@ overdue_reads = reads_then _ id_field (λ au. reads_then _ long_field (λ tick. 
 joined_reads : (told : Bool) → ReadsAs (Joined told) (joined_at told)
 unfolding joined_at spelling
 joined_reads told =
-    reads_then _ poll_field (λ poll. reads_then _ id_field (λ au. reads_then _ long_field (λ tick. reads_then _ flag_field (λ low. reads_then _ (optional_field repairs_at (to_be_bytes w16) (λ n. n ≤ 512) repairs_field told) (λ repairs.
+    reads_then _ poll_field (λ poll. reads_then _ id_field (λ au. reads_then _ long_field (λ tick. reads_then _ flag_field (λ low. reads_then _ (optional_field repairs_at (to_be_bytes w16) (λ n. n ≤ MOST_REPAIRS) repairs_field told) (λ repairs.
     reads_end (records.Joined poll au tick low repairs) (λ h. (rw (joined_is repairs, h.1.0) refl, (h.1.1, (h.0.0.0.0.1, h.0.0.0.1, h.0.0.1)))))))))
 
 committed_reads : (as_kind : HashKind) → ReadsAs (Committed as_kind) (committed_at as_kind)
@@ -186,10 +187,10 @@ unfolding spelling deposit_at opened_at nominated_at outer_at vote_in_at shut_at
 record_again (records.Deposit au blocks) rest h = (goes_then _ (goes_then _ (begins Deposit) id_field au h.1) blocks_field blocks ((h.0.0, h.0.1), h.0.2)).at rest
 record_again (records.PollOpened number au nonce inner tick limits kind) rest h =
     let opening = opening_of limits kind in
-    rw (form_told limits kind) ((goes_then _ (goes_then _ (goes_then _ (goes_then _ (goes_then _ (goes_then _ (goes_then _ (begins (PollOpened opening)) long_field number h.1.0) id_field au h.1.1) nonce_field nonce h.1.2) (peers_field 16 (omega arith)) inner (h.0.0, h.1.3)) long_field tick h.1.4)
+    rw (form_told limits kind) ((goes_then _ (goes_then _ (goes_then _ (goes_then _ (goes_then _ (goes_then _ (goes_then _ (begins (PollOpened opening)) long_field number h.1.0) id_field au h.1.1) nonce_field nonce h.1.2) (peers_field MOST_CIRCLE (omega arith)) inner (h.0.0, h.1.3)) long_field tick h.1.4)
     (optional_field limits_at limit_bytes AreLimits limits_field (is_limited opening)) limits (limits_told limits kind h.0.1)) (kind_field (kind_in opening)) kind (kind_told limits kind)).at rest)
-record_again (records.Nominated number voter nominees) rest h = (goes_then _ (goes_then _ (goes_then _ (begins Nominated) long_field number h.1.0) id_field voter h.1.1) (peers_field 8 (omega arith)) nominees (h.0, h.1.2)).at rest
-record_again (records.OuterOpened number outer) rest h = (goes_then _ (goes_then _ (begins OuterOpened) long_field number h.1.0) (peers_field 16 (omega arith)) outer (h.0, h.1.1)).at rest
+record_again (records.Nominated number voter nominees) rest h = (goes_then _ (goes_then _ (goes_then _ (begins Nominated) long_field number h.1.0) id_field voter h.1.1) (peers_field MOST_NOMINEES (omega arith)) nominees (h.0, h.1.2)).at rest
+record_again (records.OuterOpened number outer) rest h = (goes_then _ (goes_then _ (begins OuterOpened) long_field number h.1.0) (peers_field MOST_CIRCLE (omega arith)) outer (h.0, h.1.1)).at rest
 record_again (records.VoteIn number voter hashes) rest h = (goes_then _ (goes_then _ (goes_then _ (begins VoteIn) long_field number h.1.0) id_field voter h.1.1) hashes_field hashes (h.0, h.1.2)).at rest
 record_again (records.Shut number) rest h = (goes_then _ (begins Shut) long_field number h.1).at rest
 record_again (records.Asked number block voter) rest h = (goes_then _ (goes_then _ (goes_then _ (begins Asked) long_field number h.1.0) block_field block h.0) id_field voter h.1.1).at rest
@@ -199,7 +200,7 @@ record_again (records.Closed number outcome tick) rest h = (goes_then _ (goes_th
 record_again (records.Overdue au tick) rest h = (goes_then _ (goes_then _ (begins Overdue) id_field au h.1.0) long_field tick h.1.1).at rest
 record_again (records.Joined poll au tick low repairs) rest h =
     rw (joined_is repairs) ((goes_then _ (goes_then _ (goes_then _ (goes_then _ (goes_then _ (begins (Joined (is_some repairs))) poll_field poll h.1.0) id_field au h.1.1) long_field tick h.1.2) flag_field low tt)
-    (optional_field repairs_at (to_be_bytes w16) (λ n. n ≤ 512) repairs_field (is_some repairs)) repairs (refl, h.0)).at rest)
+    (optional_field repairs_at (to_be_bytes w16) (λ n. n ≤ MOST_REPAIRS) repairs_field (is_some repairs)) repairs (refl, h.0)).at rest)
 record_again (records.Committed poll nonce version kind) rest h = (goes_then _ (goes_then _ (goes_then _ (goes_then _ (begins (Committed kind)) poll_field poll h.1.0) nonce_field nonce h.1.1) long_field version h.1.2) (kind_field kind) kind refl).at rest
 record_again (records.Voted poll hashes) rest h = (goes_then _ (goes_then _ (begins Voted) poll_field poll h.1.0) hashes_field hashes (h.0, h.1.1)).at rest
 record_again (records.Served poll block) rest h = (goes_then _ (goes_then _ (begins Served) poll_field poll h.1) block_field block h.0).at rest

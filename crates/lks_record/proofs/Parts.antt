@@ -1,11 +1,13 @@
 -- The fields that records share.
-use Rattle.std.proofs.Common.{◌≡◌, ℕ, zero, suc, ◌*◌, ◌^◌, ◌<◌, ◌≤◌, Bool, true, false, cond, eqb, ltb, leb, Option, None, Some, is_some, List, [], ◌∷◌, ◌++◌, length, Ok, Err, refl, ap, subst, arith}
+use Rattle.std.proofs.Common.{◌≡◌, ℕ, zero, suc, ◌^◌, ◌<◌, ◌≤◌, Bool, true, false, cond, not, eqb, ltb, Option, None, Some, is_some, List, [], ◌∷◌, ◌++◌, length, Ok, Err, refl, ap, subst, arith}
 use Rattle.std.specs.Prelude.{IfSome, All}
 use Rattle.std.specs.List.{flat_map, AllByRecursion}
 use Rattle.std.specs.Int.{w16, w32, to_be_bytes}
-use Rattle.std.proofs.lemmas.Bool.{eqb-true}
+use Rattle.std.proofs.lemmas.Bool.{eqb-true, ltb-true}
 use Rattle.std.proofs.Math.Dec.{eqb-suc-zero}
 use Rattle.std.proofs.lemmas.List.Elements.{All-from_recursion, recursion_from_All}
+use Rattle.lks_base.specs.declared.limits.TheConstants.{LAST_BLOCK, MOST_BLOCKS, MOST_BLOCK_BYTES, MOST_CIRCLE, MOST_REPAIRS}
+use Rattle.lks_base.specs.Quorums.{obeys_quorum_rule}
 use Rattle.lks_base.specs.declared.names.HashKind.{HashKind}
 use Rattle.lks_base.specs.declared.names.HashKind.TheVariants.{Sha256, Sha512_256}
 use Rattle.lks_base.specs.declared.names.Limits.{Limits}
@@ -46,13 +48,13 @@ pub nonce_field : IsField nonce_at (λ x. x) (λ x. length x ≡ 32)
 unfolding nonce_at
 nonce_field = told_field told_as hash_at (λ x. x) (λ x. length x ≡ 32) hash_field
 
-pub block_field : IsField block_at (to_be_bytes w16) (λ n. n ≤ 511)
+pub block_field : IsField block_at (to_be_bytes w16) (λ n. n ≤ LAST_BLOCK)
 unfolding block_at
-block_field = be16_upto 511 (omega arith)
+block_field = be16_upto LAST_BLOCK (omega arith)
 
-pub repairs_field : IsField repairs_at (to_be_bytes w16) (λ n. n ≤ 512)
+pub repairs_field : IsField repairs_at (to_be_bytes w16) (λ n. n ≤ MOST_REPAIRS)
 unfolding repairs_at
-repairs_field = be16_upto 512 (omega arith)
+repairs_field = be16_upto MOST_REPAIRS (omega arith)
 
 not_zero : (n : ℕ) → eqb n 0 ≡ false → 1 ≤ n
 not_zero zero e = absurd cc
@@ -142,11 +144,11 @@ module _ {X : Type 0} (reader : Reader X) (spell : X → List ℕ) (Fits : X →
 run_of : (n : ℕ) → IsField (λ bytes. field (bytes_at n bytes)) (λ x. x) (λ x. (length x ≡ n) × Unit {0})
 run_of n = field_as (λ bytes. field (bytes_at n bytes)) (λ x. x) (λ x. length x ≡ n) (λ x. (length x ≡ n) × Unit {0}) (λ x h. (h, tt)) (λ x h. h.0) (told_field told_as (bytes_at n) (λ x. x) (λ x. length x ≡ n) (run_field n))
 
-pub content_field : IsField content_at content_bytes (λ x. length x ≤ 16384)
+pub content_field : IsField content_at content_bytes (λ x. length x ≤ MOST_BLOCK_BYTES)
 unfolding content_at
 content_field =
-    field_as content_at content_bytes (λ x. (length x ≤ 16384) × Unit {0}) (λ x. length x ≤ 16384) (λ x h. h.0) (λ x h. (h, tt))
-    (sized_field (λ bytes. field (upto_at 16384 (number_at w16) bytes)) (to_be_bytes w16) (λ n. n ≤ 16384) (be16_upto 16384 (omega arith)) (λ n bytes. field (bytes_at n bytes)) (λ x. length x) (λ x. x) (λ _. Unit {0}) run_of)
+    field_as content_at content_bytes (λ x. (length x ≤ MOST_BLOCK_BYTES) × Unit {0}) (λ x. length x ≤ MOST_BLOCK_BYTES) (λ x h. h.0) (λ x h. (h, tt))
+    (sized_field (λ bytes. field (upto_at MOST_BLOCK_BYTES (number_at w16) bytes)) (to_be_bytes w16) (λ n. n ≤ MOST_BLOCK_BYTES) (be16_upto MOST_BLOCK_BYTES (omega arith)) (λ n bytes. field (bytes_at n bytes)) (λ x. length x) (λ x. x) (λ _. Unit {0}) run_of)
 
 -- ---- lists
 
@@ -162,13 +164,13 @@ pub peers_field : (most : ℕ) → most < 256 → IsField (peers_at most) peer_b
 unfolding peers_at
 peers_field most lt = list_field (λ bytes. field (upto_at most byte_at bytes)) single (λ n. n ≤ most) (byte_upto most lt) id_at (to_be_bytes w16) (λ n. n < 2 ^ 16) id_field
 
-pub hashes_field : IsField hashes_at hash_bytes (λ xs. (length xs ≤ 512) × AreHashes xs)
+pub hashes_field : IsField hashes_at hash_bytes (λ xs. (length xs ≤ MOST_BLOCKS) × AreHashes xs)
 unfolding hashes_at
-hashes_field = list_field (λ bytes. field (upto_at 512 (number_at w16) bytes)) (to_be_bytes w16) (λ n. n ≤ 512) (be16_upto 512 (omega arith)) nonce_at (λ h. h) (λ h. length h ≡ 32) nonce_field
+hashes_field = list_field (λ bytes. field (upto_at MOST_BLOCKS (number_at w16) bytes)) (to_be_bytes w16) (λ n. n ≤ MOST_BLOCKS) (be16_upto MOST_BLOCKS (omega arith)) nonce_at (λ h. h) (λ h. length h ≡ 32) nonce_field
 
-pub blocks_field : IsField blocks_at block_bytes (λ xs. ((1 ≤ length xs) × (length xs ≤ 512)) × All (λ b. length b ≤ 16384) xs)
+pub blocks_field : IsField blocks_at block_bytes (λ xs. ((1 ≤ length xs) × (length xs ≤ MOST_BLOCKS)) × All (λ b. length b ≤ MOST_BLOCK_BYTES) xs)
 unfolding blocks_at
-blocks_field = list_field (from_one_at 512) (to_be_bytes w16) (λ n. (1 ≤ n) × (n ≤ 512)) (from_one_field 512 (omega arith)) content_at content_bytes (λ b. length b ≤ 16384) content_field
+blocks_field = list_field (from_one_at MOST_BLOCKS) (to_be_bytes w16) (λ n. (1 ≤ n) × (n ≤ MOST_BLOCKS)) (from_one_field MOST_BLOCKS (omega arith)) content_at content_bytes (λ b. length b ≤ MOST_BLOCK_BYTES) content_field
 
 -- ---- names and limits
 
@@ -182,9 +184,13 @@ poll_field = record { takes = reads.takes tt; again = again }
     again : (poll : PollName) (rest : List ℕ) → IsPoll poll → poll_at (poll_bytes poll ++ rest) ≡ Ok (poll, rest)
     again poll rest h = (goes_then _ (goes_then _ (goes_first poll_at) id_field poll.poller h.0) long_field poll.number h.1).at rest
 
-minority_field : (quorum : ℕ) → IsField (minority_at quorum) (to_be_bytes w16) (λ n. (n < 2 ^ 16) × (leb quorum (2 * n) ≡ false))
+not_false : (b : Bool) → not b ≡ false → b ≡ true
+not_false true e = refl
+not_false false e = absurd cc
+
+minority_field : (quorum : ℕ) → IsField (minority_at quorum) (to_be_bytes w16) (λ n. (n < 2 ^ 16) × (not (obeys_quorum_rule quorum n) ≡ false))
 unfolding minority_at
-minority_field quorum = guarded_field (λ bytes. field (number_at w16 bytes)) (to_be_bytes w16) (λ n. n < 2 ^ 16) (λ n. leb quorum (2 * n)) (told_field told_as (number_at w16) (to_be_bytes w16) (λ n. n < 2 ^ 16) be16_field)
+minority_field quorum = guarded_field (λ bytes. field (number_at w16 bytes)) (to_be_bytes w16) (λ n. n < 2 ^ 16) (λ n. not (obeys_quorum_rule quorum n)) (told_field told_as (number_at w16) (to_be_bytes w16) (λ n. n < 2 ^ 16) be16_field)
 
 pub limits_field : IsField limits_at limit_bytes AreLimits
 unfolding limits_at
@@ -192,17 +198,17 @@ limits_field = record { takes = reads.takes tt; again = again }
   where
     reads : IsTail limit_bytes AreLimits [] (Unit {0}) limits_at
     reads =
-        reads_then _ (from_one_field 16 (omega arith)) (λ quorum. reads_then _ (minority_field quorum) (λ minority. reads_end (record { quorum = quorum; minority = minority }) (λ h. (refl, (h.0.1.0, h.0.1.1, grind (arith, h.1.1))))))
+        reads_then _ (from_one_field MOST_CIRCLE (omega arith)) (λ quorum. reads_then _ (minority_field quorum) (λ minority. reads_end (record { quorum = quorum; minority = minority }) (λ h. (refl, (h.0.1.0, h.0.1.1, not_false (obeys_quorum_rule quorum minority) h.1.1)))))
 
     again : (limits : Limits) (rest : List ℕ) → AreLimits limits → limits_at (limit_bytes limits ++ rest) ≡ Ok (limits, rest)
-    again limits rest h = (goes_then _ (goes_then _ (goes_first limits_at) (from_one_field 16 (omega arith)) limits.quorum (h.0, h.1)) (minority_field limits.quorum) limits.minority (omega (arith, h.1, h.2), grind (arith, h.2))).at rest
+    again limits rest h = (goes_then _ (goes_then _ (goes_first limits_at) (from_one_field MOST_CIRCLE (omega arith)) limits.quorum (h.0, h.1)) (minority_field limits.quorum) limits.minority (omega (arith, h.1, ltb-true _ _ h.2), ap not h.2)).at rest
 
 -- ---- outcomes
 
 last_block_small : (code : ℕ) → last_block code < 2 ^ 16
 last_block_small code = by_test (ltb code 2)
   where
-    by_test : (b : Bool) → cond b 0 511 < 2 ^ 16
+    by_test : (b : Bool) → cond b 0 LAST_BLOCK < 2 ^ 16
     by_test true = omega arith
     by_test false = omega arith
 

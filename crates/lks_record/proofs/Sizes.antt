@@ -7,6 +7,7 @@ use Rattle.std.proofs.lemmas.List.{length-append}
 use Rattle.std.proofs.lemmas.List.Concat.{length-flat_map, flat_map-cons}
 use Rattle.std.proofs.lemmas.List.Elements.{recursion_from_All}
 use Rattle.std.proofs.lemmas.List.Sums.{sum_by-le, sum_by-cons}
+use Rattle.lks_base.specs.declared.limits.TheConstants.{MOST_BLOCKS, MOST_BLOCK_BYTES, MOST_CIRCLE, MOST_NOMINEES}
 use Rattle.lks_base.specs.declared.names.HashKind.{HashKind}
 use Rattle.lks_base.specs.declared.names.HashKind.TheVariants.{Sha256, Sha512_256}
 use Rattle.lks_base.specs.declared.names.Limits.{Limits}
@@ -27,11 +28,11 @@ flat_short f m xs all = omega (arith, length-flat_map f xs, sum_by-le (λ x. len
 short_peers : (peers : List ℕ) (n : ℕ) → length peers ≤ n → length (peer_bytes peers) ≤ 1 + n * 2
 short_peers peers n few = omega (arith, flat_short (to_be_bytes w16) 2 peers (λ k d lt. omega arith))
 
-short_hashes : (hashes : List (List ℕ)) → length hashes ≤ 512 → AreHashes hashes → length (hash_bytes hashes) ≤ 16386
+short_hashes : (hashes : List (List ℕ)) → length hashes ≤ MOST_BLOCKS → AreHashes hashes → length (hash_bytes hashes) ≤ 2 + MOST_BLOCKS * 32
 short_hashes hashes few sized = omega (arith, flat_short (λ h. h) 32 hashes (λ k d lt. omega (arith, sized k d lt)))
 
-short_blocks : (blocks : List (List ℕ)) → length blocks ≤ 512 → All (λ b. length b ≤ 16384) blocks → length (block_bytes blocks) ≤ 8389634
-short_blocks blocks few short = omega (arith, flat_short content_bytes 16386 blocks (λ k d lt. omega (arith, short k d lt)))
+short_blocks : (blocks : List (List ℕ)) → length blocks ≤ MOST_BLOCKS → All (λ b. length b ≤ MOST_BLOCK_BYTES) blocks → length (block_bytes blocks) ≤ 2 + MOST_BLOCKS * (2 + MOST_BLOCK_BYTES)
+short_blocks blocks few short = omega (arith, flat_short content_bytes (2 + MOST_BLOCK_BYTES) blocks (λ k d lt. omega (arith, short k d lt)))
 
 -- ---- parts
 
@@ -73,9 +74,9 @@ five_parts a b c d e = omega (arith, length-append (a ++ b ++ c ++ d) e, four_pa
 pub short_record : (r : Record) → IsInLimits r → length (spelling r) ≤ most_bytes r
 unfolding spelling
 short_record (Deposit au blocks) h = omega (arith, short_blocks blocks h.0.1 h.0.2)
-short_record (PollOpened number au nonce inner tick limits kind) h = omega (arith, five_parts nonce (peer_bytes inner) (to_be_bytes w32 tick) (optional limit_bytes limits) (kind_bytes kind), h.1.2, short_peers inner 16 h.0.0, short_limits limits, short_kind kind)
-short_record (Nominated number voter nominees) h = omega (arith, short_peers nominees 8 h.0)
-short_record (OuterOpened number outer) h = omega (arith, short_peers outer 16 h.0)
+short_record (PollOpened number au nonce inner tick limits kind) h = omega (arith, five_parts nonce (peer_bytes inner) (to_be_bytes w32 tick) (optional limit_bytes limits) (kind_bytes kind), h.1.2, short_peers inner MOST_CIRCLE h.0.0, short_limits limits, short_kind kind)
+short_record (Nominated number voter nominees) h = omega (arith, short_peers nominees MOST_NOMINEES h.0)
+short_record (OuterOpened number outer) h = omega (arith, short_peers outer MOST_CIRCLE h.0)
 short_record (VoteIn number voter hashes) h = omega (arith, short_hashes hashes h.0 h.1.2)
 short_record (Shut number) h = omega arith
 short_record (Asked number block voter) h = omega arith

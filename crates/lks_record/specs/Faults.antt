@@ -6,10 +6,12 @@ use Rattle.lks_field.specs.Reading.{told}
 use Rattle.lks_record.specs.declared.fault.RecFault.{RecFault}
 use Rattle.lks_record.specs.declared.fault.RecFault.TheVariants.{Short, Limit, Trailing}
 
+-- the fault of a batch that a fault of a field is
 abbrev pub told_as : FieldFault → RecFault
 told_as fields.Short = Short
 told_as fields.Value = Limit
 told_as fields.Long = Trailing
 
+-- what is read of a field, with its fault told so
 abbrev pub field : {X : Type 0} → Result X FieldFault → Result X RecFault
 field read = told told_as read

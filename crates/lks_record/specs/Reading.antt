@@ -1,6 +1,7 @@
 -- Reading a batch from left to right, with the first fault that is met.
-use Rattle.std.specs.Prelude.{◌≡◌, ◌==◌, ℕ, ◌*◌, Bool, true, false, Option, None, Some, List, Result, Ok, Err, nat_lt, nat_le, if◌then◌else◌}
+use Rattle.std.specs.Prelude.{◌≡◌, ◌==◌, ℕ, Bool, true, false, not, Option, None, Some, List, Result, Ok, Err, nat_lt, if◌then◌else◌}
 use Rattle.std.specs.Int.{w16, w32}
+use Rattle.lks_base.specs.declared.limits.TheConstants.{LAST_BLOCK, MOST_BLOCKS, MOST_BLOCK_BYTES, MOST_CIRCLE, MOST_NOMINEES, MOST_REPAIRS}
 use Rattle.lks_base.specs.declared.records.Record.{Record}
 use Rattle.lks_base.specs.declared.records.Record.TheVariants as records
 use Rattle.lks_base.specs.declared.names.HashKind.{HashKind}
@@ -9,6 +10,7 @@ use Rattle.lks_base.specs.declared.names.Limits.{Limits}
 use Rattle.lks_base.specs.declared.names.PollName.{PollName}
 use Rattle.lks_base.specs.declared.names.Outcome.{Outcome}
 use Rattle.lks_base.specs.declared.names.Outcome.TheVariants as outcomes
+use Rattle.lks_base.specs.Quorums.{obeys_quorum_rule}
 use Rattle.lks_field.specs.Reading.{◌>>=◌, byte_at, bytes_at, hash_at, number_at, upto_at, many_at, end_of}
 use Rattle.lks_record.specs.declared.fault.RecFault.{RecFault}
 use Rattle.lks_record.specs.declared.fault.RecFault.TheVariants.{Form, Tag, Limit, Memory}
@@ -20,6 +22,7 @@ use Rattle.lks_record.specs.Faults.{field}
 
 -- ---- form and tag
 
+-- what a tag announces under the first form
 unfoldable pub first_heading : ℕ → Result Heading RecFault
 first_heading tag =
     if tag == 1 then Ok Deposit
@@ -40,6 +43,7 @@ first_heading tag =
     else if tag == 16 then Ok Ended
     else Err Tag
 
+-- and under the second, which the records have that tell more than at first
 unfoldable pub second_heading : ℕ → Result Heading RecFault
 second_heading tag =
     if tag == 2 then Ok (PollOpened Limited)
@@ -48,6 +52,7 @@ second_heading tag =
     else if tag == 17 then Ok Tuned
     else Err Tag
 
+-- and under the third, of openings with the second kind of hash
 unfoldable pub third_heading : ℕ → Result Heading RecFault
 third_heading tag = if tag == 2 then Ok (PollOpened OfKind) else Err Tag
 
@@ -58,6 +63,7 @@ tagged heading_of bytes = do
   heading ← heading_of tag.0
   Ok (heading, tag.1)
 
+-- form and tag: the form is judged before the tag is read
 unfoldable pub heading_at : List ℕ → Result (Heading × List ℕ) RecFault
 heading_at bytes = do
   form ← field (byte_at bytes)
@@ -80,6 +86,7 @@ long_at bytes = field (number_at w32 bytes)
 unfoldable pub nonce_at : List ℕ → Result (List ℕ × List ℕ) RecFault
 nonce_at bytes = field (hash_at bytes)
 
+-- yes or no
 unfoldable pub flag_at : List ℕ → Result (Bool × List ℕ) RecFault
 flag_at bytes = do
   n ← field (upto_at 1 byte_at bytes)
@@ -91,48 +98,57 @@ from_one_at most bytes = do
   n ← field (upto_at most (number_at w16) bytes)
   if n.0 == 0 then Err Limit else Ok n
 
+-- at most so many peers behind their count, a byte
 unfoldable pub peers_at : ℕ → List ℕ → Result (List ℕ × List ℕ) RecFault
 peers_at most bytes = do
   n ← field (upto_at most byte_at bytes)
   many_at id_at n.0 n.1
 
+-- hashes behind their count
 unfoldable pub hashes_at : List ℕ → Result (List (List ℕ) × List ℕ) RecFault
 hashes_at bytes = do
-  n ← field (upto_at 512 (number_at w16) bytes)
+  n ← field (upto_at MOST_BLOCKS (number_at w16) bytes)
   many_at nonce_at n.0 n.1
 
+-- the number of a block
 unfoldable pub block_at : List ℕ → Result (ℕ × List ℕ) RecFault
-block_at bytes = field (upto_at 511 (number_at w16) bytes)
+block_at bytes = field (upto_at LAST_BLOCK (number_at w16) bytes)
 
+-- the bytes of a block behind their length
 unfoldable pub content_at : List ℕ → Result (List ℕ × List ℕ) RecFault
 content_at bytes = do
-  n ← field (upto_at 16384 (number_at w16) bytes)
+  n ← field (upto_at MOST_BLOCK_BYTES (number_at w16) bytes)
   field (bytes_at n.0 n.1)
 
+-- blocks behind their count
 unfoldable pub blocks_at : List ℕ → Result (List (List ℕ) × List ℕ) RecFault
 blocks_at bytes = do
-  n ← from_one_at 512 bytes
+  n ← from_one_at MOST_BLOCKS bytes
   many_at content_at n.0 n.1
 
+-- the name of a poll
 unfoldable pub poll_at : List ℕ → Result (PollName × List ℕ) RecFault
 poll_at bytes = do
   poller ← id_at bytes
   number ← long_at poller.1
   Ok (record { poller = poller.0; number = number.0 }, number.1)
 
+-- a minority that obeys the rule of quorums with this quorum
 unfoldable pub minority_at : ℕ → List ℕ → Result (ℕ × List ℕ) RecFault
 minority_at quorum bytes = do
   n ← field (number_at w16 bytes)
-  if nat_le quorum (2 * n.0) then Err Limit else Ok n
+  if not (obeys_quorum_rule quorum n.0) then Err Limit else Ok n
 
+-- a quorum and its minority
 unfoldable pub limits_at : List ℕ → Result (Limits × List ℕ) RecFault
 limits_at bytes = do
-  quorum ← from_one_at 16 bytes
+  quorum ← from_one_at MOST_CIRCLE bytes
   minority ← minority_at quorum.0 quorum.1
   Ok (record { quorum = quorum.0; minority = minority.0 }, minority.1)
 
+-- how many repairs a voter serves
 unfoldable pub repairs_at : List ℕ → Result (ℕ × List ℕ) RecFault
-repairs_at bytes = field (upto_at 512 (number_at w16) bytes)
+repairs_at bytes = field (upto_at MOST_REPAIRS (number_at w16) bytes)
 
 -- what is read only where it is spelled
 unfoldable pub optional_at : {X : Type 0} → (List ℕ → Result (X × List ℕ) RecFault) → Bool → List ℕ → Result (Option X × List ℕ) RecFault
@@ -150,8 +166,9 @@ kind_at Sha512_256 bytes = do
 
 -- the greatest block that may follow a code
 abbrev pub last_block : ℕ → ℕ
-last_block code = if nat_lt code 2 then 0 else 511
+last_block code = if nat_lt code 2 then 0 else LAST_BLOCK
 
+-- the outcome that a code and a block tell
 abbrev pub outcome_as : ℕ → ℕ → Outcome
 outcome_as code block =
     if code == 0 then outcomes.Agreed
@@ -159,6 +176,7 @@ outcome_as code block =
     else if code == 2 then outcomes.Split block
     else outcomes.NoSupplier block
 
+-- a code, and a block or 0
 unfoldable pub outcome_at : List ℕ → Result (Outcome × List ℕ) RecFault
 outcome_at bytes = do
   code ← field (upto_at 3 byte_at bytes)
@@ -179,36 +197,41 @@ kind_in Plain = Sha256
 kind_in Limited = Sha256
 kind_in OfKind = Sha512_256
 
+-- a deposit: its AU and the blocks
 unfoldable pub deposit_at : List ℕ → Result (Record × List ℕ) RecFault
 deposit_at bytes = do
   au ← id_at bytes
   blocks ← blocks_at au.1
   Ok (records.Deposit au.0 blocks.0, blocks.1)
 
+-- a poll that opened, with what its form tells
 unfoldable pub opened_at : Opening → List ℕ → Result (Record × List ℕ) RecFault
 opened_at opening bytes = do
   number ← long_at bytes
   au ← id_at number.1
   nonce ← nonce_at au.1
-  inner ← peers_at 16 nonce.1
+  inner ← peers_at MOST_CIRCLE nonce.1
   tick ← long_at inner.1
   limits ← optional_at limits_at (is_limited opening) tick.1
   kind ← kind_at (kind_in opening) limits.1
   Ok (records.PollOpened number.0 au.0 nonce.0 inner.0 tick.0 limits.0 kind.0, kind.1)
 
+-- a nomination that came in
 unfoldable pub nominated_at : List ℕ → Result (Record × List ℕ) RecFault
 nominated_at bytes = do
   number ← long_at bytes
   voter ← id_at number.1
-  nominees ← peers_at 8 voter.1
+  nominees ← peers_at MOST_NOMINEES voter.1
   Ok (records.Nominated number.0 voter.0 nominees.0, nominees.1)
 
+-- an outer circle that was invited
 unfoldable pub outer_at : List ℕ → Result (Record × List ℕ) RecFault
 outer_at bytes = do
   number ← long_at bytes
-  outer ← peers_at 16 number.1
+  outer ← peers_at MOST_CIRCLE number.1
   Ok (records.OuterOpened number.0 outer.0, outer.1)
 
+-- a vote that came in
 unfoldable pub vote_in_at : List ℕ → Result (Record × List ℕ) RecFault
 vote_in_at bytes = do
   number ← long_at bytes
@@ -216,11 +239,13 @@ vote_in_at bytes = do
   hashes ← hashes_at voter.1
   Ok (records.VoteIn number.0 voter.0 hashes.0, hashes.1)
 
+-- a poll that was shut
 unfoldable pub shut_at : List ℕ → Result (Record × List ℕ) RecFault
 shut_at bytes = do
   number ← long_at bytes
   Ok (records.Shut number.0, number.1)
 
+-- a voter that was asked for a block
 unfoldable pub asked_at : List ℕ → Result (Record × List ℕ) RecFault
 asked_at bytes = do
   number ← long_at bytes
@@ -228,6 +253,7 @@ asked_at bytes = do
   voter ← id_at block.1
   Ok (records.Asked number.0 block.0 voter.0, voter.1)
 
+-- a repair that didn't serve
 unfoldable pub repair_bad_at : List ℕ → Result (Record × List ℕ) RecFault
 repair_bad_at bytes = do
   number ← long_at bytes
@@ -235,6 +261,7 @@ repair_bad_at bytes = do
   voter ← id_at block.1
   Ok (records.RepairBad number.0 block.0 voter.0, voter.1)
 
+-- a block that was replaced
 unfoldable pub replaced_at : List ℕ → Result (Record × List ℕ) RecFault
 replaced_at bytes = do
   number ← long_at bytes
@@ -243,6 +270,7 @@ replaced_at bytes = do
   content ← content_at block.1
   Ok (records.Replaced number.0 au.0 block.0 content.0, content.1)
 
+-- a poll that closed
 unfoldable pub closed_at : List ℕ → Result (Record × List ℕ) RecFault
 closed_at bytes = do
   number ← long_at bytes
@@ -250,12 +278,14 @@ closed_at bytes = do
   tick ← long_at outcome.1
   Ok (records.Closed number.0 outcome.0 tick.0, tick.1)
 
+-- an AU that is overdue
 unfoldable pub overdue_at : List ℕ → Result (Record × List ℕ) RecFault
 overdue_at bytes = do
   au ← id_at bytes
   tick ← long_at au.1
   Ok (records.Overdue au.0 tick.0, tick.1)
 
+-- a part in another peer's poll that began, with the repairs that its form tells
 unfoldable pub joined_at : Bool → List ℕ → Result (Record × List ℕ) RecFault
 joined_at told bytes = do
   poll ← poll_at bytes
@@ -265,6 +295,7 @@ joined_at told bytes = do
   repairs ← optional_at repairs_at told low.1
   Ok (records.Joined poll.0 au.0 tick.0 low.0 repairs.0, repairs.1)
 
+-- a vote that is to come, over this version of the copy
 unfoldable pub committed_at : HashKind → List ℕ → Result (Record × List ℕ) RecFault
 committed_at as_kind bytes = do
   poll ← poll_at bytes
@@ -273,29 +304,34 @@ committed_at as_kind bytes = do
   kind ← kind_at as_kind version.1
   Ok (records.Committed poll.0 nonce.0 version.0 kind.0, kind.1)
 
+-- a vote that went out
 unfoldable pub voted_at : List ℕ → Result (Record × List ℕ) RecFault
 voted_at bytes = do
   poll ← poll_at bytes
   hashes ← hashes_at poll.1
   Ok (records.Voted poll.0 hashes.0, hashes.1)
 
+-- a block that was served
 unfoldable pub served_at : List ℕ → Result (Record × List ℕ) RecFault
 served_at bytes = do
   poll ← poll_at bytes
   block ← block_at poll.1
   Ok (records.Served poll.0 block.0, block.1)
 
+-- a part in another peer's poll that ended
 unfoldable pub ended_at : List ℕ → Result (Record × List ℕ) RecFault
 ended_at bytes = do
   poll ← poll_at bytes
   Ok (records.Ended poll.0, poll.1)
 
+-- numbers that the operator changed
 unfoldable pub tuned_at : List ℕ → Result (Record × List ℕ) RecFault
 tuned_at bytes = do
   limits ← limits_at bytes
   repairs ← repairs_at limits.1
   Ok (records.Tuned limits.0.quorum limits.0.minority repairs.0, repairs.1)
 
+-- the record that the heading announces
 abbrev pub body_at : Heading → List ℕ → Result (Record × List ℕ) RecFault
 body_at Deposit bytes = deposit_at bytes
 body_at (PollOpened opening) bytes = opened_at opening bytes
@@ -315,6 +351,7 @@ body_at Served bytes = served_at bytes
 body_at Ended bytes = ended_at bytes
 body_at Tuned bytes = tuned_at bytes
 
+-- a record with its heading
 unfoldable pub record_at : List ℕ → Result (Record × List ℕ) RecFault
 record_at bytes = do
   heading ← heading_at bytes
@@ -322,11 +359,13 @@ record_at bytes = do
 
 -- ---- batches
 
+-- records behind their count, one at least
 unfoldable pub batch_at : List ℕ → Result (List Record × List ℕ) RecFault
 batch_at bytes = do
   n ← from_one_at 65535 bytes
   many_at record_at n.0 n.1
 
+-- the batch that all of the bytes spell, or their first fault
 unfoldable pub decode_of : List ℕ → Result (List Record) RecFault
 decode_of bytes = do
   list ← batch_at bytes
@@ -350,5 +389,6 @@ abbrev pub ReadsBy : {X Y : Type 0} → (X → Y) → Result X RecFault → List
 ReadsBy view (Ok x) left read = read ≡ Ok (view x, left)
 ReadsBy view (Err fault) left read = Fails fault read
 
+-- the same of an answer that is seen as it is
 abbrev pub Reads : {X : Type 0} → Result X RecFault → List ℕ → Result (X × List ℕ) RecFault → Type 0
 Reads result left read = ReadsBy (λ x. x) result left read

@@ -1,7 +1,8 @@
 -- The one spelling of each record and each batch.
-use Rattle.std.specs.Prelude.{◌≡◌, ℕ, ◌*◌, ◌<◌, ◌≤◌, ◌^◌, Bool, true, false, Option, None, Some, IfSome, List, [], ◌∷◌, ◌++◌, length, All}
+use Rattle.std.specs.Prelude.{◌≡◌, ℕ, ◌<◌, ◌≤◌, ◌^◌, Bool, true, false, Option, None, Some, IfSome, List, [], ◌∷◌, ◌++◌, length, All}
 use Rattle.std.specs.List.{flat_map}
 use Rattle.std.specs.Int.{w16, w32, to_be_bytes}
+use Rattle.lks_base.specs.declared.limits.TheConstants.{LAST_BLOCK, MOST_BLOCKS, MOST_BLOCK_BYTES, MOST_CIRCLE, MOST_NOMINEES, MOST_REPAIRS}
 use Rattle.lks_base.specs.declared.records.Record.{Record}
 use Rattle.lks_base.specs.declared.records.Record.TheVariants.{Deposit, PollOpened, Nominated, OuterOpened, VoteIn, Shut, Asked, RepairBad, Replaced, Closed, Overdue, Joined, Committed, Voted, Served, Ended, Tuned}
 use Rattle.lks_base.specs.declared.names.HashKind.{HashKind}
@@ -10,46 +11,59 @@ use Rattle.lks_base.specs.declared.names.Limits.{Limits}
 use Rattle.lks_base.specs.declared.names.PollName.{PollName}
 use Rattle.lks_base.specs.declared.names.Outcome.{Outcome}
 use Rattle.lks_base.specs.declared.names.Outcome.TheVariants.{Agreed, Inquorate, Split, NoSupplier}
+use Rattle.lks_base.specs.Quorums.{obeys_quorum_rule}
 
+-- what each record begins with: its form and its tag
 abbrev pub start : ℕ → ℕ → List ℕ
 start form tag = form ∷ tag ∷ []
 
+-- the form of an opening: the first has no limits, the third the second kind of hash
 abbrev pub opening_form : Option Limits → HashKind → ℕ
 opening_form limits Sha512_256 = 3
 opening_form None Sha256 = 1
 opening_form (Some limits) Sha256 = 2
 
+-- the second form has the repairs
 abbrev pub joined_form : Option ℕ → ℕ
 joined_form None = 1
 joined_form (Some repairs) = 2
 
+-- the second form has the second kind of hash
 abbrev pub committed_form : HashKind → ℕ
 committed_form Sha256 = 1
 committed_form Sha512_256 = 2
 
+-- the byte of yes or no
 abbrev pub flag_bytes : Bool → List ℕ
 flag_bytes false = 0 ∷ []
 flag_bytes true = 1 ∷ []
 
+-- the second kind has a byte, the first none
 abbrev pub kind_bytes : HashKind → List ℕ
 kind_bytes Sha256 = []
 kind_bytes Sha512_256 = 2 ∷ []
 
+-- peers behind their count, a byte
 abbrev pub peer_bytes : List ℕ → List ℕ
 peer_bytes peers = length peers ∷ flat_map (to_be_bytes w16) peers
 
+-- hashes behind their count
 abbrev pub hash_bytes : List (List ℕ) → List ℕ
 hash_bytes hashes = to_be_bytes w16 (length hashes) ++ flat_map (λ h. h) hashes
 
+-- the bytes of a block behind their length
 abbrev pub content_bytes : List ℕ → List ℕ
 content_bytes bytes = to_be_bytes w16 (length bytes) ++ bytes
 
+-- blocks behind their count
 abbrev pub block_bytes : List (List ℕ) → List ℕ
 block_bytes blocks = to_be_bytes w16 (length blocks) ++ flat_map content_bytes blocks
 
+-- the name of a poll: its poller and its number
 unfoldable pub poll_bytes : PollName → List ℕ
 poll_bytes poll = to_be_bytes w16 poll.poller ++ to_be_bytes w32 poll.number
 
+-- a quorum and its minority
 abbrev pub limit_bytes : Limits → List ℕ
 limit_bytes limits = to_be_bytes w16 limits.quorum ++ to_be_bytes w16 limits.minority
 
@@ -67,6 +81,7 @@ outcome_bytes (NoSupplier block) = 3 ∷ to_be_bytes w16 block
 
 -- ---- records
 
+-- the one spelling of a record
 unfoldable pub spelling : Record → List ℕ
 spelling (Deposit au blocks) = start 1 1 ++ to_be_bytes w16 au ++ block_bytes blocks
 spelling (PollOpened number au nonce inner tick limits kind) =
@@ -89,46 +104,51 @@ spelling (Tuned quorum minority repairs) = start 2 17 ++ limit_bytes (record { q
 
 -- ---- limits
 
+-- a quorum that a circle can have, and a minority that obeys its rule
 abbrev pub AreLimits : Limits → Type 0
-AreLimits limits = (1 ≤ limits.quorum) × (limits.quorum ≤ 16) × (2 * limits.minority < limits.quorum)
+AreLimits limits = (1 ≤ limits.quorum) × (limits.quorum ≤ MOST_CIRCLE) × (obeys_quorum_rule limits.quorum limits.minority ≡ true)
 
 -- an opening of the second kind has limits
 abbrev pub HasLimits : Option Limits → HashKind → Type 0
 HasLimits None Sha512_256 = ⊥
 HasLimits limits kind = IfSome limits AreLimits
 
+-- the block that an outcome is about is the number of a block
 abbrev pub HasBlock : Outcome → Type 0
 HasBlock Agreed = Unit {0}
 HasBlock Inquorate = Unit {0}
-HasBlock (Split block) = block ≤ 511
-HasBlock (NoSupplier block) = block ≤ 511
+HasBlock (Split block) = block ≤ LAST_BLOCK
+HasBlock (NoSupplier block) = block ≤ LAST_BLOCK
 
 -- nothing is above its limit
 abbrev pub IsWithin : Record → Type 0
-IsWithin (Deposit au blocks) = (1 ≤ length blocks) × (length blocks ≤ 512) × All (λ b. length b ≤ 16384) blocks
-IsWithin (PollOpened number au nonce inner tick limits kind) = (length inner ≤ 16) × HasLimits limits kind
-IsWithin (Nominated number voter nominees) = length nominees ≤ 8
-IsWithin (OuterOpened number outer) = length outer ≤ 16
-IsWithin (VoteIn number voter hashes) = length hashes ≤ 512
+IsWithin (Deposit au blocks) = (1 ≤ length blocks) × (length blocks ≤ MOST_BLOCKS) × All (λ b. length b ≤ MOST_BLOCK_BYTES) blocks
+IsWithin (PollOpened number au nonce inner tick limits kind) = (length inner ≤ MOST_CIRCLE) × HasLimits limits kind
+IsWithin (Nominated number voter nominees) = length nominees ≤ MOST_NOMINEES
+IsWithin (OuterOpened number outer) = length outer ≤ MOST_CIRCLE
+IsWithin (VoteIn number voter hashes) = length hashes ≤ MOST_BLOCKS
 IsWithin (Shut number) = Unit {0}
-IsWithin (Asked number block voter) = block ≤ 511
-IsWithin (RepairBad number block voter) = block ≤ 511
-IsWithin (Replaced number au block bytes) = (block ≤ 511) × (length bytes ≤ 16384)
+IsWithin (Asked number block voter) = block ≤ LAST_BLOCK
+IsWithin (RepairBad number block voter) = block ≤ LAST_BLOCK
+IsWithin (Replaced number au block bytes) = (block ≤ LAST_BLOCK) × (length bytes ≤ MOST_BLOCK_BYTES)
 IsWithin (Closed number outcome tick) = HasBlock outcome
 IsWithin (Overdue au tick) = Unit {0}
-IsWithin (Joined poll au tick low repairs) = IfSome repairs (λ n. n ≤ 512)
+IsWithin (Joined poll au tick low repairs) = IfSome repairs (λ n. n ≤ MOST_REPAIRS)
 IsWithin (Committed poll nonce version kind) = Unit {0}
-IsWithin (Voted poll hashes) = length hashes ≤ 512
-IsWithin (Served poll block) = block ≤ 511
+IsWithin (Voted poll hashes) = length hashes ≤ MOST_BLOCKS
+IsWithin (Served poll block) = block ≤ LAST_BLOCK
 IsWithin (Ended poll) = Unit {0}
-IsWithin (Tuned quorum minority repairs) = AreLimits (record { quorum = quorum; minority = minority }) × (repairs ≤ 512)
+IsWithin (Tuned quorum minority repairs) = AreLimits (record { quorum = quorum; minority = minority }) × (repairs ≤ MOST_REPAIRS)
 
+-- the name of a poll has numbers of the size of their types
 abbrev pub IsPoll : PollName → Type 0
 IsPoll poll = (poll.poller < 2 ^ 16) × (poll.number < 2 ^ 32)
 
+-- each hash has the size of one
 abbrev pub AreHashes : List (List ℕ) → Type 0
 AreHashes hashes = All (λ h. length h ≡ 32) hashes
 
+-- each number of a peer has the size of its type
 abbrev pub ArePeers : List ℕ → Type 0
 ArePeers peers = All (λ p. p < 2 ^ 16) peers
 
@@ -152,16 +172,20 @@ IsSized (Served poll block) = IsPoll poll
 IsSized (Ended poll) = IsPoll poll
 IsSized (Tuned quorum minority repairs) = Unit {0}
 
+-- a record that has a spelling which is read again
 abbrev pub IsInLimits : Record → Type 0
 IsInLimits r = IsWithin r × IsSized r
 
 -- ---- batches
 
+-- the one spelling of a batch: its records behind their count
 abbrev pub batch_spelling : List Record → List ℕ
 batch_spelling list = to_be_bytes w16 (length list) ++ flat_map spelling list
 
+-- the records are one at least, and no more than their count can say
 abbrev pub IsCounted : List Record → Type 0
 IsCounted list = (1 ≤ length list) × (length list ≤ 65535)
 
+-- a batch that has a spelling which is read again
 abbrev pub IsBatch : List Record → Type 0
 IsBatch list = IsCounted list × All IsInLimits list

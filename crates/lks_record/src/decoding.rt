@@ -12,13 +12,9 @@ use crate::reading::{
     long_of, nonce_of, optional_limits, optional_repairs, outcome_of, peers_of, poll_of,
     repairs_of,
 };
-use lks_base::{HashKind, Record};
+use lks_base::{HashKind, MOST_CIRCLE, MOST_NOMINEES, Record};
 use lks_field::Fields;
 use std::alloc::Global;
-
-const MOST_PEERS: u8 = 16;
-
-const MOST_NOMINEES: u8 = 8;
 
 const MOST_RECORDS: u16 = 65_535;
 
@@ -38,7 +34,7 @@ fn opened_of(alloc: Global, opening: Opening, fields: &mut Fields<'_>) -> Result
     let number = long_of(fields)?;
     let au = id_of(fields)?;
     let nonce = nonce_of(fields)?;
-    let inner = peers_of(alloc, MOST_PEERS, fields)?;
+    let inner = peers_of(alloc, MOST_CIRCLE as u8, fields)?;
     let tick = long_of(fields)?;
     let limits = optional_limits(opening.limited(), fields)?;
     let kind = kind_of(opening.kind(), fields)?;
@@ -72,7 +68,7 @@ fn outer_of(alloc: Global, fields: &mut Fields<'_>) -> Result<Record, RecFault>
     ensures { Reads result fields.new (outer_at fields.old) }
 {
     let number = long_of(fields)?;
-    let outer = peers_of(alloc, MOST_PEERS, fields)?;
+    let outer = peers_of(alloc, MOST_CIRCLE as u8, fields)?;
     Ok(Record::OuterOpened { number, outer })
 }
 

@@ -1,6 +1,7 @@
 //! Batches to bytes.
 
 ghost use Rattle.std.specs.Prelude.{◌≡◌, ◌≤◌, ◌++◌, length, OnOk, IfOk, All};
+ghost use Rattle.lks_base.specs.declared.limits.TheConstants.{MOST_BLOCKS, MOST_BLOCK_BYTES, MOST_CIRCLE, MOST_NOMINEES};
 ghost use Rattle.lks_record.specs.Spelling.{opening_form, joined_form, committed_form, spelling, batch_spelling, IsWithin, IsSized, IsCounted};
 ghost use Rattle.lks_record.specs.Reading.{decode_of};
 ghost use Rattle.lks_record.specs.Sizes.{most_batch_bytes};
@@ -43,8 +44,8 @@ fn form_of_committed(kind: HashKind) -> u8
 
 #[tactic(auto, unfolding(crate::specs::Spelling::spelling))]
 fn put_deposit(out: &mut Vec<u8>, au: u16, blocks: &[Bytes]) -> Written
-    requires count { length blocks.now ≤ 512 }
-    requires lengths { All (λ b. length b ≤ 16384) blocks.now }
+    requires count { length blocks.now ≤ MOST_BLOCKS }
+    requires lengths { All (λ b. length b ≤ MOST_BLOCK_BYTES) blocks.now }
     ensures spelled { OnOk result (out.new.items ≡ out.old.items ++ spelling (Record.Deposit au blocks.now)) }
     ensures sized { IsSized (Record.Deposit au blocks.now) }
 {
@@ -64,7 +65,7 @@ fn put_opened(
     limits: Option<Limits>,
     kind: HashKind,
 ) -> Written
-    requires { length inner.now ≤ 16 }
+    requires { length inner.now ≤ MOST_CIRCLE }
     ensures spelled { OnOk result (out.new.items ≡ out.old.items ++ spelling (Record.PollOpened number au nonce.now inner.now tick limits kind)) }
     ensures sized { IsSized (Record.PollOpened number au nonce.now inner.now tick limits kind) }
 {
@@ -80,7 +81,7 @@ fn put_opened(
 
 #[tactic(auto, unfolding(crate::specs::Spelling::spelling))]
 fn put_nominated(out: &mut Vec<u8>, number: u32, voter: u16, nominees: &[u16]) -> Written
-    requires { length nominees.now ≤ 8 }
+    requires { length nominees.now ≤ MOST_NOMINEES }
     ensures spelled { OnOk result (out.new.items ≡ out.old.items ++ spelling (Record.Nominated number voter nominees.now)) }
     ensures sized { IsSized (Record.Nominated number voter nominees.now) }
 {
@@ -92,7 +93,7 @@ fn put_nominated(out: &mut Vec<u8>, number: u32, voter: u16, nominees: &[u16]) -
 
 #[tactic(auto, unfolding(crate::specs::Spelling::spelling))]
 fn put_outer(out: &mut Vec<u8>, number: u32, outer: &[u16]) -> Written
-    requires { length outer.now ≤ 16 }
+    requires { length outer.now ≤ MOST_CIRCLE }
     ensures spelled { OnOk result (out.new.items ≡ out.old.items ++ spelling (Record.OuterOpened number outer.now)) }
     ensures sized { IsSized (Record.OuterOpened number outer.now) }
 {
@@ -103,7 +104,7 @@ fn put_outer(out: &mut Vec<u8>, number: u32, outer: &[u16]) -> Written
 
 #[tactic(auto, unfolding(crate::specs::Spelling::spelling))]
 fn put_vote_in(out: &mut Vec<u8>, number: u32, voter: u16, hashes: &[[u8; 32]]) -> Written
-    requires { length hashes.now ≤ 512 }
+    requires { length hashes.now ≤ MOST_BLOCKS }
     ensures spelled { OnOk result (out.new.items ≡ out.old.items ++ spelling (Record.VoteIn number voter hashes.now)) }
     ensures sized { IsSized (Record.VoteIn number voter hashes.now) }
 {
@@ -146,7 +147,7 @@ fn put_repair_bad(out: &mut Vec<u8>, number: u32, block: u16, voter: u16) -> Wri
 
 #[tactic(auto, unfolding(crate::specs::Spelling::spelling))]
 fn put_replaced(out: &mut Vec<u8>, number: u32, au: u16, block: u16, bytes: &[u8]) -> Written
-    requires { length bytes.now ≤ 16384 }
+    requires { length bytes.now ≤ MOST_BLOCK_BYTES }
     ensures spelled { OnOk result (out.new.items ≡ out.old.items ++ spelling (Record.Replaced number au block bytes.now)) }
     ensures sized { IsSized (Record.Replaced number au block bytes.now) }
 {
@@ -218,7 +219,7 @@ fn put_committed(
 
 #[tactic(auto, unfolding(crate::specs::Spelling::spelling))]
 fn put_voted(out: &mut Vec<u8>, poll: PollName, hashes: &[[u8; 32]]) -> Written
-    requires { length hashes.now ≤ 512 }
+    requires { length hashes.now ≤ MOST_BLOCKS }
     ensures spelled { OnOk result (out.new.items ≡ out.old.items ++ spelling (Record.Voted poll hashes.now)) }
     ensures sized { IsSized (Record.Voted poll hashes.now) }
 {

@@ -6,21 +6,12 @@ ghost use Rattle.lks_record.specs.Faults.{field};
 ghost use Rattle.lks_record.specs.Reading.{Reads, id_at, long_at, nonce_at, flag_at, from_one_at, peers_at, hashes_at, block_at, content_at, blocks_at, poll_at, minority_at, limits_at, repairs_at, optional_at, kind_at, outcome_at};
 
 use crate::fault::RecFault;
-use lks_base::{Blocks, Bytes, HashKind, Hashes, Ids, Limits, Outcome, PollName};
+use lks_base::{
+    Blocks, Bytes, HashKind, Hashes, Ids, LAST_BLOCK, Limits, MOST_BLOCK_BYTES, MOST_BLOCKS,
+    MOST_CIRCLE, MOST_REPAIRS, Outcome, PollName, obeys_quorum_rule,
+};
 use lks_field::Fields;
 use std::alloc::Global;
-
-const MOST_HASHES: u16 = 512;
-
-const MOST_BLOCKS: u16 = 512;
-
-const LAST_BLOCK: u16 = 511;
-
-const MOST_CONTENT: u16 = 16_384;
-
-const MOST_QUORUM: u16 = 16;
-
-const MOST_REPAIRS: u16 = 512;
 
 #[tactic(auto, unfolding(lks_field::specs::Reading::upto_at))]
 fn byte_upto(most: u8, fields: &mut Fields<'_>) -> Result<u8, RecFault>
@@ -111,7 +102,7 @@ fn many_hashes(alloc: Global, count: u16, fields: &mut Fields<'_>) -> Result<Has
 pub fn hashes_of(alloc: Global, fields: &mut Fields<'_>) -> Result<Hashes, RecFault>
     ensures { Reads result fields.new (hashes_at fields.old) }
 {
-    let count = fields.get_upto(MOST_HASHES)?;
+    let count = fields.get_upto(MOST_BLOCKS)?;
     many_hashes(alloc, count, fields)
 }
 
@@ -127,7 +118,7 @@ pub fn block_of(fields: &mut Fields<'_>) -> Result<u16, RecFault>
 pub fn content_of(alloc: Global, fields: &mut Fields<'_>) -> Result<Bytes, RecFault>
     ensures { Reads result fields.new (content_at fields.old) }
 {
-    let length = fields.get_upto(MOST_CONTENT)?;
+    let length = fields.get_upto(MOST_BLOCK_BYTES)?;
     let content = fields.get_bytes(length as usize)?;
     Ok(Bytes::from_vec(Vec::from_slice(alloc, content)?))
 }
@@ -165,7 +156,7 @@ fn minority_of(quorum: u16, fields: &mut Fields<'_>) -> Result<u16, RecFault>
     ensures { Reads result fields.new (minority_at quorum fields.old) }
 {
     let minority = fields.get_be16()?;
-    if quorum as u32 <= 2 * minority as u32 {
+    if !obeys_quorum_rule(quorum, minority) {
         return Err(RecFault::Limit);
     }
     Ok(minority)
@@ -175,7 +166,7 @@ fn minority_of(quorum: u16, fields: &mut Fields<'_>) -> Result<u16, RecFault>
 pub fn limits_of(fields: &mut Fields<'_>) -> Result<Limits, RecFault>
     ensures { Reads result fields.new (limits_at fields.old) }
 {
-    let quorum = from_one_of(MOST_QUORUM, fields)?;
+    let quorum = from_one_of(MOST_CIRCLE, fields)?;
     let minority = minority_of(quorum, fields)?;
     Ok(Limits { quorum, minority })
 }

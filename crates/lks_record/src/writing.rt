@@ -2,6 +2,7 @@
 
 ghost use Rattle.std.specs.Prelude.{◌≡◌, ◌≤◌, ◌++◌, ◌∷◌, length, OnOk, All};
 ghost use Rattle.std.specs.Int.{w16, to_be_bytes};
+ghost use Rattle.lks_base.specs.declared.limits.TheConstants.{MOST_BLOCKS, MOST_BLOCK_BYTES, MOST_CIRCLE};
 ghost use Rattle.lks_record.specs.Spelling.{start, kind_bytes, peer_bytes, hash_bytes, content_bytes, block_bytes, flag_bytes, poll_bytes, limit_bytes, optional, outcome_bytes};
 
 use lks_base::{Bytes, HashKind, Limits, Outcome, PollName};
@@ -19,7 +20,7 @@ pub fn put_start(out: &mut Vec<u8>, form: u8, tag: u8) -> Written
 
 /// Peers behind their count, a byte.
 pub fn put_peers(out: &mut Vec<u8>, peers: &[u16]) -> Written
-    requires { length peers.now ≤ 16 }
+    requires { length peers.now ≤ MOST_CIRCLE }
     ensures { OnOk result (out.new.items ≡ out.old.items ++ peer_bytes peers.now) }
 {
     put_u8(out, peers.len() as u8)?;
@@ -31,7 +32,7 @@ pub fn put_peers(out: &mut Vec<u8>, peers: &[u16]) -> Written
 
 /// Hashes behind their count.
 pub fn put_hashes(out: &mut Vec<u8>, hashes: &[[u8; 32]]) -> Written
-    requires { length hashes.now ≤ 512 }
+    requires { length hashes.now ≤ MOST_BLOCKS }
     ensures { OnOk result (out.new.items ≡ out.old.items ++ hash_bytes hashes.now) }
 {
     put_be16(out, hashes.len() as u16)?;
@@ -43,7 +44,7 @@ pub fn put_hashes(out: &mut Vec<u8>, hashes: &[[u8; 32]]) -> Written
 
 /// The bytes of a block, behind their length.
 pub fn put_content(out: &mut Vec<u8>, bytes: &[u8]) -> Written
-    requires { length bytes.now ≤ 16384 }
+    requires { length bytes.now ≤ MOST_BLOCK_BYTES }
     ensures { OnOk result (out.new.items ≡ out.old.items ++ content_bytes bytes.now) }
 {
     put_be16(out, bytes.len() as u16)?;
@@ -52,8 +53,8 @@ pub fn put_content(out: &mut Vec<u8>, bytes: &[u8]) -> Written
 
 /// Blocks behind their count.
 pub fn put_blocks(out: &mut Vec<u8>, blocks: &[Bytes]) -> Written
-    requires count { length blocks.now ≤ 512 }
-    requires lengths { All (λ b. length b ≤ 16384) blocks.now }
+    requires count { length blocks.now ≤ MOST_BLOCKS }
+    requires lengths { All (λ b. length b ≤ MOST_BLOCK_BYTES) blocks.now }
     ensures { OnOk result (out.new.items ≡ out.old.items ++ block_bytes blocks.now) }
 {
     put_be16(out, blocks.len() as u16)?;

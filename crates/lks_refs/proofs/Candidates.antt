@@ -9,28 +9,31 @@ use Rattle.std.proofs.lemmas.List.Kept.{AllPairs-cons, AllPairs-filter}
 use Rattle.std.proofs.lemmas.Map.Made.{IsDistinct-from_AllPairs}
 use Rattle.std.proofs.lemmas.Map.Steps.{length-le_from_distinct_below}
 use Rattle.std.proofs.lemmas.Map.Views.{any-filter_same, Contains-from_any}
+use Rattle.lks_base.specs.Checking.{has_member}
 use Rattle.lks_refs.specs.Circles.{each_once, may_stand, candidates}
-use Rattle.lks_refs.specs.Lists.{has}
 
 -- a filter keeps or drops a member by its test
-has-filter : (test : ℕ → Bool) (list : List ℕ) (p : ℕ) → has (filter test list) p ≡ (test p && has list p)
-has-filter test list p = any-filter_same (λ q. eqb q p) test (test p) (λ k same. ap test (eqb-true k p same)) list
+has_member-filter : (test : ℕ → Bool) (list : List ℕ) (p : ℕ) → has_member (filter test list) p ≡ (test p && has_member list p)
+unfolding has_member
+has_member-filter test list p = any-filter_same (λ q. eqb q p) test (test p) (λ k same. ap test (eqb-true k p same)) list
 
-has-each_once : (list : List ℕ) (p : ℕ) → has (each_once list) p ≡ has list p
-has-each_once [] p = refl
-has-each_once (x ∷ xs) p =
-    ap (λ b. eqb x p || b) (has-filter (λ y. not (eqb x y)) (each_once xs) p ∙ ap (λ b. not (eqb x p) && b) (has-each_once xs p)) ∙ or_else (eqb x p) (has xs p)
+has_member-each_once : (list : List ℕ) (p : ℕ) → has_member (each_once list) p ≡ has_member list p
+unfolding has_member
+has_member-each_once [] p = refl
+has_member-each_once (x ∷ xs) p =
+    ap (λ b. eqb x p || b) (has_member-filter (λ y. not (eqb x y)) (each_once xs) p ∙ ap (λ b. not (eqb x p) && b) (has_member-each_once xs p)) ∙ or_else (eqb x p) (has_member xs p)
   where
     or_else : (a b : Bool) → (a || (not a && b)) ≡ (a || b)
     or_else true b = refl
     or_else false b = refl
 
 -- one member more at the end
-each_once-push : (list : List ℕ) (x : ℕ) → each_once (list ++ x ∷ []) ≡ each_once list ++ cond (has list x) [] (x ∷ [])
+each_once-push : (list : List ℕ) (x : ℕ) → each_once (list ++ x ∷ []) ≡ each_once list ++ cond (has_member list x) [] (x ∷ [])
+unfolding has_member
 each_once-push [] x = refl
 each_once-push (y ∷ ys) x =
     ap (λ zs. y ∷ filter (λ z. not (eqb y z)) zs) (each_once-push ys x)
-    ∙ ap (λ zs. y ∷ zs) (filter-append (λ z. not (eqb y z)) (each_once ys) (cond (has ys x) [] (x ∷ [])) ∙ ap (λ zs. filter (λ z. not (eqb y z)) (each_once ys) ++ zs) (last (eqb y x) refl (has ys x)))
+    ∙ ap (λ zs. y ∷ zs) (filter-append (λ z. not (eqb y z)) (each_once ys) (cond (has_member ys x) [] (x ∷ [])) ∙ ap (λ zs. filter (λ z. not (eqb y z)) (each_once ys) ++ zs) (last (eqb y x) refl (has_member ys x)))
   where
     last : (same : Bool) → eqb y x ≡ same → (there : Bool) → filter (λ z. not (eqb y z)) (cond there [] (x ∷ [])) ≡ cond (same || there) [] (x ∷ [])
     last true is true = refl
@@ -41,12 +44,12 @@ each_once-push (y ∷ ys) x =
 -- a turn of the loop over a nomination
 pub candidates-push : (own : ℕ) (inner circle nominees : List ℕ) (x : ℕ)
     → candidates own inner circle (nominees ++ x ∷ [])
-    ≡ candidates own inner circle nominees ++ cond (may_stand own inner circle x && not (has (candidates own inner circle nominees) x)) (x ∷ []) []
+    ≡ candidates own inner circle nominees ++ cond (may_stand own inner circle x && not (has_member (candidates own inner circle nominees) x)) (x ∷ []) []
 unfolding candidates
 candidates-push own inner circle nominees x =
     let may = may_stand own inner circle in
-    ap (filter may) (each_once-push nominees x) ∙ filter-append may (each_once nominees) (cond (has nominees x) [] (x ∷ []))
-    ∙ ap (λ zs. filter may (each_once nominees) ++ zs) (last (may x) refl (has nominees x) ∙ sym (ap (λ b. cond (may x && not b) (x ∷ []) []) (has-filter may (each_once nominees) x ∙ ap (λ b. may x && b) (has-each_once nominees x))))
+    ap (filter may) (each_once-push nominees x) ∙ filter-append may (each_once nominees) (cond (has_member nominees x) [] (x ∷ []))
+    ∙ ap (λ zs. filter may (each_once nominees) ++ zs) (last (may x) refl (has_member nominees x) ∙ sym (ap (λ b. cond (may x && not b) (x ∷ []) []) (has_member-filter may (each_once nominees) x ∙ ap (λ b. may x && b) (has_member-each_once nominees x))))
   where
     last : (test : Bool) → may_stand own inner circle x ≡ test → (there : Bool)
         → filter (may_stand own inner circle) (cond there [] (x ∷ [])) ≡ cond (may_stand own inner circle x && not (may_stand own inner circle x && there)) (x ∷ []) []
@@ -96,6 +99,6 @@ candidates-few own inner circle nominees small =
 pub candidates_more : (own : ℕ) (inner circle nominees : List ℕ) (i : ℕ) → i < length nominees
     → candidates own inner circle (take (i + 1) nominees)
     ≡ candidates own inner circle (take i nominees)
-    ++ cond (may_stand own inner circle (get_or nominees i 0) && not (has (candidates own inner circle (take i nominees)) (get_or nominees i 0))) (get_or nominees i 0 ∷ []) []
+    ++ cond (may_stand own inner circle (get_or nominees i 0) && not (has_member (candidates own inner circle (take i nominees)) (get_or nominees i 0))) (get_or nominees i 0 ∷ []) []
 candidates_more own inner circle nominees i within =
     ap (candidates own inner circle) (take_more nominees i 0 within) ∙ candidates-push own inner circle (take i nominees) (get_or nominees i 0)

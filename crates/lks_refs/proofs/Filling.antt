@@ -3,6 +3,7 @@ use Rattle.std.proofs.Common.{◌≡◌, ◌≢◌, ℕ, ◌+◌, ◌-◌, min, 
 use Rattle.std.specs.List.{fold, All, Contains}
 use Rattle.std.proofs.lemmas.List.Elements.{All-nil, All-append, All-weaker, All-contains, All-head, All-tail}
 use Rattle.std.proofs.lemmas.List.Folds.{list_any_at}
+use Rattle.lks_base.specs.Checking.{has_member}
 use Rattle.lks_draw.proofs.Picking.{IsPickOf-by_key, picked_moved}
 use Rattle.lks_draw.proofs.Places.{moved_on}
 use Rattle.lks_draw.specs.Picks.{picked, words_taken, IsPickOf}
@@ -10,7 +11,6 @@ use Rattle.lks_draw.specs.Words.{Drawn, words_of, moved}
 use Rattle.lks_refs.proofs.Candidates.{candidates-once, candidates-pass, All-candidates}
 use Rattle.lks_refs.proofs.Members.{AllPairs-append, has_at}
 use Rattle.lks_refs.specs.Circles.{candidates, Filled, filled, circle_of, is_nominee, IsOuterCircle}
-use Rattle.lks_refs.specs.Lists.{has}
 
 -- what a pick from a nomination makes of the circle
 pub filled-peers : (d draws : Drawn) (own : ℕ) (inner : List ℕ) (size share : ℕ) (c : Filled) (nominees peers those : List ℕ) (most : ℕ) (members : List ℕ)
@@ -47,13 +47,13 @@ filled_kept d own inner nominated size share c nominees named is =
     let each : (P : ℕ → Type 0) → All P those → All P new =
     λ P all. All-weaker (Contains those) P (λ p here. All-contains P those p all here) new pick.members in
     let passes = candidates-pass own inner c.peers nominees in
-    let absent : All (λ p. has c.peers p ≡ false) new =
-    each (λ p. has c.peers p ≡ false) (λ k e within. grind (arith, passes k e within)) in
+    let absent : All (λ p. has_member c.peers p ≡ false) new =
+    each (λ p. has_member c.peers p ≡ false) (λ k e within. grind (arith, passes k e within)) in
     record {
       few = omega (arith, is.few, pick.count, length-append c.peers new);
       once = AllPairs-append c.peers new is.once (pick.once (candidates-once own inner c.peers nominees)) absent;
       others = All-append (λ p. p ≢ own) c.peers new is.others (each (λ p. p ≢ own) (λ k e within. grind (arith, passes k e within)));
-      not_inner = All-append (λ p. has inner p ≡ false) c.peers new is.not_inner (each (λ p. has inner p ≡ false) (λ k e within. grind (arith, passes k e within)));
+      not_inner = All-append (λ p. has_member inner p ≡ false) c.peers new is.not_inner (each (λ p. has_member inner p ≡ false) (λ k e within. grind (arith, passes k e within)));
       nominees = All-append (λ p. is_nominee nominated p ≡ true) c.peers new is.nominees
           (each (λ p. is_nominee nominated p ≡ true) (All-candidates (λ p. is_nominee nominated p ≡ true) own inner c.peers nominees named));
     }
@@ -70,7 +70,7 @@ fold_kept d own inner nominated size share c (n ∷ ns) named is =
 -- each member of a nomination is a nominee
 all_named : (nominated : List (List ℕ)) → All (λ nominees. All (λ p. is_nominee nominated p ≡ true) nominees) nominated
 all_named nominated = λ k ns within j e inside.
-    list_any_at (λ nominees. has nominees (get_or (get_or nominated k ns) j e)) nominated k ns within (has_at (get_or nominated k ns) j e _ inside refl)
+    list_any_at (λ nominees. has_member nominees (get_or (get_or nominated k ns) j e)) nominated k ns within (has_at (get_or nominated k ns) j e _ inside refl)
 
 -- what is true of each circle
 pub circle_law : (d : Drawn) (own : ℕ) (inner : List ℕ) (nominated : List (List ℕ)) (size : ℕ) (circle : List ℕ)
@@ -83,6 +83,6 @@ circle_law d own inner nominated size circle is =
       few = omega arith;
       once = λ i j e before within. absurd (omega arith);
       others = All-nil (λ p. p ≢ own);
-      not_inner = All-nil (λ p. has inner p ≡ false);
+      not_inner = All-nil (λ p. has_member inner p ≡ false);
       nominees = All-nil (λ p. is_nominee nominated p ≡ true);
     }))

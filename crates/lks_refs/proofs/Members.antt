@@ -7,14 +7,16 @@ use Rattle.std.proofs.lemmas.List.Folds.{list_any_at}
 use Rattle.std.proofs.lemmas.List.Elements.{All-append, All-push, All-filter}
 use Rattle.std.proofs.lemmas.List.Kept.{AllPairs-cons, AllPairs-filter}
 use Rattle.std.proofs.lemmas.List.Quantifiers.{all_pairs_push}
-use Rattle.lks_refs.specs.Lists.{has, without, joined, all_joined, list_after, IsReferenceList}
+use Rattle.lks_base.specs.Checking.{has_member}
+use Rattle.lks_refs.specs.Lists.{without, joined, all_joined, list_after, IsReferenceList}
 
 -- a list has the member at each place
-pub has_at : (list : List ℕ) (k d p : ℕ) → k < length list → get_or list k d ≡ p → has list p ≡ true
+pub has_at : (list : List ℕ) (k d p : ℕ) → k < length list → get_or list k d ≡ p → has_member list p ≡ true
+unfolding has_member
 has_at list k d p within same = list_any_at (λ q. eqb q p) list k d within (eq-eqb _ p same)
 
 -- what a list hasn't is none of its members
-pub absent_apart : (list : List ℕ) (p : ℕ) → has list p ≡ false → All (λ q. q ≢ p) list
+pub absent_apart : (list : List ℕ) (p : ℕ) → has_member list p ≡ false → All (λ q. q ≢ p) list
 absent_apart list p absent = λ k d within same. false≢true (sym absent ∙ has_at list k d p within same)
 
 pub AllPairs-head : (R : ℕ → ℕ → Type 0) (x : ℕ) (xs : List ℕ) → AllPairs R (x ∷ xs) → All (R x) xs
@@ -24,19 +26,20 @@ pub AllPairs-tail : (R : ℕ → ℕ → Type 0) (x : ℕ) (xs : List ℕ) → A
 AllPairs-tail R x xs h = λ i j d before within. h (suc i) (suc j) d (omega arith) (omega arith)
 
 -- two such lists, where no member of one is in the other
-pub AllPairs-append : (xs ys : List ℕ) → AllPairs ◌≢◌ xs → AllPairs ◌≢◌ ys → All (λ y. has xs y ≡ false) ys → AllPairs ◌≢◌ (xs ++ ys)
+pub AllPairs-append : (xs ys : List ℕ) → AllPairs ◌≢◌ xs → AllPairs ◌≢◌ ys → All (λ y. has_member xs y ≡ false) ys → AllPairs ◌≢◌ (xs ++ ys)
+unfolding has_member
 AllPairs-append [] ys once_x once_y apart = once_y
 AllPairs-append (x ∷ xs) ys once_x once_y apart =
     let here : All (λ y. x ≢ y) ys =
     λ k d within same. false≢true (sym (apart k d within) ∙ has_at (x ∷ xs) 0 d _ (omega arith) same) in
-    let rest : All (λ y. has xs y ≡ false) ys = λ k d within. grind (arith, apart k d within) in
+    let rest : All (λ y. has_member xs y ≡ false) ys = λ k d within. grind (arith, apart k d within) in
     AllPairs-cons ◌≢◌ x (xs ++ ys) (All-append (λ y. x ≢ y) xs ys (AllPairs-head ◌≢◌ x xs once_x) here)
     (AllPairs-append xs ys (AllPairs-tail ◌≢◌ x xs once_x) once_y rest)
 
 -- a peer that joins a reference list leaves it one
 joined_kept : (own : ℕ) (list : List ℕ) (p : ℕ) → IsReferenceList own list → IsReferenceList own (joined own list p)
-joined_kept own list p is = by_test (eqb p own) (has list p) refl refl where
-  by_test : (a b : Bool) → eqb p own ≡ a → has list p ≡ b → IsReferenceList own (if a || b then list else list ++ p ∷ [])
+joined_kept own list p is = by_test (eqb p own) (has_member list p) refl refl where
+  by_test : (a b : Bool) → eqb p own ≡ a → has_member list p ≡ b → IsReferenceList own (if a || b then list else list ++ p ∷ [])
   by_test true b own_is there = is
   by_test false true own_is there = is
   by_test false false not_own absent = record {
@@ -52,7 +55,7 @@ all_joined_kept own list (p ∷ ps) is = all_joined_kept own (joined own list p)
 pub list_after_kept : (own : ℕ) (list against joining picked : List ℕ) → IsReferenceList own list → IsReferenceList own (list_after own list against joining picked)
 unfolding list_after
 list_after_kept own list against joining picked is =
-    let test : ℕ → Bool = λ p. not (has against p) in
+    let test : ℕ → Bool = λ p. not (has_member against p) in
     let stayed : IsReferenceList own (without against list) = record {
       once = AllPairs-filter ◌≢◌ test list is.once;
       others = All-filter test (λ q. q ≢ own) list is.others;

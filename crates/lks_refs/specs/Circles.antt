@@ -2,9 +2,9 @@
 use Rattle.std.specs.Prelude.{◌≡◌, ◌≢◌, ℕ, ◌+◌, ◌-◌, ◌*◌, ◌≤◌, min, Bool, true, false, not, ◌&&◌, ◌==◌, List, [], ◌∷◌, ◌++◌, length, filter, fold, All, AllPairs}
 use Rattle.std.specs.Int.{div_ceil}
 use Rattle.std.specs.List.{list_any}
+use Rattle.lks_base.specs.Checking.{has_member}
 use Rattle.lks_draw.specs.Picks.{picked, words_taken}
 use Rattle.lks_draw.specs.Words.{Drawn, words_of}
-use Rattle.lks_refs.specs.Lists.{has}
 
 -- the members of a list in order, each at its first place
 abbrev pub each_once : List ℕ → List ℕ
@@ -13,7 +13,7 @@ each_once (x ∷ xs) = x ∷ filter (λ y. not (x == y)) (each_once xs)
 
 -- whether a nominee may be picked: not `own`, no inner peer, and not yet in the circle
 abbrev pub may_stand : ℕ → List ℕ → List ℕ → ℕ → Bool
-may_stand own inner circle p = not (p == own) && not (has inner p) && not (has circle p)
+may_stand own inner circle p = not (p == own) && not (has_member inner p) && not (has_member circle p)
 
 -- the candidates of a nomination, in its order
 unfoldable pub candidates : ℕ → List ℕ → List ℕ → List ℕ → List ℕ
@@ -49,12 +49,12 @@ circle_of d own inner nominated size = filled_by d own inner size (div_ceil size
 
 -- some nomination names this peer
 abbrev pub is_nominee : List (List ℕ) → ℕ → Bool
-is_nominee nominated p = list_any (λ nominees. has nominees p) nominated
+is_nominee nominated p = list_any (λ nominees. has_member nominees p) nominated
 
 -- what is true of each outer circle, whatever the words
 pub record IsOuterCircle (own : ℕ) (inner : List ℕ) (nominated : List (List ℕ)) (size : ℕ) (circle : List ℕ) : Type 0 where
   pub few : length circle ≤ size
   pub once : AllPairs ◌≢◌ circle
   pub others : All (λ p. p ≢ own) circle
-  pub not_inner : All (λ p. has inner p ≡ false) circle
+  pub not_inner : All (λ p. has_member inner p ≡ false) circle
   pub nominees : All (λ p. is_nominee nominated p ≡ true) circle

@@ -1,6 +1,6 @@
 -- The reference list of a peer, and what an agreed poll makes of it.
-use Rattle.std.specs.Prelude.{◌≢◌, ℕ, Bool, not, ◌||◌, ◌==◌, if◌then◌else◌, List, [], ◌∷◌, ◌++◌, filter, All, AllPairs}
-use Rattle.std.specs.List.{list_any}
+use Rattle.std.specs.Prelude.{◌≢◌, ℕ, not, ◌||◌, ◌==◌, if◌then◌else◌, List, [], ◌∷◌, ◌++◌, filter, All, AllPairs}
+use Rattle.lks_base.specs.Checking.{has_member}
 
 -- what contracts see: whose lists these are, the reference list, and the friends
 pub record Lists : Type 0 where
@@ -8,16 +8,13 @@ pub record Lists : Type 0 where
   pub list : List ℕ
   pub friends : List ℕ
 
-abbrev pub has : List ℕ → ℕ → Bool
-has list p = list_any (λ q. q == p) list
-
 -- a list without these peers
 abbrev pub without : List ℕ → List ℕ → List ℕ
-without out list = filter (λ p. not (has out p)) list
+without out list = filter (λ p. not (has_member out p)) list
 
 -- a peer joins the list of `own` at its end, unless it is there or is `own` itself
 abbrev pub joined : ℕ → List ℕ → ℕ → List ℕ
-joined own list p = if p == own || has list p then list else list ++ p ∷ []
+joined own list p = if p == own || has_member list p then list else list ++ p ∷ []
 
 -- peers join one after another
 abbrev pub all_joined : ℕ → List ℕ → List ℕ → List ℕ

@@ -2,14 +2,13 @@
 
 ghost use Rattle.std.specs.Prelude.{◌≡◌, ◌<◌, ◌^◌, IfOk, OnOk, OnErr, not, ◌&&◌, cond, [], ◌∷◌, ◌++◌, length, vec_len};
 ghost use Rattle.std.specs.Int.{div_ceil};
+ghost use Rattle.lks_base.specs.Checking.{has_member};
 ghost use Rattle.lks_draw.specs.Picks.{picked_by, words_taken};
 ghost use Rattle.lks_draw.specs.Words.{moved};
 ghost use Rattle.lks_refs.specs.Circles as circles;
 ghost use Rattle.lks_refs.specs.Circles.{circle_of, IsLeastShare, IsOuterCircle};
-ghost use Rattle.lks_refs.specs.Lists.{has};
 
-use crate::references::is_in;
-use lks_base::{Ids, OutOfMemory, PeerId};
+use lks_base::{Ids, OutOfMemory, PeerId, has_member};
 use lks_draw::Draws;
 use std::alloc::Global;
 
@@ -69,9 +68,9 @@ fn consider(
     circle: &[PeerId],
     p: PeerId,
 ) -> Result<(), OutOfMemory>
-    ensures { OnOk result (those.new.items ≡ those.old.items ++ cond (circles.may_stand own inner.now circle.now p && not (has those.old.items p)) (p ∷ []) []) }
+    ensures { OnOk result (those.new.items ≡ those.old.items ++ cond (circles.may_stand own inner.now circle.now p && not (has_member those.old.items p)) (p ∷ []) []) }
 {
-    if may_stand(own, inner, circle, p) && !is_in(those, p) {
+    if may_stand(own, inner, circle, p) && !has_member(those, p) {
         those.push(p)?;
     }
     Ok(())
@@ -80,7 +79,7 @@ fn consider(
 fn may_stand(own: PeerId, inner: &[PeerId], circle: &[PeerId], p: PeerId) -> bool
     ensures { result ≡ circles.may_stand own inner.now circle.now p }
 {
-    p != own && !is_in(inner, p) && !is_in(circle, p)
+    p != own && !has_member(inner, p) && !has_member(circle, p)
 }
 
 // The share of each nomination: the least number by which `nominations` shares make up the size.

@@ -2,9 +2,9 @@
 
 ghost use Rattle.std.specs.Prelude.{◌≡◌, ◌++◌, OnOk, OnErr, IfOk};
 ghost use Rattle.lks_refs.specs.Lists as lists;
-ghost use Rattle.lks_refs.specs.Lists.{has, without, joined, all_joined, list_after, IsReferenceList};
+ghost use Rattle.lks_refs.specs.Lists.{without, joined, all_joined, list_after, IsReferenceList};
 
-use lks_base::{Ids, OutOfMemory, PeerId};
+use lks_base::{Ids, OutOfMemory, PeerId, has_member};
 use std::alloc::Global;
 use std::marker::Model;
 
@@ -73,13 +73,6 @@ impl References {
     }
 }
 
-/// Whether a list has this peer.
-pub fn is_in(list: &[PeerId], peer: PeerId) -> bool
-    ensures { result ≡ has list.now peer }
-{
-    list.iter().any(|q| *q == peer)
-}
-
 // The list without these peers.
 fn others(alloc: Global, list: &[PeerId], out: &[PeerId]) -> Result<Vec<PeerId>, OutOfMemory>
     ensures { IfOk result (λ v. v.items ≡ without out.now list.now) }
@@ -87,7 +80,7 @@ fn others(alloc: Global, list: &[PeerId], out: &[PeerId]) -> Result<Vec<PeerId>,
     let kept = list
         .iter()
         .copied()
-        .filter(|p| !is_in(out, *p))
+        .filter(|p| !has_member(out, *p))
         .collect(alloc)?;
     Ok(kept)
 }
@@ -95,7 +88,7 @@ fn others(alloc: Global, list: &[PeerId], out: &[PeerId]) -> Result<Vec<PeerId>,
 fn join_one(list: &mut Vec<PeerId>, own: PeerId, peer: PeerId) -> Result<(), OutOfMemory>
     ensures { OnOk result (list.new.items ≡ joined own list.old.items peer) }
 {
-    if peer != own && !is_in(list, peer) {
+    if peer != own && !has_member(list, peer) {
         list.push(peer)?;
     }
     Ok(())

@@ -5,6 +5,7 @@ use Rattle.std.specs.Prelude.{codes, IfOk}
 use Rattle.std.specs.Str.{bytes_eq}
 use Rattle.std.proofs.lemmas.Bool.{and_parts}
 use Rattle.std.proofs.lemmas.List.Folds.{list_all-append}
+use Rattle.lks_base.specs.declared.limits.TheConstants.{MOST_EVENTS}
 use Rattle.lks_base.specs.declared.plans.AuPlan.{AuPlan}
 use Rattle.lks_base.specs.declared.plans.PeerPlan.{PeerPlan}
 use Rattle.lks_base.specs.declared.plans.Plan.{Plan}
@@ -197,7 +198,7 @@ au_line_sound rules turns aus more draft e =
 turns_line_sound : (rules : Rules) (turns : Option ℕ) (aus : List AuPlan) (more : List (List ℕ)) (draft : Draft) → turns_line rules turns aus more ≡ Some draft → Sound draft
 unfolding turns_line
 turns_line_sound rules None [] (word ∷ []) draft e =
-    let a = bind_some (number_in 4096 word) (λ n. Some (Ruled rules (Some n) [])) draft e in
+    let a = bind_some (number_in MOST_EVENTS word) (λ n. Some (Ruled rules (Some n) [])) draft e in
     along (Ruled rules (Some a.0) []) draft (same_some (Ruled rules (Some a.0) []) draft a.2) tt
 turns_line_sound rules turns aus more draft e = absurd cc
 

@@ -3,6 +3,7 @@ use Rattle.std.specs.Prelude.{◌≡◌, ℕ, ◌+◌, ◌==◌, Bool, true, fal
 use Rattle.std.specs.List.{list_all}
 use Rattle.std.specs.Option.{option_map}
 use Rattle.std.specs.Str.{bytes_eq}
+use Rattle.lks_base.specs.declared.limits.TheConstants.{MOST_EVENTS}
 use Rattle.lks_base.specs.declared.plans.AuPlan.{AuPlan}
 use Rattle.lks_base.specs.declared.plans.Plan.{Plan}
 use Rattle.lks_base.specs.declared.plans.Rules.{Rules}
@@ -31,26 +32,29 @@ numbers_line more = do
   rules ← rules_in more
   if are_good rules then Some (Ruled rules None []) else None
 
+-- the word rules, and the numbers
 unfoldable pub rules_line : List (List ℕ) → Option Draft
 rules_line (key ∷ more) = if bytes_eq key (codes "rules") then numbers_line more else None
 rules_line _ = None
 
 -- a plan without peers
 abbrev pub begun : Rules → Option ℕ → List AuPlan → Plan
-begun rules turns aus = record { rules = rules; turns = unwrap_or turns 4096; aus = aus; peers = [] }
+begun rules turns aus = record { rules = rules; turns = unwrap_or turns MOST_EVENTS; aus = aus; peers = [] }
 
 -- turns N: once, before the AUs
 unfoldable pub turns_line : Rules → Option ℕ → List AuPlan → List (List ℕ) → Option Draft
 turns_line rules None [] (word ∷ []) = do
-  turns ← number_in 4096 word
+  turns ← number_in MOST_EVENTS word
   Some (Ruled rules (Some turns) [])
 turns_line rules turns aus _ = None
 
+-- au A COUNT: one more AU
 unfoldable pub au_line : Rules → Option ℕ → List AuPlan → List (List ℕ) → Option Draft
 au_line rules turns aus more = do
   au ← au_in more
   if may_add_au aus au then Some (Ruled rules turns (aus ++ au ∷ [])) else None
 
+-- a peer line: the plan with one peer more
 unfoldable pub peer_line : Plan → List Step → List (List ℕ) → Option Draft
 peer_line plan steps more = option_map (λ p. Planned part.Peers p steps) (plan_with_peer plan more)
 
@@ -63,10 +67,12 @@ ruled_line rules turns aus (key ∷ more) =
     else None
 ruled_line rules turns aus _ = None
 
+-- the lines here declare peers
 abbrev pub in_peers : Part → Bool
 in_peers part.Peers = true
 in_peers _ = false
 
+-- the lines here are steps
 abbrev pub in_steps : Part → Bool
 in_steps part.Steps = true
 in_steps _ = false
@@ -83,6 +89,7 @@ later_line at plan steps key more =
 unfoldable pub declares_peer : Part → List ℕ → Bool
 declares_peer at key = in_peers at && bytes_eq key (codes "peer")
 
+-- behind the first peer: one more, or once a peer is honest a list, a copy or a step
 unfoldable pub planned_line : Part → Plan → List Step → List (List ℕ) → Option Draft
 planned_line at plan steps (key ∷ more) =
     if declares_peer at key then peer_line plan steps more
@@ -97,6 +104,7 @@ line_in Titled words = rules_line words
 line_in (Ruled rules turns aus) words = ruled_line rules turns aus words
 line_in (Planned at plan steps) words = planned_line at plan steps words
 
+-- each byte is in ASCII
 unfoldable pub are_ascii : List ℕ → Bool
 are_ascii text = list_all (λ b. nat_lt b 128) text
 

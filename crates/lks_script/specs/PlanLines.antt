@@ -2,6 +2,7 @@
 use Rattle.std.specs.Prelude.{ℕ, ◌==◌, Bool, not, ◌&&◌, ◌||◌, nat_le, nat_lt, if◌then◌else◌, List, [], ◌∷◌, ◌++◌, length, codes, Option, Some, None, is_none, slice_get}
 use Rattle.std.specs.List.{list_any, position, slice_set}
 use Rattle.std.specs.Str.{bytes_eq}
+use Rattle.lks_base.specs.declared.limits.TheConstants.{MOST_AUS, MOST_BLOCKS}
 use Rattle.lks_base.specs.declared.names.HashKind.TheVariants.{Sha256}
 use Rattle.lks_base.specs.declared.plans.AuPlan.{AuPlan}
 use Rattle.lks_base.specs.declared.plans.Holding.{Holding}
@@ -49,9 +50,9 @@ au_in (id ∷ count ∷ []) = do
   Some (record { id = a; count = n })
 au_in _ = None
 
--- at most four AUs of 1 to 512 blocks, each once
+-- there is room for one more AU, it has as many blocks as an AU may have, and its number is new
 unfoldable pub may_add_au : List AuPlan → AuPlan → Bool
-may_add_au aus au = nat_lt (length aus) 4 && is_within 1 512 au.count && not (has_au aus au.id)
+may_add_au aus au = nat_lt (length aus) MOST_AUS && is_within 1 MOST_BLOCKS au.count && not (has_au aus au.id)
 
 -- peer P honest SEED PROOF, peer P corrupt SEED PROOF
 unfoldable pub peer_in : List (List ℕ) → Option PeerPlan
@@ -63,6 +64,7 @@ peer_in (id ∷ kind ∷ seed ∷ proof ∷ []) = do
   Some (record { id = p; corrupt = corrupt; seed = seed; proof = proof; refs = []; friends = []; copies = []; hash = Sha256 })
 peer_in _ = None
 
+-- a peer that is honest is among these
 unfoldable pub some_honest : List PeerPlan → Bool
 some_honest peers = list_any (λ p. not p.corrupt) peers
 
@@ -93,10 +95,12 @@ lacks_list kind id peer = peer.id == id && not peer.corrupt && length (list_of k
 unfoldable pub may_hold : ℕ → PeerPlan → Bool
 may_hold id peer = peer.id == id && not peer.corrupt
 
+-- the peer with this list of the kind
 unfoldable pub with_list : ListKind → PeerPlan → List ℕ → PeerPlan
 with_list Refs p ids = record { id = p.id; corrupt = p.corrupt; seed = p.seed; proof = p.proof; refs = ids; friends = p.friends; copies = p.copies; hash = p.hash }
 with_list Friends p ids = record { id = p.id; corrupt = p.corrupt; seed = p.seed; proof = p.proof; refs = p.refs; friends = ids; copies = p.copies; hash = p.hash }
 
+-- the peer with one copy more
 abbrev pub with_copy : PeerPlan → Holding → PeerPlan
 with_copy p copy = record { id = p.id; corrupt = p.corrupt; seed = p.seed; proof = p.proof; refs = p.refs; friends = p.friends; copies = p.copies ++ copy ∷ []; hash = p.hash }
 

@@ -3,6 +3,7 @@ use Rattle.std.specs.Prelude.{◌≡◌, ℕ, ◌-◌, ◌==◌, Bool, true, fal
 use Rattle.std.specs.List.{slice_split}
 use Rattle.std.specs.Str.{bytes_eq}
 use Rattle.hex.specs.Hex.{decode_of}
+use Rattle.lks_base.specs.declared.limits.TheConstants.{LAST_BLOCK, MOST_BLOCK_BYTES, MOST_FORGED_BYTES, MOST_PROOF_BYTES}
 use Rattle.lks_base.specs.Checking.{is_within}
 use Rattle.lks_script.specs.declared.faults.Stop.{Stop}
 use Rattle.lks_script.specs.declared.faults.Stop.TheVariants.{Bad, Memory}
@@ -40,6 +41,7 @@ id_in word = number_in 65535 word
 abbrev pub poll_in : List ℕ → Option ℕ
 poll_in word = number_in 4294967295 word
 
+-- the bytes, where there is one at least and at most so many
 abbrev pub within : ℕ → List ℕ → Option (List ℕ)
 within most bytes = if is_within 1 most (length bytes) then Some bytes else None
 
@@ -57,20 +59,20 @@ seed_in word = do
   bytes ← hex_in 32 word
   Some (bytes ++ zeros (32 - length bytes))
 
--- at most 64 bytes in hex, none as a hyphen
+-- the bytes of a proof of effort in hex, none as a hyphen
 unfoldable pub proof_in : List ℕ → Option (List ℕ)
-proof_in word = if bytes_eq word (codes "-") then Some [] else hex_in 64 word
+proof_in word = if bytes_eq word (codes "-") then Some [] else hex_in MOST_PROOF_BYTES word
 
 -- one byte, so many times
 unfoldable pub repeated_in : List ℕ → List ℕ → Option (List ℕ)
 repeated_in byte times = do
   bytes ← hex_in 1 byte
-  n ← number_in 16384 times
+  n ← number_in MOST_BLOCK_BYTES times
   if nat_le 1 n then Some (replicate n (slice_index bytes 0)) else None
 
--- 1 to 16,384 bytes in hex, or one byte of them and how often it stands
+-- the bytes of a block in hex, or one byte of them and how often it stands
 unfoldable pub filled_block_in : List (List ℕ) → Option (List ℕ)
-filled_block_in (word ∷ []) = hex_in 16384 word
+filled_block_in (word ∷ []) = hex_in MOST_BLOCK_BYTES word
 filled_block_in (byte ∷ times ∷ []) = repeated_in byte times
 filled_block_in _ = None
 
@@ -84,11 +86,11 @@ blocks_in word = each_in block_in (parts 44 word)
 
 -- the number of a block
 abbrev pub index_in : List ℕ → Option ℕ
-index_in word = number_in 511 word
+index_in word = number_in LAST_BLOCK word
 
--- at most 40,000 bytes in hex, none as a hyphen
+-- the bytes of a forged message in hex, none as a hyphen
 unfoldable pub bytes_in : List ℕ → Option (List ℕ)
-bytes_in word = if bytes_eq word (codes "-") then Some [] else hex_in 40000 word
+bytes_in word = if bytes_eq word (codes "-") then Some [] else hex_in MOST_FORGED_BYTES word
 
 -- yes or no
 unfoldable pub answer_in : List ℕ → Option Bool

@@ -11,11 +11,8 @@ use crate::plan_lines::{
 };
 use crate::step_lines::add_step;
 use crate::steps::{Script, Step};
-use lks_base::{AuPlan, Plan, Rules, Seq};
+use lks_base::{AuPlan, MOST_EVENTS, Plan, Rules, Seq};
 use std::alloc::Global;
-
-/// The most events that threads may choose, and how many where a script says nothing of them.
-const TURNS: u32 = 4096;
 
 /// What the lines of a plan have come to.
 #[derive(Clone, Copy)]
@@ -104,7 +101,7 @@ fn read_turns(
 {
     match (turns, aus.as_slice(), more) {
         (None, [], [word]) => {
-            let turns = number(TURNS, word).ok_or(Stop::Bad)?;
+            let turns = number(u32::from(MOST_EVENTS), word).ok_or(Stop::Bad)?;
             Ok(Draft::Ruled {
                 rules,
                 turns: Some(turns),
@@ -148,7 +145,7 @@ fn begin(alloc: Global, rules: Rules, turns: Option<u32>, aus: Seq<AuPlan>) -> P
 {
     Plan {
         rules,
-        turns: turns.unwrap_or(TURNS),
+        turns: turns.unwrap_or(u32::from(MOST_EVENTS)),
         aus,
         peers: Seq::from_vec(Vec::new(alloc)),
     }

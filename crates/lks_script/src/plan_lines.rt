@@ -9,7 +9,8 @@ use crate::faults::Stop;
 use crate::numbers::number;
 use crate::words::{blocks, count, id, ids, kind, proof, seed};
 use lks_base::{
-    AuPlan, HashKind, Holding, Ids, PeerPlan, Plan, Rules, Seq, are_bounded, are_ordered, has_au,
+    AuPlan, HashKind, Holding, Ids, MOST_AUS, MOST_BLOCKS, PeerPlan, Plan, Rules, Seq, are_bounded,
+    are_ordered, has_au,
 };
 use std::alloc::Global;
 use std::mem;
@@ -105,7 +106,7 @@ pub fn au(words: &[&[u8]]) -> Result<AuPlan, Stop>
 pub fn may_add(aus: &[AuPlan], au: &AuPlan) -> bool
     ensures { result ≡ may_add_au aus.now au.now }
 {
-    aus.len() < 4 && 1 <= au.count && au.count <= 512 && !has_au(aus, au.id)
+    aus.len() < MOST_AUS as usize && 1 <= au.count && au.count <= MOST_BLOCKS && !has_au(aus, au.id)
 }
 
 #[tactic(auto, unfolding(crate::specs::PlanLines::peer_in))]

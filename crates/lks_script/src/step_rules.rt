@@ -1,24 +1,14 @@
 //! Which steps a script with a plan can have.
 
 ghost use Rattle.std.specs.Prelude.{◌≡◌};
-ghost use Rattle.lks_script.specs.StepRules.{has_corrupt, has_honest, is_own_step, is_said_vote, is_said, is_invitation, is_forgery, is_request, is_repair, is_nomination, is_step_of};
+ghost use Rattle.lks_script.specs.StepRules.{is_own_step, is_said_vote, is_said, is_invitation, is_forgery, is_request, is_repair, is_nomination, is_step_of};
 
 use crate::steps::Step;
-use lks_base::{Bytes, PeerPlan, PeerStep, Plan, are_short, has_au, has_peer};
-
-#[tactic(auto, unfolding(crate::specs::StepRules::has_corrupt))]
-fn corrupt(peers: &[PeerPlan], id: u16) -> bool
-    ensures { result ≡ has_corrupt peers.now id }
-{
-    peers.iter().any(|p| p.id == id && p.corrupt)
-}
-
-#[tactic(auto, unfolding(crate::specs::StepRules::has_honest))]
-fn honest(peers: &[PeerPlan], id: u16) -> bool
-    ensures { result ≡ has_honest peers.now id }
-{
-    peers.iter().any(|p| p.id == id && !p.corrupt)
-}
+use lks_base::{
+    Bytes, LAST_BLOCK, MOST_BLOCK_BYTES, MOST_BLOCKS, MOST_EVENTS, MOST_FORGED_BYTES,
+    MOST_NOMINEES, MOST_TICKS, PeerStep, Plan, are_short, has_au, has_corrupt, has_honest,
+    has_peer,
+};
 
 #[tactic(auto, unfolding(crate::specs::StepRules::is_own_step))]
 fn own_step(plan: &Plan, step: &PeerStep) -> bool
@@ -26,15 +16,18 @@ fn own_step(plan: &Plan, step: &PeerStep) -> bool
 {
     match step {
         PeerStep::OpenPoll { peer, au } => {
-            honest(plan.peers.as_slice(), *peer) && has_au(plan.aus.as_slice(), *au)
+            has_honest(plan.peers.as_slice(), *peer) && has_au(plan.aus.as_slice(), *au)
         }
         PeerStep::Widen { peer, .. }
         | PeerStep::Shut { peer, .. }
         | PeerStep::Tally { peer, .. }
         | PeerStep::Nudge { peer, .. }
         | PeerStep::GiveUp { peer, .. }
-        | PeerStep::Check { peer } => honest(plan.peers.as_slice(), *peer),
-        _ => false,
+        | PeerStep::Check { peer } => has_honest(plan.peers.as_slice(), *peer),
+        PeerStep::Work { .. }
+        | PeerStep::Expire { .. }
+        | PeerStep::Tune { .. }
+        | PeerStep::Deliver { .. } => false,
     }
 }
 
@@ -42,7 +35,7 @@ fn own_step(plan: &Plan, step: &PeerStep) -> bool
 fn said(plan: &Plan, from: u16, to: u16) -> bool
     ensures { result ≡ is_said plan.now from to }
 {
-    corrupt(plan.peers.as_slice(), from) && has_peer(plan.peers.as_slice(), to)
+    has_corrupt(plan.peers.as_slice(), from) && has_peer(plan.peers.as_slice(), to)
 }
 
 #[tactic(auto, unfolding(crate::specs::StepRules::is_said_vote))]
@@ -52,7 +45,7 @@ fn said_vote(plan: &Plan, from: u16, to: u16, au: u16, blocks: &[Bytes]) -> bool
     said(plan, from, to)
         && has_au(plan.aus.as_slice(), au)
         && 1 <= blocks.len()
-        && blocks.len() <= 512
+        && blocks.len() <= MOST_BLOCKS as usize
         && are_short(blocks)
 }
 
@@ -70,28 +63,28 @@ fn invitation(bytes: &[u8]) -> bool
 fn forgery(plan: &Plan, from: u16, to: u16, bytes: &[u8]) -> bool
     ensures { result ≡ is_forgery plan.now from to bytes.now }
 {
-    said(plan, from, to) && bytes.len() <= 40_000 && !invitation(bytes)
+    said(plan, from, to) && bytes.len() <= MOST_FORGED_BYTES as usize && !invitation(bytes)
 }
 
 #[tactic(auto, unfolding(crate::specs::StepRules::is_request))]
 fn request(plan: &Plan, from: u16, to: u16, block: u16) -> bool
     ensures { result ≡ is_request plan.now from to block }
 {
-    said(plan, from, to) && block <= 511
+    said(plan, from, to) && block <= LAST_BLOCK
 }
 
 #[tactic(auto, unfolding(crate::specs::StepRules::is_repair))]
 fn repair(plan: &Plan, from: u16, to: u16, block: u16, bytes: &[u8]) -> bool
     ensures { result ≡ is_repair plan.now from to block bytes.now }
 {
-    said(plan, from, to) && block <= 511 && bytes.len() <= 16_384
+    said(plan, from, to) && block <= LAST_BLOCK && bytes.len() <= MOST_BLOCK_BYTES as usize
 }
 
 #[tactic(auto, unfolding(crate::specs::StepRules::is_nomination))]
 fn nomination(plan: &Plan, from: u16, to: u16, nominees: &[u16]) -> bool
     ensures { result ≡ is_nomination plan.now from to nominees.now }
 {
-    said(plan, from, to) && nominees.len() <= 8
+    said(plan, from, to) && nominees.len() <= MOST_NOMINEES as usize
 }
 
 /// Whether a script with this plan can have the step.
@@ -101,11 +94,9 @@ pub fn step_of(plan: &Plan, step: &Step) -> bool
 {
     match step {
         Step::Peer(own) => own_step(plan, own),
-        Step::Tick { by } => 1 <= *by && *by <= 1_000_000,
-        Step::Next { times } => 1 <= *times && *times <= 4096,
-        Step::Lose => true,
-        Step::Again { .. } => true,
-        Step::Settle | Step::Finish => true,
+        Step::Tick { by } => 1 <= *by && *by <= MOST_TICKS,
+        Step::Next { times } => 1 <= *times && *times <= MOST_EVENTS,
+        Step::Lose | Step::Again { .. } | Step::Settle | Step::Finish => true,
         Step::Forge { from, to, bytes } => forgery(plan, *from, *to, bytes.as_slice()),
         Step::SayProof { from, to, .. } => said(plan, *from, *to),
         Step::SayRequest {
@@ -136,6 +127,6 @@ pub fn step_of(plan: &Plan, step: &Step) -> bool
             blocks,
             ..
         } => said_vote(plan, *from, *to, *au, blocks.as_slice()),
-        _ => false,
+        Step::SayPoll { .. } | Step::Crash { .. } | Step::Cut { .. } => false,
     }
 }

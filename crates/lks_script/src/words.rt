@@ -7,7 +7,9 @@ ghost use Rattle.lks_script.specs.Numbers.{number_in};
 use crate::faults::Stop;
 use crate::numbers::number;
 use hex::FromHexError;
-use lks_base::{Blocks, Bytes, Ids};
+use lks_base::{
+    Blocks, Bytes, Ids, LAST_BLOCK, MOST_BLOCK_BYTES, MOST_FORGED_BYTES, MOST_PROOF_BYTES,
+};
 use std::alloc::{AllocError, Global};
 
 /// The number of a peer or of an AU.
@@ -31,7 +33,7 @@ pub fn count(word: &[u8]) -> Result<u16, Stop>
 pub fn index(word: &[u8]) -> Result<u16, Stop>
     ensures { Gives result (index_in word.now) }
 {
-    match number(511, word) {
+    match number(u32::from(LAST_BLOCK), word) {
         Some(n) => Ok(n as u16),
         None => Err(Stop::Bad),
     }
@@ -98,7 +100,7 @@ pub fn proof(alloc: Global, word: &[u8]) -> Result<Bytes, Stop>
     if word == b"-".as_slice() {
         return Ok(Bytes::from_vec(Vec::new(alloc)));
     }
-    Ok(Bytes::from_vec(hex_bytes(alloc, word, 64)?))
+    Ok(Bytes::from_vec(hex_bytes(alloc, word, MOST_PROOF_BYTES as usize)?))
 }
 
 /// Any bytes in hex, or a hyphen for none.
@@ -109,7 +111,7 @@ pub fn bytes(alloc: Global, word: &[u8]) -> Result<Bytes, Stop>
     if word == b"-".as_slice() {
         return Ok(Bytes::from_vec(Vec::new(alloc)));
     }
-    Ok(Bytes::from_vec(hex_bytes(alloc, word, 40_000)?))
+    Ok(Bytes::from_vec(hex_bytes(alloc, word, MOST_FORGED_BYTES as usize)?))
 }
 
 /// One byte, so many times.
@@ -119,7 +121,7 @@ fn repeated(alloc: Global, word: &[u8], times: &[u8]) -> Result<Bytes, Stop>
 {
     let bytes = hex_bytes(alloc, word, 1)?;
     let byte = bytes[0];
-    match number(16_384, times) {
+    match number(u32::from(MOST_BLOCK_BYTES), times) {
         Some(n) if 1 <= n => Ok(Bytes::from_vec(vec![in alloc; byte; n as usize]?)),
         _ => Err(Stop::Bad),
     }
@@ -130,7 +132,7 @@ fn filled_block(alloc: Global, words: &[&[u8]]) -> Result<Bytes, Stop>
     ensures { Gives result (filled_block_in (map (λ w. w.now) words.now)) }
 {
     match words {
-        [word] => Ok(Bytes::from_vec(hex_bytes(alloc, word, 16_384)?)),
+        [word] => Ok(Bytes::from_vec(hex_bytes(alloc, word, MOST_BLOCK_BYTES as usize)?)),
         [word, times] => repeated(alloc, word, times),
         _ => Err(Stop::Bad),
     }

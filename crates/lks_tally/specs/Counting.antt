@@ -1,5 +1,5 @@
 -- The verdict of a poll, by counting the votes for and against each block of a copy.
-use Rattle.std.specs.Prelude.{◌≡◌, ◌<◌, ℕ, Bool, false, not, ◌==◌, ◌+◌, ◌-◌, nat_lt, nat_le, if◌then◌else◌, zero, suc, Option, Some, None, List, length, take, slice_get, count_by, filter, map}
+use Rattle.std.specs.Prelude.{◌≡◌, ◌<◌, ℕ, Bool, false, not, ◌==◌, ◌+◌, ◌-◌, nat_le, if◌then◌else◌, zero, suc, Option, Some, None, List, length, take, slice_get, count_by, filter, map}
 use Rattle.std.specs.Cmp.Lexicographic.{pointwise}
 use Rattle.lks_base.specs.Kinds.{is_second}
 use Rattle.lks_hash.specs.Hashes.{key_of}
@@ -10,6 +10,7 @@ use Rattle.lks_tally.specs.declared.ballots.At.{At}
 use Rattle.lks_tally.specs.declared.ballots.At.TheVariants as at
 use Rattle.lks_tally.specs.declared.ballots.Verdict.{Verdict}
 use Rattle.lks_tally.specs.declared.ballots.Verdict.TheVariants.{Inquorate, Agreed, Loss, Split}
+use Rattle.lks_tally.specs.PollRules.{is_inquorate}
 
 -- the key under which a voter votes
 abbrev pub key_for : Ballot → ℕ → List ℕ
@@ -19,6 +20,7 @@ key_for q voter = key_of (is_second q.kind) q.poll.poller q.poll.number q.nonce 
 abbrev pub hash_at : Ballot → List (List ℕ) → ℕ → ℕ → List ℕ
 hash_at q blocks b voter = running (is_second q.kind) (key_for q voter) (take (b + 1) blocks)
 
+-- whether the hash that was found, if any, is this one
 abbrev pub is_hash : Option (List ℕ) → List ℕ → Bool
 is_hash None hash = false
 is_hash (Some found) hash = pointwise ◌==◌ found hash
@@ -27,9 +29,11 @@ is_hash (Some found) hash = pointwise ◌==◌ found hash
 abbrev pub agrees : Ballot → List (List ℕ) → ℕ → Vote → Bool
 agrees q blocks b v = is_hash (slice_get v.hashes b) (hash_at q blocks b v.voter)
 
+-- how many votes are for these blocks at b
 abbrev pub for_at : Ballot → List Vote → List (List ℕ) → ℕ → ℕ
 for_at q votes blocks b = count_by (agrees q blocks b) votes
 
+-- how many votes are against them
 abbrev pub against_at : Ballot → List Vote → List (List ℕ) → ℕ → ℕ
 against_at q votes blocks b = length votes - for_at q votes blocks b
 
@@ -46,6 +50,7 @@ abbrev pub landslide : ℕ → ℕ → ℕ → At
 landslide minority votes_for votes_against =
     if nat_le votes_against minority then at.Win else (if nat_le votes_for minority then at.Loss else at.Split)
 
+-- what the votes say of these blocks at b
 abbrev pub verdict_at : ℕ → Ballot → List Vote → List (List ℕ) → ℕ → At
 verdict_at minority q votes blocks b = landslide minority (for_at q votes blocks b) (against_at q votes blocks b)
 
@@ -64,7 +69,7 @@ first_from minority q votes blocks b (suc n) =
 -- the verdict on the copy that has these blocks
 unfoldable pub verdict_on : ℕ → ℕ → Ballot → List Vote → List (List ℕ) → Verdict
 verdict_on quorum minority q votes blocks =
-    if nat_lt (length votes) quorum then Inquorate else first_from minority q votes blocks 0 (length blocks)
+    if is_inquorate (length votes) quorum then Inquorate else first_from minority q votes blocks 0 (length blocks)
 
 -- b is the first block that isn't a win, and this is what the votes say there
 pub record IsFirst (minority : ℕ) (q : Ballot) (votes : List Vote) (blocks : List (List ℕ)) (said : At) (b : ℕ) : Type 0 where

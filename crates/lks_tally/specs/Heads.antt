@@ -10,6 +10,7 @@ use Rattle.lks_tally.specs.Counting.{key_for, is_hash}
 abbrev pub heads : Ballot → List (List ℕ) → List Vote → List (List ℕ)
 heads q blocks votes = map (λ v. running (is_second q.kind) (key_for q v.voter) blocks) votes
 
+-- the keys of all voters: their running hashes before the first block
 abbrev pub keys_of : Ballot → List Vote → List (List ℕ)
 keys_of q votes = map (λ v. key_for q v.voter) votes
 

@@ -1,6 +1,7 @@
 -- What contracts see of a tally.
 use Rattle.std.specs.Prelude.{◌≡◌, ℕ, ◌*◌, ◌≤◌, ◌+◌, min, max, Bool, ◌==◌, List, [], ◌∷◌, ◌++◌, length, take}
 use Rattle.std.specs.List.{list_any}
+use Rattle.lks_base.specs.declared.limits.TheConstants.{MOST_CIRCLE}
 use Rattle.lks_base.specs.declared.names.Limits.{Limits}
 use Rattle.lks_tally.specs.declared.ballots.Ballot.{Ballot}
 use Rattle.lks_tally.specs.declared.ballots.Vote.{Vote}
@@ -21,14 +22,15 @@ pub record Tallied : Type 0 where
 abbrev pub IsCacheOf : Tallied → List (List ℕ) → Type 0
 IsCacheOf t blocks = t.hashes ≡ rows_of t.ballot blocks t.votes t.kept
 
--- there is room for the hashes of 16 votes
+-- there is room for the hashes of as many votes as an inner circle casts at most
 abbrev pub IsReserved : Tallied → Type 0
-IsReserved t = 16 * t.ballot.count ≤ t.room
+IsReserved t = MOST_CIRCLE * t.ballot.count ≤ t.room
 
 -- the same poll with the same numbers and votes
 abbrev pub IsSame : Tallied → Tallied → Type 0
 IsSame t u = (t.ballot ≡ u.ballot) × (t.limits ≡ u.limits) × (t.votes ≡ u.votes)
 
+-- whether one of the votes is of this voter
 abbrev pub has_voted : List Vote → ℕ → Bool
 has_voted votes voter = list_any (λ v. v.voter == voter) votes
 

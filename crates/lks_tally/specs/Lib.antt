@@ -1,4 +1,6 @@
 pub mod Counting
+pub mod Distinct
 pub mod Heads
 pub mod Keeping
+pub mod PollRules
 pub mod Rows

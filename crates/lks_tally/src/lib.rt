@@ -5,19 +5,20 @@
 //! verdict to the next, so that after a repair only the blocks from there on are hashed again. Both give the same answers.
 //!
 //! ```rust
+//! use lks_base::MOST_CIRCLE;
 //! use lks_hash::Steps;
 //! use lks_tally::{Tally, Verdict};
 //! use std::sync::ledger::Ledger;
 //!
 //! fn lost_block<C: Contents, L: Ledger>(tally: &mut Tally, copy: &C, steps: &mut Steps<L>) -> Option<u16>
 //!     requires reserved { IsReserved tally.old }
-//!     requires few { length tally.old.votes ≤ 16 }
+//!     requires few { length tally.old.votes ≤ MOST_CIRCLE }
 //!     requires count { length (C.blocks copy.now) ≡ tally.old.ballot.count }
 //!     requires cache { IsCacheOf tally.old (C.blocks copy.now) }
 //! {
 //!     match tally.verdict(copy, steps) {
 //!         Verdict::Loss { block } => Some(block),
-//!         _ => None,
+//!         Verdict::Inquorate | Verdict::Agreed | Verdict::Split { .. } => None,
 //!     }
 //! }
 //! ```

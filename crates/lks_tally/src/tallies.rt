@@ -8,15 +8,13 @@ use crate::ballots::{At, Ballot, Verdict, Vote};
 use crate::rows::Rows;
 use crate::{counts, rows, trials};
 use lks_base::{
-    AuId, Contents, HashKind, Hashes, Ids, Limits, OutOfMemory, PeerId, PollName, Rules,
+    AuId, Contents, HashKind, Hashes, Ids, Limits, MOST_CIRCLE, OutOfMemory, PeerId, PollName,
+    Rules,
 };
 use lks_hash::Steps;
 use std::alloc::Global;
 use std::marker::Model;
 use std::sync::ledger::Ledger;
-
-/// The most votes for which a tally takes room at once: those of an inner circle.
-const MOST_VOTES: usize = 16;
 
 /// Why a vote isn't taken.
 #[derive(Clone, Copy, Debug, PartialEq, Eq)]
@@ -87,15 +85,17 @@ impl Tally {
         }
     }
 
-    /// Takes room for 16 votes and their running hashes, so that verdicts take no memory.
+    /// Takes room for the votes of a whole inner circle and their running hashes, so that verdicts take no memory.
     pub fn reserve(&mut self) -> Result<(), OutOfMemory>
         ensures ok { OnOk result (IsReserved self.new) }
         ensures same { self.new ≡ record self.old { room = self.new.room } }
         ensures room { self.old.room ≤ self.new.room }
     {
-        self.votes.try_reserve(MOST_VOTES)?;
-        let room = MOST_VOTES * self.ballot.count as usize;
-        self.rows.hashes.try_reserve(room)?;
+        let most = MOST_CIRCLE as usize;
+        self.votes.try_reserve(most)?;
+        self.rows
+            .hashes
+            .try_reserve(most * self.ballot.count as usize)?;
         Ok(())
     }
 
@@ -125,7 +125,7 @@ impl Tally {
     #[tactic(auto, unfolding(crate::specs::Counting::verdict_on))]
     pub fn verdict<C: Contents, L: Ledger>(&mut self, c: &C, steps: &mut Steps<L>) -> Verdict
         requires reserved { IsReserved self.old }
-        requires few { length self.old.votes ≤ 16 }
+        requires few { length self.old.votes ≤ MOST_CIRCLE }
         requires count { length (C.blocks c.now) ≡ self.old.ballot.count }
         requires cache { IsCacheOf self.old (C.blocks c.now) }
         ensures verdict { result ≡ verdict_on self.old.limits.quorum self.old.limits.minority self.old.ballot self.old.votes (C.blocks c.now) }

@@ -1,5 +1,6 @@
 //! Verdicts of small polls on the blocks `41` and `42`, with a quorum of 3 and at most 1 vote in a minority.
 ghost use Rattle.std.specs.Prelude.{◌≡◌, ◌≤◌, [], ◌∷◌, length, IfOk};
+ghost use Rattle.lks_base.specs.declared.limits.TheConstants.{MOST_CIRCLE};
 ghost use Rattle.lks_hash.specs.Counting.{Opens};
 ghost use Rattle.lks_tally.specs.Keeping.{IsReserved};
 
@@ -101,8 +102,8 @@ fn tally_of<C: Contents, L: Ledger>(
     copies: &[C],
     steps: &mut Steps<L>,
 ) -> Result<Tally, Fail>
-    requires { length copies.now ≤ 16 }
-    ensures { IfOk result (λ t. (IsReserved t) × (length t.votes ≤ 16) × (t.ballot.count ≡ count) × (t.kept ≡ 0) × (t.hashes ≡ [])) }
+    requires { length copies.now ≤ MOST_CIRCLE }
+    ensures { IfOk result (λ t. (IsReserved t) × (length t.votes ≤ MOST_CIRCLE) × (t.ballot.count ≡ count) × (t.kept ≡ 0) × (t.hashes ≡ [])) }
 {
     let q = ballot_of(kind, count);
     let mut tally = Tally::new(alloc, &RULES, q.poll, q.au, q.kind, q.nonce, count);
@@ -120,7 +121,7 @@ fn verdict_counted<L: Ledger>(
     votes: &[Pair],
 ) -> Result<(Verdict, Verdict), Fail>
     requires blank { Opens blank L.name L.parts }
-    requires few { length votes.now ≤ 16 }
+    requires few { length votes.now ≤ MOST_CIRCLE }
 {
     let kind = HashKind::Sha256;
     let mut steps = Steps::<L>::open(blank);
@@ -142,7 +143,7 @@ fn verdict_counted<L: Ledger>(
 }
 
 fn verdict_on(alloc: Global, votes: &[Pair]) -> Result<(Verdict, Verdict), Fail>
-    requires { length votes.now ≤ 16 }
+    requires { length votes.now ≤ MOST_CIRCLE }
 {
     verdict_counted::<Brand>(Blank::new(1), alloc, votes)
 }

@@ -2,8 +2,8 @@ use Rattle.std.proofs.Common.{◌≡◌, ◌<◌, ◌^◌, not, ◌&&◌, cond, 
 use Rattle.std.specs.List.{All}
 use Rattle.std.proofs.lemmas.Grind.{common_steps}
 use Rattle.std.proofs.lemmas.List.Elements.{All-from_get_or}
+use Rattle.lks_base.specs.Checking.{has_member}
 use Rattle.lks_refs.specs.Circles.{candidates, may_stand}
-use Rattle.lks_refs.specs.Lists.{has}
 use Rattle.lks_refs.proofs.Candidates.{candidates_more, candidates-few}
 use Rattle.lks_refs.proofs.circles.candidates.Goals as goal
 
@@ -15,7 +15,7 @@ pub loop-p-preserved : goal.loop-p-preserved
 loop-p-preserved c =
     let x = get_or c.args.nominees.now c.loop-p.p-index 0 in
     c.in_ok-consider.ensures
-    ∙ ap (λ those. those ++ cond (may_stand c.args.own c.args.inner.now c.args.circle.now x && not (has those x)) (x ∷ []) []) c.loop-p.invariant
+    ∙ ap (λ those. those ++ cond (may_stand c.args.own c.args.inner.now c.args.circle.now x && not (has_member those x)) (x ∷ []) []) c.loop-p.invariant
     ∙ sym (candidates_more c.args.own c.args.inner.now c.args.circle.now c.args.nominees.now c.loop-p.p-index c.loop-p-test.true)
 
 pub returns-clause-few : goal.returns-clause-few
