@@ -1,5 +1,5 @@
 -- What the calls of a disk do to its bytes, and what a crash may do between two syncs.
-use Rattle.std.specs.Prelude.{◌≡◌, ◌⊎◌, ◌↔◌, ℕ, Bool, true, false, ◌+◌, ◌-◌, ◌≤◌, max, min, List, ◌++◌, length, take, drop, Result, Ok, Err, OnOk, IsErrOf}
+use Rattle.std.specs.Prelude.{◌≡◌, ◌⊎◌, ℕ, Bool, true, false, ◌+◌, ◌-◌, ◌≤◌, max, min, List, ◌++◌, length, take, drop, Result, Ok, Err, OnOk, IsErrOf}
 use Rattle.lks_disk.specs.Counts.{Rose}
 use Rattle.lks_disk.specs.declared.disks.DiskFail.{DiskFail}
 use Rattle.lks_disk.specs.declared.disks.DiskFail.TheVariants.{Failed, Cut, Memory}
@@ -48,45 +48,56 @@ pub record LeavesOnly {D : Type 0} (moment : D → ℕ) (left_since : D → ℕ 
   -- for a run that began earlier
   pub before : (t : ℕ) (c : List ℕ) → t ≤ moment old → left_since new t c → left_since old t c ⊎ P c
 
--- a call changed nothing of what a read gives and a crash leaves
-pub record Same {D : Type 0} (told : D → Type 0) (seen : D → List ℕ) (may_leave : D → List ℕ → Type 0) (moment : D → ℕ) (left_since : D → ℕ → List ℕ → Type 0) (old new : D) : Type 0 where
-  pub tells : told old ↔ told new
-  pub bytes : seen new ≡ seen old
-  pub leaves : (c : List ℕ) → may_leave new c → may_leave old c
-  pub left : (c : List ℕ) → may_leave old c → may_leave new c
-  pub time : moment new ≡ moment old
-  pub past : (t : ℕ) (c : List ℕ) → left_since new t c → left_since old t c
-  pub since : (t : ℕ) (c : List ℕ) → left_since old t c → left_since new t c
-
--- `Failed` is answered only where the count of faults rose in the call; it never falls
+-- `Failed` is answered only where the count of faults rose in the call. It never falls, and it rises with no other answer:
+-- no fault is passed over.
 pub record HasCause {T : Type 0} (before now : ℕ) (result : Result T DiskFail) : Type 0 where
   pub later : before ≤ now
   pub failed : IsErrOf result Failed → Rose before now
+  pub ok : OnOk result (now ≡ before)
+  pub cut : IsErrOf result Cut → now ≡ before
+  pub memory : IsErrOf result Memory → now ≡ before
 
 -- the call takes no memory
 abbrev pub NoMemory : {T : Type 0} → Result T DiskFail → Type 0
 NoMemory result = IsErrOf result Memory → ⊥
 
--- What a write or a sync does to the fuse: whether one is set, whether it has burned, the calls that it still
--- lets pass, and the count of burned fuses, each before the call and after it.
-pub record Fused {T : Type 0} (set set_after burned burned_after : Bool) (left left_after burns burns_after : ℕ) (result : Result T DiskFail) : Type 0 where
-  pub stays_set : set_after ≡ set
-  -- a call that passes is one of those that are left
-  pub passes : OnOk result (set ≡ true → left_after + 1 ≡ left)
-  pub lower : left_after ≤ left
-  pub memory : IsErrOf result Memory → left_after ≡ left
-  pub cut : IsErrOf result Cut → (set ≡ true) × (left ≡ 0) × (burned_after ≡ true)
-  pub stays_burned : burned ≡ true → burned_after ≡ true
-  pub later : burns ≤ burns_after
-  -- the count rises with the call that burns it, and with no other
-  pub burn : burned ≡ false → burned_after ≡ true → Rose burns burns_after
-  pub ends : burned ≡ false → burned_after ≡ true → IsErrOf result Cut
-  pub no_burn : burned_after ≡ burned → burns_after ≡ burns
+-- the fuse as a disk tells of it
+pub record FuseTold : Type 0 where
+  pub set : Bool  -- one is set
+  pub burned : Bool  -- it has burned
+  pub left : ℕ  -- the calls that it still lets pass
+  pub choice : ℕ  -- which outcome of a crash it leaves
+  pub burns : ℕ  -- how many have burned so far
 
--- a call that is no write and no sync leaves the fuse, and answers `Cut` only where it has burned
-pub record SameFuse {T : Type 0} (set set_after burned burned_after : Bool) (left left_after burns burns_after : ℕ) (result : Result T DiskFail) : Type 0 where
-  pub stays_set : set_after ≡ set
-  pub stays_burned : burned_after ≡ burned
-  pub stays_left : left_after ≡ left
-  pub no_burn : burns_after ≡ burns
-  pub cut : IsErrOf result Cut → (set ≡ true) × (burned ≡ true)
+-- the call was cut off, or refused for want of memory before
+abbrev pub IsCutOff : {T : Type 0} → Result T DiskFail → Type 0
+IsCutOff (Ok _) = ⊥
+IsCutOff (Err Failed) = ⊥
+IsCutOff (Err Cut) = Unit {0}
+IsCutOff (Err Memory) = Unit {0}
+
+-- what a write or a sync does to the fuse
+pub record Fused {T : Type 0} (old new : FuseTold) (result : Result T DiskFail) : Type 0 where
+  pub stays_set : new.set ≡ old.set
+  pub same_choice : new.choice ≡ old.choice
+  -- a call that passes is one of those that are left
+  pub passes : OnOk result (old.set ≡ true → new.left + 1 ≡ old.left)
+  pub lower : new.left ≤ old.left
+  pub memory : IsErrOf result Memory → new.left ≡ old.left
+  pub cut : IsErrOf result Cut → (old.set ≡ true) × (old.left ≡ 0) × (new.burned ≡ true)
+  -- where it lets nothing pass, the call is cut off
+  pub spent : old.set ≡ true → old.left ≡ 0 → IsCutOff result
+  pub stays_burned : old.burned ≡ true → new.burned ≡ true
+  pub later : old.burns ≤ new.burns
+  -- the count rises with the call that burns it, and with no other
+  pub burn : old.burned ≡ false → new.burned ≡ true → Rose old.burns new.burns
+  pub ends : old.burned ≡ false → new.burned ≡ true → IsErrOf result Cut
+  pub no_burn : new.burned ≡ old.burned → new.burns ≡ old.burns
+  pub unburned : OnOk result (new.burns ≡ old.burns)
+  pub unset : old.set ≡ false → new.burns ≡ old.burns
+
+-- a call that is no write and no sync leaves the fuse, and is cut off exactly where it has burned
+pub record SameFuse {T : Type 0} (old new : FuseTold) (result : Result T DiskFail) : Type 0 where
+  pub same : new ≡ old
+  pub gone : old.burned ≡ true → IsCutOff result
+  pub cut : IsErrOf result Cut → (old.set ≡ true) × (old.burned ≡ true)

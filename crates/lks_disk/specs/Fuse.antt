@@ -1,6 +1,7 @@
 -- A fuse, and what the calls of a disk in memory answer by it.
 use Rattle.std.specs.Prelude.{◌≡◌, ℕ, List, zero, suc, Bool, true, false, if◌then◌else◌, Result, Ok, Err, IsOk}
 use Rattle.lks_disk.specs.Counts.{raised, next_fails}
+use Rattle.lks_disk.specs.Device.{FuseTold}
 use Rattle.lks_disk.specs.declared.disks.DiskFail.{DiskFail}
 use Rattle.lks_disk.specs.declared.disks.DiskFail.TheVariants.{Failed, Cut, Memory}
 use Rattle.lks_disk.specs.declared.controls.Fuse.{Fuse}
@@ -30,6 +31,10 @@ abbrev pub choice_of : Fuse → ℕ
 choice_of Unset = 0
 choice_of (Set left choice) = choice
 choice_of (Burned choice) = choice
+
+-- what is told of it, after so many have burned
+abbrev pub tells_of : Fuse → ℕ → FuseTold
+tells_of fuse burns = record { set = is_set fuse; burned = is_burned fuse; left = lets fuse; choice = choice_of fuse; burns = burns }
 
 -- the fuse after a write or a sync
 abbrev pub fuse_after : Fuse → Fuse

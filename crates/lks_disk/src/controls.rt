@@ -2,7 +2,7 @@
 ghost use Rattle.std.specs.Prelude.{◌≡◌, ◌-◌, if◌then◌else◌};
 ghost use Rattle.lks_disk.specs.Counts.{next_fails};
 ghost use Rattle.lks_disk.specs.Device.{HasCause, Fused, SameFuse};
-ghost use Rattle.lks_disk.specs.Fuse.{is_set, is_burned, lets, choice_of, fuse_after, fate_of, answer_of, settled, read_answer, after_read};
+ghost use Rattle.lks_disk.specs.Fuse.{choice_of, tells_of, fuse_after, fate_of, answer_of, settled, read_answer, after_read};
 
 use crate::disks::DiskFail;
 
@@ -97,8 +97,7 @@ impl Control {
         ensures answer { result ≡ answer_of (fate_of self.old) }
         ensures after { self.new ≡ settled (fate_of self.old) self.old }
         ensures cause { HasCause self.old.faults self.new.faults result }
-        ensures fuse { Fused (is_set self.old.fuse) (is_set self.new.fuse) (is_burned self.old.fuse) (is_burned self.new.fuse)
-            (lets self.old.fuse) (lets self.new.fuse) self.old.burns self.new.burns result }
+        ensures fuse { Fused (tells_of self.old.fuse self.old.burns) (tells_of self.new.fuse self.new.burns) result }
     {
         let fate = self.fate();
         self.calls = self.calls.saturating_add(1);
@@ -122,8 +121,7 @@ impl Control {
         ensures answer { result ≡ read_answer self.old.fuse (next_fails self.old.fail_reads.items self.old.reads) }
         ensures after { self.new ≡ after_read self.old result }
         ensures cause { HasCause self.old.faults self.new.faults result }
-        ensures fuse { SameFuse (is_set self.old.fuse) (is_set self.new.fuse) (is_burned self.old.fuse) (is_burned self.new.fuse)
-            (lets self.old.fuse) (lets self.new.fuse) self.old.burns self.new.burns result }
+        ensures fuse { SameFuse (tells_of self.old.fuse self.old.burns) (tells_of self.new.fuse self.new.burns) result }
     {
         let named = is_next(&self.fail_reads, self.reads);
         self.reads = self.reads.saturating_add(1);

@@ -1,7 +1,8 @@
 //! Disks as a journal sees them: what a read gives, what a crash may leave, and what cuts them off.
-ghost use Rattle.std.specs.Prelude.{◌≡◌, ◌+◌, ◌^◌, ◌<◌, ◌≤◌, ◌↔◌, ℕ, Bool, true, false, List, length, IfOk, OnOk, IsErrOf};
+ghost use Rattle.std.specs.Prelude.{◌≡◌, ◌+◌, ◌^◌, ◌<◌, ◌≤◌, ◌↔◌, ℕ, true, List, length, IfOk, OnOk, IsErrOf};
 ghost use Rattle.lks_disk.specs.declared.disks.DiskFail.TheVariants as failing;
-ghost use Rattle.lks_disk.specs.Device.{Wrote, ReadAt, Torn, Follows, Only, Elapses, Same, HasCause, NoMemory, Fused, SameFuse};
+ghost use Rattle.lks_disk.specs.Device.{Wrote, ReadAt, Torn, Follows, Only, HasCause, NoMemory};
+ghost use Rattle.lks_disk.specs.Face.{Face, Same, Passes, Burns, KeepsFuse, HasFuse, HasLost};
 
 use std::alloc::AllocError;
 
@@ -26,107 +27,71 @@ impl From<AllocError> for DiskFail {
 
 /// Bytes that are kept. Until a sync, a crash may leave any bytes in the range of a write.
 pub trait Disk {
-    /// The bytes are told. A clause on bytes says something where they are.
-    ghost told: { Self → Type 0 };
-
-    /// The bytes that a read gives.
-    ghost seen: { Self → List ℕ };
-
-    /// What a crash at this moment may leave.
-    ghost may_leave: { Self → List ℕ → Type 0 };
-
-    /// The moment, as a number that doesn't fall.
-    ghost moment: { Self → ℕ };
-
-    /// What a crash at some moment from that one on might have left, during a call or between two.
-    ghost left_since: { Self → ℕ → List ℕ → Type 0 };
-
-    /// How often the disk has failed.
-    ghost faults: { Self → ℕ };
-
-    /// How many fuses have burned.
-    ghost burns: { Self → ℕ };
-
-    /// A fuse is set.
-    ghost fused: { Self → Bool };
-
-    /// The fuse that is set has burned.
-    ghost burned: { Self → Bool };
-
-    /// How many calls of `write_at` and `sync` the fuse still lets pass.
-    ghost left: { Self → ℕ };
+    /// What contracts say of it.
+    ghost face: { Face Self };
 
     /// The number of bytes.
     fn len(&mut self) -> Result<u64, DiskFail>
-        ensures value { told self.old → IfOk result (λ n. n ≡ length (seen self.old)) }
-        ensures same { Same told seen may_leave moment left_since self.old self.new }
-        ensures cause { HasCause (faults self.old) (faults self.new) result }
+        ensures value { face.told self.old → IfOk result (λ n. n ≡ length (face.seen self.old)) }
+        ensures same { Same face self.old self.new }
+        ensures cause { HasCause (face.faults self.old) (face.faults self.new) result }
         ensures memory { NoMemory result }
-        ensures fuse { SameFuse (fused self.old) (fused self.new) (burned self.old) (burned self.new)
-            (left self.old) (left self.new) (burns self.old) (burns self.new) result };
+        ensures fuse { KeepsFuse face self.old self.new result };
 
     /// Fills as much of the buffer as there are bytes from `at` on, and answers how much that is.
     fn read_at(&mut self, at: u64, buf: &mut [u8]) -> Result<usize, DiskFail>
         ensures within { IfOk result (λ n. n ≤ length buf.new) }
-        ensures value { told self.old → IfOk result (λ n. ReadAt (seen self.old) at n buf.old buf.new) }
-        ensures same { Same told seen may_leave moment left_since self.old self.new }
-        ensures cause { HasCause (faults self.old) (faults self.new) result }
-        ensures fuse { SameFuse (fused self.old) (fused self.new) (burned self.old) (burned self.new)
-            (left self.old) (left self.new) (burns self.old) (burns self.new) result };
+        ensures value { face.told self.old → IfOk result (λ n. ReadAt (face.seen self.old) at n buf.old buf.new) }
+        ensures same { Same face self.old self.new }
+        ensures cause { HasCause (face.faults self.old) (face.faults self.new) result }
+        ensures fuse { KeepsFuse face self.old self.new result };
 
     /// Writes over what is there, and past the end. One that fails or is cut off may leave any bytes in its range.
     fn write_at(&mut self, at: u64, piece: &[u8]) -> Result<(), DiskFail>
-        requires within { told self.old → at ≤ length (seen self.old) }
+        requires within { face.told self.old → at ≤ length (face.seen self.old) }
         requires ends { at + length piece.now < 2 ^ 63 }
-        ensures told { told self.old ↔ told self.new }
-        ensures wrote { told self.old → Wrote (seen self.old) at piece.now (seen self.new) result }
-        ensures crash { told self.old → Follows (Torn at (length piece.now)) (may_leave self.old) (may_leave self.new) }
-        ensures memory { told self.old → IsErrOf result DiskFail.Memory → (c : List ℕ) → may_leave self.new c → may_leave self.old c }
-        ensures time { told self.old → Elapses (moment self.old) (moment self.new) (left_since self.old) (left_since self.new) (may_leave self.new) }
-        ensures cause { HasCause (faults self.old) (faults self.new) result }
-        ensures fuse { Fused (fused self.old) (fused self.new) (burned self.old) (burned self.new)
-            (left self.old) (left self.new) (burns self.old) (burns self.new) result };
+        ensures told { face.told self.old ↔ face.told self.new }
+        ensures wrote { face.told self.old → Wrote (face.seen self.old) at piece.now (face.seen self.new) result }
+        ensures crash { face.told self.old → Follows (Torn at (length piece.now)) (face.may_leave self.old) (face.may_leave self.new) }
+        ensures memory { face.told self.old → IsErrOf result DiskFail.Memory → (c : List ℕ) → face.may_leave self.new c → face.may_leave self.old c }
+        ensures time { face.told self.old → Passes face self.old self.new }
+        ensures cause { HasCause (face.faults self.old) (face.faults self.new) result }
+        ensures fuse { Burns face self.old self.new result };
 
     /// After it, a crash leaves what a read gives.
     fn sync(&mut self) -> Result<(), DiskFail>
-        ensures told { told self.old ↔ told self.new }
-        ensures bytes { told self.old → seen self.new ≡ seen self.old }
-        ensures durable { told self.old → OnOk result (Only (seen self.old) (may_leave self.new)) }
-        ensures crash { told self.old → (c : List ℕ) → may_leave self.new c → may_leave self.old c }
-        ensures time { told self.old → Elapses (moment self.old) (moment self.new) (left_since self.old) (left_since self.new) (may_leave self.new) }
-        ensures cause { HasCause (faults self.old) (faults self.new) result }
+        ensures told { face.told self.old ↔ face.told self.new }
+        ensures bytes { face.told self.old → face.seen self.new ≡ face.seen self.old }
+        ensures durable { face.told self.old → OnOk result (Only (face.seen self.old) (face.may_leave self.new)) }
+        ensures crash { face.told self.old → (c : List ℕ) → face.may_leave self.new c → face.may_leave self.old c }
+        ensures time { face.told self.old → Passes face self.old self.new }
+        ensures cause { HasCause (face.faults self.old) (face.faults self.new) result }
         ensures memory { NoMemory result }
-        ensures fuse { Fused (fused self.old) (fused self.new) (burned self.old) (burned self.new)
-            (left self.old) (left self.new) (burns self.old) (burns self.new) result };
+        ensures fuse { Burns face self.old self.new result };
 
     /// This moment is one of those since an earlier one.
-    ghost counts_now: { (disk : Self) (t : ℕ) (c : List ℕ) → told disk → t ≤ moment disk → may_leave disk c → left_since disk t c };
+    ghost counts_now: { (disk : Self) (t : ℕ) (c : List ℕ) → face.told disk → t ≤ face.moment disk → face.may_leave disk c → face.left_since disk t c };
 
     /// Since this moment there is no other.
-    ghost only_now: { (disk : Self) (c : List ℕ) → told disk → left_since disk (moment disk) c → may_leave disk c };
+    ghost only_now: { (disk : Self) (c : List ℕ) → face.told disk → face.left_since disk (face.moment disk) c → face.may_leave disk c };
+
+    /// What a read gives is one of the things that a crash may leave.
+    ghost seen_is_left: { (disk : Self) → face.told disk → face.may_leave disk (face.seen disk) };
 
     /// A fuse that still lets calls pass hasn't burned, and one that has burned is set.
-    ghost burned_out: { (disk : Self) → burned disk ≡ true → (fused disk ≡ true) × (left disk ≡ 0) };
+    ghost burned_out: { (disk : Self) → face.burned disk ≡ true → (face.fused disk ≡ true) × (face.left disk ≡ 0) };
 }
 
 /// A disk that tells its bytes, and that can be cut off at a call.
 pub trait CrashDisk: Disk + Send {
     /// So many calls of `write_at` and `sync` pass. The next one burns the fuse, and from then on each call is cut off.
     fn fuse(&mut self, calls: u32, choice: u64)
-        ensures same { Same Self.told Self.seen Self.may_leave Self.moment Self.left_since self.old self.new }
-        ensures set { (Self.fused self.new ≡ true) × (Self.burned self.new ≡ false) }
-        ensures left { Self.left self.new ≡ calls }
-        ensures faults { Self.faults self.new ≡ Self.faults self.old }
-        ensures burns { Self.burns self.new ≡ Self.burns self.old };
+        ensures fused { HasFuse Self.face calls choice self.old self.new };
 
     /// Ends the fuse, and leaves one outcome of a crash, which the fuse's choice picks. Nothing is pending then.
     fn power_cut(&mut self)
-        ensures left { Self.may_leave self.old (Self.seen self.new) }
-        ensures settled { Only (Self.seen self.new) (Self.may_leave self.new) }
-        ensures fuse { (Self.fused self.new ≡ false) × (Self.burned self.new ≡ false) }
-        ensures faults { Self.faults self.new ≡ Self.faults self.old }
-        ensures burns { Self.burns self.new ≡ Self.burns self.old };
+        ensures lost { HasLost Self.face self.old self.new };
 
     /// It always tells its bytes.
-    ghost tells: { (disk : Self) → Self.Disk.told disk };
+    ghost tells: { (disk : Self) → Self.Disk.face.told disk };
 }

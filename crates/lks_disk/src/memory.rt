@@ -1,6 +1,7 @@
 //! A disk in memory, with calls that fail and a fuse.
 ghost use Rattle.std.specs.Prelude.{◌≡◌, ◌↔◌, ◌+◌, ◌^◌, ◌<◌, ◌≤◌, ℕ, List, [], true, false, length, IfOk, OnOk, OnErr, IsErrOf};
-ghost use Rattle.lks_disk.specs.Device.{Wrote, ReadAt, Torn, Follows, Only, Elapses, Same, HasCause, NoMemory, Fused, SameFuse};
+ghost use Rattle.lks_disk.specs.Device.{Wrote, ReadAt, Torn, Follows, Only, HasCause, NoMemory};
+ghost use Rattle.lks_disk.specs.Face.{Same, Passes, Burns, KeepsFuse, HasFuse, HasLost};
 ghost use Rattle.lks_disk.specs.Counts.{next_fails};
 ghost use Rattle.lks_disk.specs.Crash.{may_leave, moment, left_since, left_by, WritesBy, synced_by};
 ghost use Rattle.lks_disk.specs.Fuse.{is_set, is_burned, lets, choice_of, fate_of, answer_of, settled, read_answer, after_read, AnswersBy, CountsBy, RefusedBy, Starts};
@@ -48,39 +49,24 @@ impl MemDisk {
 }
 
 impl Disk for MemDisk {
-    ghost told = { λ _. Unit {0} };
+    ghost use Rattle.lks_disk.specs.MemFace.{mem_face, seen_is_left};
 
-    ghost seen = { λ m. m.content.bytes };
-
-    ghost may_leave = { λ m. may_leave m.content };
-
-    ghost moment = { λ m. moment m.content };
-
-    ghost left_since = { λ m. left_since m.content };
-
-    ghost faults = { λ m. m.control.faults };
-
-    ghost burns = { λ m. m.control.burns };
-
-    ghost fused = { λ m. is_set m.control.fuse };
-
-    ghost burned = { λ m. is_burned m.control.fuse };
-
-    ghost left = { λ m. lets m.control.fuse };
+    ghost face = { mem_face };
 
     ghost counts_now = { λ m t c told le now. counts_now m.content t c now };
 
     ghost only_now = { λ m c told left. only_now m.content c left };
 
+    ghost seen_is_left = { λ m told. seen_is_left m };
+
     ghost burned_out = { λ m burned. set_is_burned_out m.control.fuse burned };
 
     fn len(&mut self) -> Result<u64, DiskFail>
         ensures value { Unit {0} → IfOk result (λ n. n ≡ length self.old.content.bytes) }
-        ensures same { Same (λ _. Unit {0}) (λ m. m.content.bytes) (λ m. may_leave m.content) (λ m. moment m.content) (λ m. left_since m.content) self.old self.new }
+        ensures same { Same mem_face self.old self.new }
         ensures cause { HasCause self.old.control.faults self.new.control.faults result }
         ensures memory { NoMemory result }
-        ensures fuse { SameFuse (is_set self.old.control.fuse) (is_set self.new.control.fuse) (is_burned self.old.control.fuse) (is_burned self.new.control.fuse)
-            (lets self.old.control.fuse) (lets self.new.control.fuse) self.old.control.burns self.new.control.burns result }
+        ensures fuse { KeepsFuse mem_face self.old self.new result }
 
         ensures answer { RefusedBy (read_answer self.old.control.fuse (next_fails self.old.control.fail_reads.items self.old.control.reads)) result }
         ensures content { self.new.content ≡ self.old.content }
@@ -93,10 +79,9 @@ impl Disk for MemDisk {
     fn read_at(&mut self, at: u64, buf: &mut [u8]) -> Result<usize, DiskFail>
         ensures within { IfOk result (λ n. n ≤ length buf.new) }
         ensures value { Unit {0} → IfOk result (λ n. ReadAt self.old.content.bytes at n buf.old buf.new) }
-        ensures same { Same (λ _. Unit {0}) (λ m. m.content.bytes) (λ m. may_leave m.content) (λ m. moment m.content) (λ m. left_since m.content) self.old self.new }
+        ensures same { Same mem_face self.old self.new }
         ensures cause { HasCause self.old.control.faults self.new.control.faults result }
-        ensures fuse { SameFuse (is_set self.old.control.fuse) (is_set self.new.control.fuse) (is_burned self.old.control.fuse) (is_burned self.new.control.fuse)
-            (lets self.old.control.fuse) (lets self.new.control.fuse) self.old.control.burns self.new.control.burns result }
+        ensures fuse { KeepsFuse mem_face self.old self.new result }
 
         ensures memory { NoMemory result }
         ensures untouched { OnErr result (buf.new ≡ buf.old) }
@@ -115,10 +100,9 @@ impl Disk for MemDisk {
         ensures wrote { Unit {0} → Wrote self.old.content.bytes at piece.now self.new.content.bytes result }
         ensures crash { Unit {0} → Follows (Torn at (length piece.now)) (may_leave self.old.content) (may_leave self.new.content) }
         ensures memory { Unit {0} → IsErrOf result DiskFail.Memory → (c : List ℕ) → may_leave self.new.content c → may_leave self.old.content c }
-        ensures time { Unit {0} → Elapses (moment self.old.content) (moment self.new.content) (left_since self.old.content) (left_since self.new.content) (may_leave self.new.content) }
+        ensures time { Unit {0} → Passes mem_face self.old self.new }
         ensures cause { HasCause self.old.control.faults self.new.control.faults result }
-        ensures fuse { Fused (is_set self.old.control.fuse) (is_set self.new.control.fuse) (is_burned self.old.control.fuse) (is_burned self.new.control.fuse)
-            (lets self.old.control.fuse) (lets self.new.control.fuse) self.old.control.burns self.new.control.burns result }
+        ensures fuse { Burns mem_face self.old self.new result }
 
         ensures answer { AnswersBy (fate_of self.old.control) result }
         ensures content { WritesBy (fate_of self.old.control) at piece.now self.old.content self.new.content result }
@@ -135,11 +119,10 @@ impl Disk for MemDisk {
         ensures bytes { Unit {0} → self.new.content.bytes ≡ self.old.content.bytes }
         ensures durable { Unit {0} → OnOk result (Only self.old.content.bytes (may_leave self.new.content)) }
         ensures crash { Unit {0} → (c : List ℕ) → may_leave self.new.content c → may_leave self.old.content c }
-        ensures time { Unit {0} → Elapses (moment self.old.content) (moment self.new.content) (left_since self.old.content) (left_since self.new.content) (may_leave self.new.content) }
+        ensures time { Unit {0} → Passes mem_face self.old self.new }
         ensures cause { HasCause self.old.control.faults self.new.control.faults result }
         ensures memory { NoMemory result }
-        ensures fuse { Fused (is_set self.old.control.fuse) (is_set self.new.control.fuse) (is_burned self.old.control.fuse) (is_burned self.new.control.fuse)
-            (lets self.old.control.fuse) (lets self.new.control.fuse) self.old.control.burns self.new.control.burns result }
+        ensures fuse { Burns mem_face self.old self.new result }
 
         ensures answer { result ≡ answer_of (fate_of self.old.control) }
         ensures content { self.new.content ≡ synced_by (fate_of self.old.control) self.old.content }
@@ -153,12 +136,10 @@ impl Disk for MemDisk {
 }
 
 impl CrashDisk for MemDisk {
+    ghost use Rattle.lks_disk.specs.MemFace.{mem_face};
+
     fn fuse(&mut self, calls: u32, choice: u64)
-        ensures same { Same (λ _. Unit {0}) (λ m. m.content.bytes) (λ m. may_leave m.content) (λ m. moment m.content) (λ m. left_since m.content) self.old self.new }
-        ensures set { (is_set self.new.control.fuse ≡ true) × (is_burned self.new.control.fuse ≡ false) }
-        ensures left { lets self.new.control.fuse ≡ calls }
-        ensures faults { self.new.control.faults ≡ self.old.control.faults }
-        ensures burns { self.new.control.burns ≡ self.old.control.burns }
+        ensures fused { HasFuse mem_face calls choice self.old self.new }
 
         ensures content { self.new.content ≡ self.old.content }
         ensures control { self.new.control ≡ record self.old.control { fuse = Fuse.Set calls choice } }
@@ -170,11 +151,7 @@ impl CrashDisk for MemDisk {
     }
 
     fn power_cut(&mut self)
-        ensures left { may_leave self.old.content self.new.content.bytes }
-        ensures settled { Only self.new.content.bytes (may_leave self.new.content) }
-        ensures fuse { (is_set self.new.control.fuse ≡ false) × (is_burned self.new.control.fuse ≡ false) }
-        ensures faults { self.new.control.faults ≡ self.old.control.faults }
-        ensures burns { self.new.control.burns ≡ self.old.control.burns }
+        ensures lost { HasLost mem_face self.old self.new }
 
         ensures content { self.new.content ≡ record { bytes = left_by (choice_of self.old.control.fuse) self.old.content.calls self.old.content.bytes; calls = [] } }
         ensures control { self.new.control ≡ record self.old.control { fuse = Fuse.Unset } }

@@ -1,3 +1,5 @@
-pub mod Takes
-pub mod Numbers
 pub mod Counted
+pub mod Frames
+pub mod Numbers
+pub mod Once
+pub mod Takes

@@ -11,6 +11,7 @@ use Rattle.lks_base.specs.declared.names.HashKind.{HashKind}
 use Rattle.lks_base.specs.declared.names.HashKind.TheVariants.{Sha256, Sha512_256}
 use Rattle.lks_base.specs.declared.names.Judged.{Judged}
 use Rattle.lks_base.specs.declared.names.Limits.{Limits}
+use Rattle.lks_base.specs.declared.names.Numbers.{Numbers}
 use Rattle.lks_base.specs.declared.names.Outcome.TheVariants as outcome
 use Rattle.lks_base.specs.declared.plans.AuPlan.{AuPlan}
 use Rattle.lks_base.specs.declared.plans.Holding.{Holding}
@@ -20,9 +21,10 @@ use Rattle.lks_base.specs.declared.reactions.Reaction.{Reaction}
 use Rattle.lks_base.specs.declared.records.Record.{Record}
 use Rattle.lks_base.specs.declared.records.Record.TheVariants as records
 use Rattle.lks_law.proofs.Samples.{few_inner, outer_sample}
-use Rattle.lks_law.specs.Journal.{Opening, Request, unanswered, opening_of, openings, is_voting, is_widened, limits_from, limits_after}
-use Rattle.lks_law.specs.Polls.{Station, limits_in_force, verdict_in, candidate, restores}
+use Rattle.lks_law.specs.Journal.{Opening, Request, unanswered, opening_of, openings, is_voting, is_widened, numbers_from, numbers_after}
+use Rattle.lks_law.specs.Polls.{Station, numbers_in_force, limits_in_force, verdict_in, candidate, restores}
 use Rattle.lks_law.specs.Reaction.{reaction, nothing, may_open, opened, on_open, widened, on_widen, must_note, overdue_in, on_check, reminded, asked_again, on_nudge, given_up, on_give_up, is_inquorate, shut, shut_inquorate, for_opening, on_shut, may_tally, closed, asked, tallied, on_tally, may_prove, proved, on_challenge, may_nominate, nominated, on_nominate, is_accepted, may_vote, counted, on_vote, may_repair, repaired, on_repair, on_message}
+use Rattle.lks_law.specs.Facts.{IsHeard}
 use Rattle.lks_law.specs.World.{deposit_for, deposits}
 use Rattle.lks_message.specs.Spelling.{IsWithin as IsMessage}
 use Rattle.lks_peer.proofs.FewBlocks.{IsOfBlock, request_small}
@@ -33,7 +35,7 @@ use Rattle.lks_record.specs.Sizes.{most_bytes}
 use Rattle.lks_record.specs.Spelling.{IsWithin, AreLimits, HasLimits}
 use Rattle.lks_tally.specs.declared.ballots.Verdict.{Verdict}
 use Rattle.lks_tally.specs.declared.ballots.Verdict.TheVariants as verdict
-use Rattle.lks_host.specs.Fits.{IsFit, IsHeard, FitsBatch}
+use Rattle.lks_host.specs.Fits.{IsFit, FitsBatch}
 
 -- ---- short batches
 
@@ -197,7 +199,7 @@ reaction_fits own journal tick i fit heard = fits_nothing
 -- ---- no rule changes the limits in force
 
 abbrev Keeps : List Record → Type 0
-Keeps list = (l : Limits) → limits_from l list ≡ l
+Keeps list = (l : Numbers) → numbers_from l list ≡ l
 
 asked_keeps : (journal : List Record) (tick n b : ℕ) (v : Option ℕ) → Keeps (asked journal tick n b v).records
 unfolding closed
@@ -295,17 +297,20 @@ reaction_keeps own journal tick input.Check = noted_keep own journal tick own.au
 reaction_keeps own journal tick (input.Got from m judged) = message_keeps own journal from m judged
 reaction_keeps own journal tick i = λ l. refl
 
-limits_append : (l : Limits) (xs ys : List Record) → limits_from l (xs ++ ys) ≡ limits_from (limits_from l xs) ys
-limits_append l [] ys = refl
-limits_append l (x ∷ xs) ys = limits_append (limits_after l x) xs ys
+numbers_append : (l : Numbers) (xs ys : List Record) → numbers_from l (xs ++ ys) ≡ numbers_from (numbers_from l xs) ys
+numbers_append l [] ys = refl
+numbers_append l (x ∷ xs) ys = numbers_append (numbers_after l x) xs ys
+
+abbrev limits_in : Numbers → Limits
+limits_in numbers = record { quorum = numbers.quorum; minority = numbers.minority }
 
 -- a peer's limits stay as they were
 same_limits : (own : Station) (journal : List Record) (tick : ℕ) (i : Input)
     → limits_in_force own.rules (journal ++ (reaction own journal tick i).records) ≡ limits_in_force own.rules journal
-unfolding limits_in_force
+unfolding numbers_in_force
 same_limits own journal tick i =
-    let l : Limits = record { quorum = own.rules.quorum; minority = own.rules.minority } in
-    limits_append l journal (reaction own journal tick i).records ∙ reaction_keeps own journal tick i (limits_from l journal)
+    let l : Numbers = record { quorum = own.rules.quorum; minority = own.rules.minority; repairs = own.rules.repairs } in
+    ap limits_in (numbers_append l journal (reaction own journal tick i).records ∙ reaction_keeps own journal tick i (numbers_from l journal))
 
 -- a peer stays in its limits, whatever it does
 pub fit_after : (own : Station) (journal : List Record) (tick : ℕ) (i : Input) → IsFit own journal → IsFit own (journal ++ (reaction own journal tick i).records)
@@ -324,7 +329,7 @@ abbrev pub is_deposit : Record → Bool
 is_deposit (records.Deposit au blocks) = true
 is_deposit _ = false
 
-deposits_keep : (l : Limits) (list : List Record) → list_all is_deposit list ≡ true → limits_from l list ≡ l
+deposits_keep : (l : Numbers) (list : List Record) → list_all is_deposit list ≡ true → numbers_from l list ≡ l
 deposits_keep l [] all = refl
 deposits_keep l (records.Deposit au blocks ∷ rs) all = deposits_keep l rs all
 deposits_keep l (r ∷ rs) all = absurd cc
@@ -332,8 +337,8 @@ deposits_keep l (r ∷ rs) all = absurd cc
 -- where a journal has deposits alone, the rules' limits are in force
 pub untuned : (own : Station) (journal : List Record) → list_all is_deposit journal ≡ true
     → limits_in_force own.rules journal ≡ record { quorum = own.rules.quorum; minority = own.rules.minority }
-unfolding limits_in_force
-untuned own journal all = deposits_keep (record { quorum = own.rules.quorum; minority = own.rules.minority }) journal all
+unfolding numbers_in_force
+untuned own journal all = ap limits_in (deposits_keep (record { quorum = own.rules.quorum; minority = own.rules.minority; repairs = own.rules.repairs }) journal all)
 
 all_append : (xs ys : List Record) → list_all is_deposit xs ≡ true → list_all is_deposit ys ≡ true → list_all is_deposit (xs ++ ys) ≡ true
 all_append [] ys p q = q

@@ -1,17 +1,43 @@
 -- A peer whose journal is on its disk.
-use Rattle.std.specs.Prelude.{◌≡◌, ℕ, List, Result, Ok, Err}
+use Rattle.std.specs.Prelude.{◌≡◌, ℕ, Some, None, List, [], ◌∷◌, length, Result, Ok, Err, option_map}
+use Rattle.lks_base.specs.Checking.{plan_fault}
+use Rattle.lks_base.specs.declared.plans.Plan.{Plan}
 use Rattle.lks_base.specs.declared.records.Record.{Record}
-use Rattle.lks_host.specs.Bodies.{bodies_of}
+use Rattle.lks_disk.specs.Counts.{raised}
+use Rattle.lks_disk.specs.Face.{Face}
+use Rattle.lks_field.specs.Frames.{HoldsBodies}
+use Rattle.lks_host.specs.Bodies.{bodies_of, AreRead}
 use Rattle.lks_host.specs.Fits.{IsFit}
 use Rattle.lks_host.specs.declared.hosts.Host.{Host}
 use Rattle.lks_journal.specs.Settled.{IsSettled}
 use Rattle.lks_law.specs.Batches.{together}
+use Rattle.lks_law.specs.Polls.{Station}
+use Rattle.lks_law.specs.World.{station_of, honest_peer}
 
--- the disk holds these batches, and the peer stands for their records, beside which its rules add only what fits
-pub record StandsFor {D : Type 0} (seen : D → List ℕ) (may_leave : D → List ℕ → Type 0) (host : Host D) (batches : List (List Record)) : Type 0 where
+-- the disk holds these batches, which read back, and the peer stands for their records, beside which its rules add only
+-- what fits
+pub record StandsFor {D : Type 0} (f : Face D) (host : Host D) (batches : List (List Record)) : Type 0 where
   pub journal : host.peer.journal ≡ together batches
-  pub disk : IsSettled seen may_leave host.journal (bodies_of batches)
+  pub disk : IsSettled f host.journal (bodies_of batches)
+  pub count : host.count ≡ length batches
+  pub read : AreRead batches
   pub fit : IsFit host.peer.own host.peer.journal
+
+-- a peer's disk holds these batches, which read back, and beside which its rules add only what fits
+pub record LiesOn {D : Type 0} (f : Face D) (own : Station) (disk : D) (batches : List (List Record)) : Type 0 where
+  pub holds : HoldsBodies (bodies_of batches) (f.seen disk)
+  pub read : AreRead batches
+  pub fit : IsFit own (together batches)
+
+-- so an honest peer of this good plan stands
+pub record IsMadeBy (plan : Plan) (own : Station) : Type 0 where
+  pub good : plan_fault plan ≡ None
+  pub made : option_map (station_of plan) (honest_peer own.id plan) ≡ Some own
+
+-- how many batches there are after these records were added as one
+abbrev pub count_after : ℕ → List Record → ℕ
+count_after count [] = count
+count_after count (r ∷ rs) = raised count
 
 -- what is left of a call that takes a disk: the disk
 abbrev pub disk_hosted : {D F : Type 0} → Result (Host D) (D × F) → D

@@ -1,21 +1,25 @@
 //! What the journal of a new peer begins with.
 
-ghost use Rattle.std.specs.Prelude.{◌≡◌, ◌+◌, ◌*◌, ◌≤◌, ◌<◌, ◌↔◌, ◌++◌, [], ℕ, List, true, length, All, IfOk, OnOk, IsErrOf, map};
+ghost use Rattle.std.specs.Prelude.{◌≡◌, ◌≤◌, ◌++◌, [], length, All, Some, None, IfOk, IsSome, OnOk, map, option_map};
 ghost use Rattle.std.specs.List.{filter_map};
-ghost use Rattle.lks_disk.specs.Device.{Only};
-ghost use Rattle.lks_host.specs.Bodies.{bodies_of};
+ghost use Rattle.lks_base.specs.Checking.{plan_fault};
+ghost use Rattle.lks_base.specs.declared.limits.TheConstants.{MOST_AUS};
+ghost use Rattle.lks_host.specs.Behaving.{Behaves};
+ghost use Rattle.lks_host.specs.Bodies.{bodies_of, AreRead};
 ghost use Rattle.lks_host.specs.Faults.{as_journal};
-ghost use Rattle.lks_journal.specs.Faults.{HasCause};
+ghost use Rattle.lks_host.specs.Fits.{IsFit};
 ghost use Rattle.lks_journal.specs.Settled.{IsSettled};
 ghost use Rattle.lks_law.specs.Batches.{alone};
-ghost use Rattle.lks_law.specs.World.{deposit_for, deposits};
+ghost use Rattle.lks_law.specs.World.{deposit_for, deposits, honest_peer, standing_of};
 ghost use Rattle.lks_record.specs.Spelling.{IsWithin};
 
 use crate::faults::HostFault;
+use crate::fit::FitPeer;
 use crate::writing::write;
-use lks_base::{AuPlan, Holding, OutOfMemory, Record};
+use lks_base::{AuPlan, Holding, OutOfMemory, PeerId, Plan, Record};
 use lks_disk::Disk;
 use lks_journal::Journal;
+use lks_peer::{Peer, find_honest};
 use std::alloc::Global;
 use std::slice;
 
@@ -33,7 +37,7 @@ fn deposit_au(list: &mut Vec<Record>, au: &AuPlan, copies: &[Holding]) -> Result
 
 /// A deposit for each AU held, in the plan's order of AUs.
 #[tactic(auto, unfolding(lks_law::specs::World::deposits))]
-pub fn deposit_all(
+fn deposit_all(
     alloc: Global,
     aus: &[AuPlan],
     copies: &[Holding],
@@ -47,6 +51,29 @@ pub fn deposit_all(
     Ok(list)
 }
 
+/// The honest peer `id` of a good plan, as it begins, and its deposits.
+#[tactic(auto, using(crate::proofs::Beginning::begun_within, crate::proofs::Beginning::begun_few, crate::proofs::Beginning::begun_small, crate::proofs::Standing::fit_begun))]
+pub fn begin_peer(
+    alloc: Global,
+    plan: &Plan,
+    id: PeerId,
+) -> Result<(FitPeer, Vec<Record>), OutOfMemory>
+    requires good { plan_fault plan.now ≡ None }
+    requires honest { IsSome (honest_peer id plan.now) }
+    ensures peer { IfOk result (λ p. option_map (standing_of plan.now) (honest_peer id plan.now) ≡ Some p.0) }
+    ensures fit { IfOk result (λ p. IsFit p.0.own p.0.journal) }
+    ensures list { IfOk result (λ p. p.1.items ≡ p.0.journal) }
+    ensures within { IfOk result (λ p. All IsWithin p.1.items) }
+    ensures few { IfOk result (λ p. length p.1.items ≤ MOST_AUS) }
+{
+    let Some(planned) = find_honest(plan.peers.as_slice(), id) else {
+        unreachable!()
+    };
+    let list = deposit_all(alloc, plan.aus.as_slice(), planned.copies.as_slice())?;
+    let peer = Peer::restore(alloc, plan, id, &list)?;
+    Ok((FitPeer::new(peer), list))
+}
+
 /// Appends each record as a batch of its own to a new journal.
 pub fn write_each<D: Disk>(
     alloc: Global,
@@ -54,15 +81,13 @@ pub fn write_each<D: Disk>(
     records: &[Record],
 ) -> Result<(), HostFault>
     requires within { All IsWithin records.now }
-    requires few { length records.now ≤ 4 }
+    requires few { length records.now ≤ MOST_AUS }
     requires end { journal.old.end ≡ 0 }
-    requires settled { D.told journal.old.disk → IsSettled D.seen D.may_leave journal.old [] }
-    ensures told { D.told journal.old.disk ↔ D.told journal.new.disk }
-    ensures ok { D.told journal.old.disk → OnOk result (IsSettled D.seen D.may_leave journal.new (bodies_of (map alone records.now))) }
+    requires settled { D.face.told journal.old.disk → IsSettled D.face journal.old [] }
+    ensures ok { D.face.told journal.old.disk → OnOk result (IsSettled D.face journal.new (bodies_of (map alone records.now))) }
+    ensures read { OnOk result (AreRead (map alone records.now)) }
     ensures end { OnOk result (journal.new.end ≤ 33558580) }
-    ensures cause { HasCause (D.faults journal.old.disk) (D.faults journal.new.disk) (as_journal result) }
-    ensures fused { D.fused journal.new.disk ≡ D.fused journal.old.disk }
-    ensures cut { IsErrOf result HostFault.Cut → D.fused journal.old.disk ≡ true }
+    ensures behaves { Behaves D.face journal.old.disk journal.new.disk (as_journal result) }
 {
     for item in records {
         write(alloc, journal, slice::from_ref(item))?;

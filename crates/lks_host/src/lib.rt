@@ -4,10 +4,20 @@
 //! reaction is handed out. A reaction without records makes no call of the disk.
 #![tactic(auto)]
 
+mod cutting;
 mod deposits;
 mod faults;
+mod fit;
 mod hosts;
+mod outcomes;
+mod reading;
 mod writing;
 
+pub use cutting::cut_step;
 pub use faults::HostFault;
+pub use fit::FitPeer;
 pub use hosts::Host;
+pub use outcomes::{Outcome, Recovered};
+
+#[cfg(test)]
+mod tests;

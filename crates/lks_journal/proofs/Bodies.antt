@@ -1,21 +1,11 @@
 -- Frames, one after another.
-use Rattle.std.proofs.Common.{◌≡◌, ◌⊎◌, inl, inr, ⊎_elim, ℕ, ◌+◌, ◌-◌, ◌^◌, ◌<◌, List, [], ◌∷◌, ◌++◌, length, take, drop, refl, sym, ◌∙◌, ap, arith, append_assoc, length-append}
+use Rattle.std.proofs.Common.{◌≡◌, ◌⊎◌, inl, inr, ⊎_elim, ℕ, ◌+◌, ◌-◌, ◌<◌, List, [], ◌∷◌, ◌++◌, length, take, drop, refl, rules, sym, ◌∙◌, ap, arith, append_assoc, length-append}
 use Rattle.std.proofs.lemmas.List.{append-nil}
 use Rattle.lks_disk.specs.Device.{Holds}
-use Rattle.lks_journal.specs.Frames.{frame, frames, AreBodies, HoldsBodies, IsCutShort, IsDamagedAt, IsWhole, IsScanned}
-
-frames_nil : frames [] ≡ []
-unfolding frames
-frames_nil = refl
-
-pub frames_push : (bodies : List (List ℕ)) (body : List ℕ) → frames (bodies ++ body ∷ []) ≡ frames bodies ++ frame body
-unfolding frames
-frames_push [] body = append-nil (frame body)
-frames_push (b ∷ bodies) body = ap (λ (l : List ℕ). frame b ++ l) (frames_push bodies body) ∙ sym (append_assoc (frame b) (frames bodies) (frame body))
-
-pub AreBodies_push : (bodies : List (List ℕ)) (body : List ℕ) → AreBodies bodies → length body < 2 ^ 32 → AreBodies (bodies ++ body ∷ [])
-AreBodies_push [] body are fits = (fits, tt)
-AreBodies_push (b ∷ bodies) body are fits = (are.0, AreBodies_push bodies body are.1 fits)
+use Rattle.lks_field.proofs.Frames.{frames_nil, frames_push, AreBodies_push}
+use Rattle.lks_field.specs.Frames.{frame, frames, HoldsBodies, IsCutShort, IsDamagedAt}
+use Rattle.lks_journal.specs.Fronts.{IsWhole, IsScanned}
+use Rattle.lks_journal.specs.Tearing.{CanLeaveTorn}
 
 pub scanned_start : (file : List ℕ) → IsScanned file [] file
 scanned_start file = record { are = tt; file_is = sym (ap (λ (l : List ℕ). l ++ file) frames_nil); begun = inl refl }
@@ -59,3 +49,7 @@ holds_none file is = record { gate = 0; rest = []; shut = λ e. cc; are = tt; fi
 
 pub none_end : 0 ≡ length (frames [])
 none_end = sym (ap length frames_nil)
+
+-- what a crash could leave before a write it can leave after it
+pub untouched : (may_leave : List ℕ → Type 0) (at n : ℕ) (c : List ℕ) → may_leave c → CanLeaveTorn may_leave at n c
+untouched may_leave at n c left = record { from = c; left = left; torn = record { before = refl; after = refl; no_shorter = omega arith; no_longer = search rules } }

@@ -1,3 +1,3 @@
+pub mod Adds
 pub mod Appends
 pub mod Bodies
-pub mod Once

@@ -1,6 +1,7 @@
 -- Why a journal refuses, and what the calls of its disk did to the fuse.
-use Rattle.std.specs.Prelude.{◌≡◌, ℕ, Bool, true, false, ◌+◌, ◌<◌, ◌≤◌, Result, Ok, Err, OnOk, IsErrOf}
+use Rattle.std.specs.Prelude.{◌≡◌, ℕ, true, false, ◌+◌, ◌<◌, ◌≤◌, Result, Ok, Err, OnOk, IsErrOf}
 use Rattle.lks_disk.specs.Counts.{Rose}
+use Rattle.lks_disk.specs.Device.{FuseTold}
 use Rattle.lks_disk.specs.declared.disks.DiskFail.{DiskFail}
 use Rattle.lks_disk.specs.declared.disks.DiskFail.TheVariants as device
 use Rattle.lks_journal.specs.declared.faults.JournalFault.{JournalFault}
@@ -21,20 +22,28 @@ IsOfDisk (Err Failed) = Unit {0}
 IsOfDisk (Err Cut) = Unit {0}
 IsOfDisk (Err Memory) = Unit {0}
 
--- `Failed` is answered only where the disk's count of faults rose in the call; it never falls
+-- `Failed` is answered only where the disk's count of faults rose in the call. It never falls, and it rises with no other
+-- answer of its disk: no fault is passed over.
 pub record HasCause {T : Type 0} (before now : ℕ) (result : Result T JournalFault) : Type 0 where
   pub later : before ≤ now
   pub failed : IsErrOf result Failed → Rose before now
+  pub ok : OnOk result (now ≡ before)
+  pub cut : IsErrOf result Cut → now ≡ before
+  pub memory : IsErrOf result Memory → now ≡ before
+  pub damaged : (offset : ℕ) → IsErrOf result (Damaged offset) → now ≡ before
 
 -- What so many writes and syncs did to the fuse: `Ok` only where it let that many pass, and `Cut` only where
 -- it let fewer pass and has burned. The count of burned fuses rises with the call that burns it alone.
-pub record FuseRun {T : Type 0} (calls : ℕ) (set set_after burned burned_after : Bool) (left left_after burns burns_after : ℕ) (result : Result T JournalFault) : Type 0 where
-  pub stays_set : set_after ≡ set
-  pub passes : OnOk result (set ≡ true → left_after + calls ≡ left)
-  pub lower : left_after ≤ left
-  pub cut : IsErrOf result Cut → (set ≡ true) × (left < calls) × (burned_after ≡ true)
-  pub stays_burned : burned ≡ true → burned_after ≡ true
-  pub later : burns ≤ burns_after
-  pub burn : burned ≡ false → burned_after ≡ true → Rose burns burns_after
-  pub ends : burned ≡ false → burned_after ≡ true → IsErrOf result Cut
-  pub no_burn : burned_after ≡ burned → burns_after ≡ burns
+pub record FuseRun {T : Type 0} (calls : ℕ) (old new : FuseTold) (result : Result T JournalFault) : Type 0 where
+  pub stays_set : new.set ≡ old.set
+  pub same_choice : new.choice ≡ old.choice
+  pub passes : OnOk result (old.set ≡ true → new.left + calls ≡ old.left)
+  pub lower : new.left ≤ old.left
+  pub cut : IsErrOf result Cut → (old.set ≡ true) × (old.left < calls) × (new.burned ≡ true)
+  pub stays_burned : old.burned ≡ true → new.burned ≡ true
+  pub later : old.burns ≤ new.burns
+  pub burn : old.burned ≡ false → new.burned ≡ true → Rose old.burns new.burns
+  pub ends : old.burned ≡ false → new.burned ≡ true → IsErrOf result Cut
+  pub no_burn : new.burned ≡ old.burned → new.burns ≡ old.burns
+  pub unburned : OnOk result (new.burns ≡ old.burns)
+  pub unset : old.set ≡ false → new.burns ≡ old.burns

@@ -1,5 +1,9 @@
+pub mod Adding
+pub mod Called
 pub mod Faults
-pub mod Frames
 pub mod Fronts
+pub mod Puts
+pub mod Reopening
 pub mod Settled
 pub mod Stays
+pub mod Tearing

@@ -1,10 +1,10 @@
 -- A disk of which calls changed no byte.
-use Rattle.std.specs.Prelude.{◌≡◌, ◌↔◌, ℕ, List}
-use Rattle.lks_disk.specs.Device.{LeavesOnly}
+use Rattle.std.specs.Prelude.{◌≡◌, ℕ, List}
+use Rattle.lks_disk.specs.Face.{Face, AlwaysLeaves}
 
-pub record Stays {D : Type 0} (told : D → Type 0) (seen : D → List ℕ) (may_leave : D → List ℕ → Type 0) (moment : D → ℕ) (left_since : D → ℕ → List ℕ → Type 0) (old new : D) : Type 0 where
-  pub tells : told old ↔ told new
-  pub bytes : told old → seen new ≡ seen old
-  pub crash : told old → (c : List ℕ) → may_leave new c → may_leave old c
+-- no byte changed, and a crash leaves only what it could leave before
+pub record Stays {D : Type 0} (f : Face D) (old new : D) : Type 0 where
+  pub bytes : f.seen new ≡ f.seen old
+  pub crash : (c : List ℕ) → f.may_leave new c → f.may_leave old c
   -- a crash at any moment leaves what it could leave before
-  pub any_moment : told old → LeavesOnly moment left_since old new (may_leave old)
+  pub any_moment : AlwaysLeaves f old new (f.may_leave old)

@@ -1,7 +1,7 @@
 //! Frames: a gate byte, four length bytes and a body.
 ghost use Rattle.std.specs.Prelude.{◌≡◌, ◌^◌, ◌<◌, ◌∷◌, ◌++◌, [], length, IfOk, IfErr};
 ghost use Rattle.std.specs.Int.{to_be_bytes, w32};
-ghost use Rattle.lks_journal.specs.Frames.{frames, HoldsBodies};
+ghost use Rattle.lks_field.specs.Frames.{frames, HoldsBodies};
 ghost use Rattle.lks_journal.specs.Fronts.{IsFront, IsScanFault};
 
 use crate::faults::JournalFault;

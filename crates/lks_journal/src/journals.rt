@@ -1,10 +1,13 @@
 //! Journals.
-ghost use Rattle.std.specs.Prelude.{◌≡◌, ◌↔◌, ◌+◌, ◌-◌, ◌<◌, ◌≤◌, ◌∷◌, ◌++◌, [], ℕ, List, length, true, false, IfOk, OnOk, OnErr, IsErrOf};
-ghost use Rattle.lks_disk.specs.Device.{Only, LeavesOnly, Same};
-ghost use Rattle.lks_journal.specs.Faults.{IsOfDisk, HasCause, FuseRun};
-ghost use Rattle.lks_journal.specs.Frames.{frames, HoldsBodies, HoldsBeforeOrAfter, IsDamagedAt};
+ghost use Rattle.std.specs.Prelude.{◌≡◌, ◌↔◌, ◌+◌, ◌-◌, ◌<◌, ◌≤◌, ◌∷◌, ◌++◌, [], ℕ, List, length, IfOk, OnOk, IsErrOf};
+ghost use Rattle.lks_disk.specs.Face.{AlwaysLeaves, HasFuse, HasLost};
+ghost use Rattle.lks_journal.specs.Adding.{KeepsOrAdds, IsFramed, end_after};
+ghost use Rattle.lks_journal.specs.Called.{Called};
+ghost use Rattle.lks_journal.specs.Faults.{IsOfDisk};
+ghost use Rattle.lks_field.specs.Frames.{frames};
+ghost use Rattle.lks_journal.specs.Reopening.{Reopens, bodies_in, bodies_with};
 ghost use Rattle.lks_journal.specs.Settled.{IsSettled, plain, disk_made, disk_read};
-ghost use Rattle.lks_journal.specs.Stays.{Stays};
+ghost use Rattle.lks_journal.specs.Tearing.{CanLeaveTorn};
 
 use crate::faults::JournalFault;
 use crate::frames::{CLOSED, OPEN, behind_gate, scan};
@@ -25,21 +28,28 @@ pub struct Journal<D: Disk> {
     end: u64,
 }
 
+/// Reads the bodies of a disk, and where their end stands.
+fn read_again<D: Disk>(alloc: Global, disk: &mut D) -> Result<(Vec<Bytes>, u64), JournalFault>
+    ensures found { D.face.told disk.old → Reopens D.face disk.old disk.new (bodies_in (λ p. p.0.items) result) }
+    ensures end { IfOk result (λ p. p.1 ≡ length (frames p.0.items)) }
+    ensures full { IsErrOf result JournalFault.Full → ⊥ }
+    ensures called { Called D.face 1 disk.old disk.new result }
+{
+    let bytes = read_whole(alloc, disk)?;
+    scan(alloc, &bytes)
+}
+
 impl<D: Disk> Journal<D> {
     /// A new journal on an empty disk: one closed gate.
     pub fn create(alloc: Global, disk: D) -> Result<Self, (D, JournalFault)>
-        requires empty { D.told disk → D.seen disk ≡ [] }
-        requires settled { D.told disk → Only [] (D.may_leave disk) }
-        ensures ok { D.told disk → IfOk result (λ journal. IsSettled D.seen D.may_leave journal [] × (D.seen journal.disk ≡ 0 ∷ [])) }
+        requires empty { D.face.told disk → D.face.seen disk ≡ [] }
+        ensures ok { D.face.told disk → IfOk result (λ journal. IsSettled D.face journal [] × (D.face.seen journal.disk ≡ 0 ∷ [])) }
         ensures end { IfOk result (λ journal. journal.end ≡ 0) }
-        ensures told { D.told disk ↔ D.told (disk_made result) }
-        ensures memory { D.told disk → IsErrOf (plain result) JournalFault.Memory →
-            (D.seen (disk_made result) ≡ []) × Only [] (D.may_leave (disk_made result)) }
-        ensures any_moment { D.told disk → LeavesOnly D.moment D.left_since disk (disk_made result) (λ c. length c ≤ 1) }
-        ensures cause { HasCause (D.faults disk) (D.faults (disk_made result)) (plain result) }
+        ensures memory { D.face.told disk → IsErrOf (plain result) JournalFault.Memory →
+            (D.face.seen (disk_made result) ≡ []) × ((c : List ℕ) → D.face.may_leave (disk_made result) c → D.face.may_leave disk c) }
+        ensures any_moment { D.face.told disk → AlwaysLeaves D.face disk (disk_made result) (CanLeaveTorn (D.face.may_leave disk) 0 1) }
         ensures own { IsOfDisk (plain result) }
-        ensures fuse { FuseRun 2 (D.fused disk) (D.fused (disk_made result)) (D.burned disk) (D.burned (disk_made result))
-            (D.left disk) (D.left (disk_made result)) (D.burns disk) (D.burns (disk_made result)) (plain result) }
+        ensures called { Called D.face 2 disk (disk_made result) (plain result) }
     {
         let mut disk = disk;
         match put(&mut disk, 0, &[CLOSED]) {
@@ -54,54 +64,43 @@ impl<D: Disk> Journal<D> {
 
     /// Reads the bodies of a disk that a crash may have left. It answers for all bytes.
     pub fn reopen(alloc: Global, disk: D) -> Result<(Self, Vec<Bytes>), (D, JournalFault)>
-        ensures ok { D.told disk → IfOk result (λ p. IsSettled D.seen D.may_leave p.0 p.1.items) }
-        ensures bodies { D.told disk → IfOk result (λ p. HoldsBodies p.1.items (D.seen disk)) }
-        ensures damaged { D.told disk → (offset : ℕ) → IsErrOf (plain result) (JournalFault.Damaged offset) → IsDamagedAt (D.seen disk) offset }
+        ensures settled { D.face.told disk → IfOk result (λ p. IsSettled D.face p.0 p.1.items) }
+        ensures end { IfOk result (λ p. p.0.end ≡ length (frames p.1.items)) }
+        ensures found { D.face.told disk → Reopens D.face disk (disk_read result) (bodies_with (λ p. p.1.items) result) }
         ensures full { IsErrOf (plain result) JournalFault.Full → ⊥ }
-        ensures stays { Stays D.told D.seen D.may_leave D.moment D.left_since disk (disk_read result) }
-        ensures cause { HasCause (D.faults disk) (D.faults (disk_read result)) (plain result) }
-        ensures fuse { FuseRun 1 (D.fused disk) (D.fused (disk_read result)) (D.burned disk) (D.burned (disk_read result))
-            (D.left disk) (D.left (disk_read result)) (D.burns disk) (D.burns (disk_read result)) (plain result) }
+        ensures called { Called D.face 1 disk (disk_read result) (plain result) }
     {
         let mut disk = disk;
-        let bytes = match read_whole(alloc, &mut disk) {
-            Ok(bytes) => bytes,
-            Err(fault) => return Err((disk, fault)),
-        };
-        match scan(alloc, &bytes) {
+        match read_again(alloc, &mut disk) {
             Ok((bodies, end)) => Ok((Journal { alloc, disk, end }, bodies)),
             Err(fault) => Err((disk, fault)),
         }
     }
 
+    /// Reads the bodies again, as `reopen` does, after a call that failed or was cut off, or after a power cut.
+    pub fn recover(&mut self) -> Result<Vec<Bytes>, JournalFault>
+        ensures settled { D.face.told self.old.disk → IfOk result (λ bodies. IsSettled D.face self.new bodies.items) }
+        ensures end { IfOk result (λ bodies. self.new.end ≡ length (frames bodies.items)) }
+        ensures found { D.face.told self.old.disk → Reopens D.face self.old.disk self.new.disk (bodies_in (λ bodies. bodies.items) result) }
+        ensures full { IsErrOf result JournalFault.Full → ⊥ }
+        ensures called { Called D.face 1 self.old.disk self.new.disk result }
+    {
+        let (bodies, end) = read_again(self.alloc, &mut self.disk)?;
+        self.end = end;
+        Ok(bodies)
+    }
+
     /// Adds a body. At `Ok` every crash leaves it. After `Failed` and `Cut` the journal is to be reopened.
     pub fn append(&mut self, body: &[u8]) -> Result<(), JournalFault>
-        requires settled { D.told self.old.disk → (bodies : List (List ℕ)) × IsSettled D.seen D.may_leave self.old bodies }
-        ensures told { D.told self.old.disk ↔ D.told self.new.disk }
+        requires settled { D.face.told self.old.disk → (bodies : List (List ℕ)) × IsSettled D.face self.old bodies }
+        ensures adds { D.face.told self.old.disk → (bodies : List (List ℕ)) → IsSettled D.face self.old bodies →
+            KeepsOrAdds D.face self.old self.new bodies (bodies ++ body.now ∷ []) result }
+        ensures bytes { D.face.told self.old.disk → OnOk result (IsFramed body.now self.old.end (D.face.seen self.old.disk) (D.face.seen self.new.disk)) }
         ensures full { IsErrOf result JournalFault.Full ↔ (MOST < self.old.end + 6 + length body.now) }
         ensures full_same { IsErrOf result JournalFault.Full → self.new ≡ self.old }
-        ensures end { OnOk result (self.new.end ≡ self.old.end + 5 + length body.now) }
-        ensures end_err { OnErr result (self.new.end ≡ self.old.end) }
-        ensures ok { D.told self.old.disk → (bodies : List (List ℕ)) → IsSettled D.seen D.may_leave self.old bodies →
-            OnOk result (IsSettled D.seen D.may_leave self.new (bodies ++ body.now ∷ [])) }
-        ensures memory { D.told self.old.disk → (bodies : List (List ℕ)) → IsSettled D.seen D.may_leave self.old bodies →
-            IsErrOf result JournalFault.Memory → IsSettled D.seen D.may_leave self.new bodies }
-
-        // A crash at any moment of the call, and a reading after it, finds the bodies from before it, with the new one or without.
-        ensures any_moment { D.told self.old.disk → (bodies : List (List ℕ)) → IsSettled D.seen D.may_leave self.old bodies →
-            LeavesOnly D.moment D.left_since self.old.disk self.new.disk (HoldsBeforeOrAfter bodies body.now) }
-        ensures crash { D.told self.old.disk → (bodies : List (List ℕ)) → IsSettled D.seen D.may_leave self.old bodies →
-            (c : List ℕ) → D.may_leave self.new.disk c → HoldsBeforeOrAfter bodies body.now c }
-        ensures holds { D.told self.old.disk → (bodies : List (List ℕ)) → IsSettled D.seen D.may_leave self.old bodies →
-            HoldsBeforeOrAfter bodies body.now (D.seen self.new.disk) }
-
-        // Cut off in its first two calls, it leaves the bodies from before alone.
-        ensures early { D.told self.old.disk → (bodies : List (List ℕ)) → IsSettled D.seen D.may_leave self.old bodies →
-            IsErrOf result JournalFault.Cut → D.left self.old.disk < 2 → (c : List ℕ) → D.may_leave self.new.disk c → HoldsBodies bodies c }
-        ensures cause { HasCause (D.faults self.old.disk) (D.faults self.new.disk) result }
+        ensures end { self.new.end ≡ end_after result self.old.end (length body.now) }
         ensures damaged { (offset : ℕ) → IsErrOf result (JournalFault.Damaged offset) → ⊥ }
-        ensures fuse { FuseRun 4 (D.fused self.old.disk) (D.fused self.new.disk) (D.burned self.old.disk) (D.burned self.new.disk)
-            (D.left self.old.disk) (D.left self.new.disk) (D.burns self.old.disk) (D.burns self.new.disk) result }
+        ensures called { Called D.face 4 self.old.disk self.new.disk result }
     {
         let room = self.room();
         if room < 5 || body.len() as u64 > room - 5 {
@@ -117,7 +116,7 @@ impl<D: Disk> Journal<D> {
     /// How many bytes may still stand behind the closed gate.
     pub fn room(&self) -> u64
         ensures room { result ≡ MOST - (self.now.end + 1) }
-        ensures behind { (bodies : List (List ℕ)) → IsSettled D.seen D.may_leave self.now bodies → result ≡ MOST - (length (frames bodies) + 1) }
+        ensures behind { (bodies : List (List ℕ)) → IsSettled D.face self.now bodies → result ≡ MOST - (length (frames bodies) + 1) }
     {
         MOST.saturating_sub(self.end.saturating_add(1))
     }
@@ -134,14 +133,18 @@ impl<D: Disk> Journal<D> {
 impl<D: CrashDisk> Journal<D> {
     /// Sets a fuse on the disk: so many writes and syncs pass, and the next one is cut off.
     pub fn fuse(&mut self, calls: u32, choice: u64)
-        ensures settled { (bodies : List (List ℕ)) → IsSettled D.seen D.may_leave self.old bodies → IsSettled D.seen D.may_leave self.new bodies }
+        ensures settled { (bodies : List (List ℕ)) → IsSettled D.face self.old bodies → IsSettled D.face self.new bodies }
         ensures end { self.new.end ≡ self.old.end }
-        ensures same { Same D.told D.seen D.may_leave D.moment D.left_since self.old.disk self.new.disk }
-        ensures set { (D.fused self.new.disk ≡ true) × (D.burned self.new.disk ≡ false) }
-        ensures left { D.left self.new.disk ≡ calls }
-        ensures faults { D.faults self.new.disk ≡ D.faults self.old.disk }
-        ensures burns { D.burns self.new.disk ≡ D.burns self.old.disk }
+        ensures fused { HasFuse D.face calls choice self.old.disk self.new.disk }
     {
         self.disk.fuse(calls, choice);
+    }
+
+    /// Cuts the power of the disk, which picks one outcome of a crash. The journal is to be recovered.
+    pub fn power_cut(&mut self)
+        ensures end { self.new.end ≡ self.old.end }
+        ensures lost { HasLost D.face self.old.disk self.new.disk }
+    {
+        self.disk.power_cut();
     }
 }

@@ -1,6 +1,6 @@
 //! What bytes hold, they hold once.
 ghost use Rattle.std.specs.Prelude.{◌≡◌, ℕ, List};
-ghost use Rattle.lks_journal.specs.Frames.{HoldsBodies, IsDamagedAt};
+ghost use Rattle.lks_field.specs.Frames.{HoldsBodies, IsDamagedAt};
 
 /// Bytes hold one list of bodies at most, and are damaged at one place at most, and never both.
 pub fn one_reading()

@@ -1,7 +1,7 @@
 //! Bytes of journals, and what is left where an append is cut off or fails.
 use crate::{Journal, JournalFault};
 use lks_base::Bytes;
-use lks_disk::{CrashDisk, Disk, MemDisk};
+use lks_disk::{Disk, MemDisk};
 use std::alloc::Global;
 use std::test::Fail;
 
@@ -66,16 +66,15 @@ fn reads_bytes(rt: HostRuntime) -> Result<(), Fail> {
     Ok(())
 }
 
-/// Appends the body to a new journal whose disk is cut off after so many calls, and reopens it.
+/// Appends the body to a new journal whose disk is cut off after so many calls, cuts the power and recovers.
 /// Answers what the append did, and the number of bodies.
 fn cut_off(alloc: Global, calls: u32, choice: u64) -> Result<(bool, usize), JournalFault> {
     let disk = MemDisk::new(alloc, Vec::new(alloc));
     let mut journal = Journal::create(alloc, disk).map_err(|e| e.1)?;
     journal.fuse(calls, choice);
     let done = journal.append(BODY).is_ok();
-    let mut disk = journal.into_disk();
-    disk.power_cut();
-    Ok((done, reopened(alloc, disk)?.len()))
+    journal.power_cut();
+    Ok((done, journal.recover()?.len()))
 }
 
 /// Appends the body to a new journal on a disk of which these calls fail.

@@ -1,15 +1,17 @@
 use Rattle.std.proofs.Common.{◌≡◌, ◌≤◌, ◌*◌, take}
 use Rattle.std.specs.Prelude.{map}
-use Rattle.lks_host.specs.Bodies.{bodies_of}
+use Rattle.lks_host.specs.Bodies.{bodies_of, AreRead}
 use Rattle.lks_journal.specs.Settled.{IsSettled}
 use Rattle.lks_law.specs.Batches.{alone}
 use Rattle.lks_host.proofs.deposits.write_each.Given as goal
 
 abbrev pub invariant-loop-item : goal.invariant-loop-item
 invariant-loop-item g l = record {
-  told : (g.D.Disk.told l.fn.journal.disk → g.D.Disk.told l.journal.disk) × (g.D.Disk.told l.journal.disk → g.D.Disk.told l.fn.journal.disk);
-  settled : g.D.Disk.told l.fn.journal.disk → IsSettled g.D.Disk.seen g.D.Disk.may_leave l.journal (bodies_of (map alone (take l.item-index l.records)));
+  told : (g.D.Disk.face.told l.fn.journal.disk → g.D.Disk.face.told l.journal.disk) × (g.D.Disk.face.told l.journal.disk → g.D.Disk.face.told l.fn.journal.disk);
+  settled : g.D.Disk.face.told l.fn.journal.disk → IsSettled g.D.Disk.face l.journal (bodies_of (map alone (take l.item-index l.records)));
+  read : AreRead (map alone (take l.item-index l.records));
   end : l.journal.end ≤ l.item-index * 8389645;
-  faults : g.D.Disk.faults l.fn.journal.disk ≤ g.D.Disk.faults l.journal.disk;
-  fused : g.D.Disk.fused l.journal.disk ≡ g.D.Disk.fused l.fn.journal.disk;
+  faults : g.D.Disk.face.faults l.journal.disk ≡ g.D.Disk.face.faults l.fn.journal.disk;
+  fused : g.D.Disk.face.fused l.journal.disk ≡ g.D.Disk.face.fused l.fn.journal.disk;
+  burns : g.D.Disk.face.burns l.journal.disk ≡ g.D.Disk.face.burns l.fn.journal.disk;
 }

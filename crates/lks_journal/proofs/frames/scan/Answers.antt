@@ -1,5 +1,5 @@
 use Rattle.std.proofs.Common.{◌≡◌, [], ◌∷◌, ◌++◌, List, ℕ, sym, ◌∙◌, ap, subst}
-use Rattle.lks_journal.specs.Frames.{IsScanned}
+use Rattle.lks_journal.specs.Fronts.{IsScanned}
 use Rattle.lks_journal.proofs.Bodies.{scanned_start, scanned_more, scanned_damaged}
 use Rattle.lks_journal.proofs.frames.scan.Goals as goal
 

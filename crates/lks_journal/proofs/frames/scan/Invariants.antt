@@ -1,5 +1,5 @@
 use Rattle.std.proofs.Common.{length}
-use Rattle.lks_journal.specs.Frames.{IsScanned}
+use Rattle.lks_journal.specs.Fronts.{IsScanned}
 use Rattle.lks_journal.proofs.frames.scan.Given as goal
 
 abbrev pub invariant-frames : goal.invariant-frames

@@ -1,4 +1,4 @@
-use Rattle.lks_journal.proofs.Once as once
+use Rattle.lks_field.proofs.Once as once
 use Rattle.lks_journal.proofs.laws.one_reading.Goals as goal
 
 pub returns-clause-held_once : goal.returns-clause-held_once

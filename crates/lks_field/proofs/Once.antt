@@ -3,7 +3,7 @@ use Rattle.std.proofs.Common.{◌≡◌, ◌≢◌, ⊎_elim, ℕ, ◌+◌, ◌^
 use Rattle.std.proofs.lemmas.List.{take_at, drop_at}
 use Rattle.std.proofs.lemmas.Nat.{from_be_bytes-to_be_bytes_4}
 use Rattle.std.specs.Int.{to_be_bytes, from_be_bytes, w32}
-use Rattle.lks_journal.specs.Frames.{frame, frames, AreBodies, HoldsBodies, IsCutShort, IsDamagedAt}
+use Rattle.lks_field.specs.Frames.{frame, frames, AreBodies, HoldsBodies, IsCutShort, IsDamagedAt}
 
 four : (body : List ℕ) → length (to_be_bytes w32 (length body)) ≡ 4
 four body = refl

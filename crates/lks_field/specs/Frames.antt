@@ -1,12 +1,12 @@
--- What the bytes of a journal hold.
+-- Bodies in frames, one after another, and how they end.
 use Rattle.std.specs.Prelude.{◌≡◌, ◌≢◌, ◌⊎◌, ℕ, ◌+◌, ◌^◌, ◌<◌, ◌≤◌, List, [], ◌∷◌, ◌++◌, length, take}
 use Rattle.std.specs.Int.{to_be_bytes, from_be_bytes, w32}
-use Rattle.lks_disk.specs.Device.{Torn}
 
 -- an open gate, the length and the body
 abbrev pub frame : List ℕ → List ℕ
 frame body = 165 ∷ to_be_bytes w32 (length body) ++ body
 
+-- the frames of these bodies, one after another
 unfoldable pub frames : List (List ℕ) → List ℕ
 frames [] = []
 frames (body ∷ bodies) = frame body ++ frames bodies
@@ -38,32 +38,3 @@ pub record IsDamagedAt (file : List ℕ) (offset : ℕ) : Type 0 where
   pub file_is : file ≡ frames bodies ++ rest
   pub at : offset ≡ length (frames bodies)
   pub why : (file ≡ []) ⊎ IsCutShort rest
-
--- the bodies from before, with the new one or without
-abbrev pub HoldsBeforeOrAfter : List (List ℕ) → List ℕ → List ℕ → Type 0
-HoldsBeforeOrAfter bodies body file = HoldsBodies bodies file ⊎ HoldsBodies (bodies ++ body ∷ []) file
-
--- a crash may leave bytes that it could leave before a write, torn in the write's range
-pub record CanLeaveTorn (may_leave : List ℕ → Type 0) (at n : ℕ) (c : List ℕ) : Type 0 where
-  pub from : List ℕ
-  pub left : may_leave from
-  pub torn : Torn at n from c
-
--- the front of what is left of the bytes: a closed gate
-pub record IsShut (rest : List ℕ) : Type 0 where
-  pub gate : ℕ
-  pub tail : List ℕ
-  pub shut : gate ≢ 165
-  pub rest_is : rest ≡ gate ∷ tail
-
--- or a whole frame, and at least the next gate
-pub record IsWhole (rest body after : List ℕ) : Type 0 where
-  pub fits : length body < 2 ^ 32
-  pub rest_is : rest ≡ frame body ++ after
-  pub more : 0 < length after
-
--- the frames so far, and what is left
-pub record IsScanned (file : List ℕ) (bodies : List (List ℕ)) (rest : List ℕ) : Type 0 where
-  pub are : AreBodies bodies
-  pub file_is : file ≡ frames bodies ++ rest
-  pub begun : (bodies ≡ []) ⊎ (0 < length rest)

@@ -1,0 +1,38 @@
+-- A step while the power fails.
+use Rattle.std.specs.Prelude.{◌≡◌, ◌≤◌, ◌<◌, ◌⊎◌, ℕ, false, List, [], Result, OnOk, IsErrOf}
+use Rattle.lks_base.specs.declared.reactions.Reaction.{Reaction}
+use Rattle.lks_base.specs.declared.records.Record.{Record}
+use Rattle.lks_disk.specs.Counts.{Rose}
+use Rattle.lks_disk.specs.Face.{Face}
+use Rattle.lks_host.specs.Hosted.{StandsFor}
+use Rattle.lks_host.specs.declared.faults.HostFault.{HostFault}
+use Rattle.lks_host.specs.declared.faults.HostFault.TheVariants.{Failed, Cut}
+use Rattle.lks_host.specs.declared.hosts.Host.{Host}
+use Rattle.lks_host.specs.declared.outcomes.Outcome.{Outcome}
+use Rattle.lks_host.specs.declared.outcomes.Outcome.TheVariants.{Whole, Kept, Lost}
+use Rattle.lks_law.specs.Batches.{with_batch}
+
+-- the step adds records, and its append has fewer calls of the disk than its four
+pub record IsCutShort (r : Reaction) (calls : ℕ) : Type 0 where
+  pub adds : r.records ≡ [] → ⊥
+  pub few : calls < 4
+
+-- What the host stands for afterwards: all of it or nothing of it, and nothing where fewer than two calls were made. A
+-- fuse burned exactly where it was cut off.
+abbrev pub CutsOff : {D : Type 0} → Face D → List (List Record) → Reaction → ℕ → Host D → Host D → Outcome → Type 0
+CutsOff f batches r calls old new (Whole x) =
+    (x ≡ r) × StandsFor f new (with_batch batches r.records) × ((r.records ≡ []) ⊎ (4 ≤ calls)) × (f.burns new.journal.disk ≡ f.burns old.journal.disk)
+CutsOff f batches r calls old new (Kept records) =
+    (records ≡ r.records) × IsCutShort r calls × (2 ≤ calls) × StandsFor f new (with_batch batches r.records) × Rose (f.burns old.journal.disk) (f.burns new.journal.disk)
+CutsOff f batches r calls old new Lost = IsCutShort r calls × StandsFor f new batches × Rose (f.burns old.journal.disk) (f.burns new.journal.disk)
+
+-- It is the same peer, and at `Ok` the host takes steps again and no fuse is set. The count of faults rose where the
+-- answer says so, and not at `Ok`, and the answer is never a cut.
+pub record IsBack {D : Type 0} (f : Face D) (old new : Host D) (result : Result Outcome HostFault) : Type 0 where
+  pub whole : OnOk result (new.broken ≡ false)
+  pub own : new.peer.own ≡ old.peer.own
+  pub unfused : OnOk result (f.fused new.journal.disk ≡ false)
+  pub later : f.faults old.journal.disk ≤ f.faults new.journal.disk
+  pub failed : IsErrOf result Failed → Rose (f.faults old.journal.disk) (f.faults new.journal.disk)
+  pub ok : OnOk result (f.faults new.journal.disk ≡ f.faults old.journal.disk)
+  pub no_cut : IsErrOf result Cut → ⊥

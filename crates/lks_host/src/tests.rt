@@ -1,0 +1,172 @@
+//! Steps that are cut off at each call of the disk, and reads that fail at a recovery.
+ghost use Rattle.std.specs.Prelude.{◌≡◌, ◌≤◌, ◌+◌, List, false, true, IfOk, OnOk, OnErr, map};
+ghost use Rattle.lks_base.specs.declared.records.Record.{Record as Recorded};
+ghost use Rattle.lks_disk.specs.MemFace.{mem_face};
+ghost use Rattle.lks_host.specs.Hosted.{StandsFor, IsMadeBy};
+ghost use Rattle.lks_law.specs.Batches.{alone};
+
+use crate::{Host, HostFault, Outcome, cut_step};
+use lks_base::{
+    AuPlan, Blocks, Bytes, HashKind, Holding, Ids, Input, OutOfMemory, PeerPlan, Plan, Rules, Seq,
+};
+use lks_disk::MemDisk;
+use lks_peer::find_honest;
+use std::alloc::Global;
+use std::test::Fail;
+
+const RULES: Rules = Rules {
+    inner: 1,
+    quorum: 1,
+    minority: 0,
+    outer: 0,
+    repairs: 0,
+    pace: 0,
+    refractory: 0,
+    overdue: 0,
+    unknown_pct: 100,
+    debt_pct: 100,
+    churn: 0,
+};
+
+fn copy_of(alloc: Global, au: u16) -> Result<Holding, OutOfMemory> {
+    let block = Bytes::from_vec(vec![in alloc; 65]?);
+    let blocks = Blocks::from_vec(vec![in alloc; block]?);
+    Ok(Holding { au, blocks })
+}
+
+/// One honest peer with copies of two AUs.
+fn plan_of_one(alloc: Global) -> Result<Plan, OutOfMemory> {
+    let copies = vec![in alloc; copy_of(alloc, 1)?, copy_of(alloc, 2)?]?;
+    let peer = PeerPlan {
+        id: 1,
+        corrupt: false,
+        seed: [1; 32],
+        proof: Bytes::from_vec(Vec::new(alloc)),
+        refs: Ids::from_vec(Vec::new(alloc)),
+        friends: Ids::from_vec(Vec::new(alloc)),
+        copies: Seq::from_vec(copies),
+        hash: HashKind::Sha256,
+    };
+    let aus = vec![in alloc; AuPlan { id: 1, count: 1 }, AuPlan { id: 2, count: 1 }]?;
+    Ok(Plan {
+        rules: RULES,
+        turns: 0,
+        aus: Seq::from_vec(aus),
+        peers: Seq::from_vec(vec![in alloc; peer]?),
+    })
+}
+
+/// The host of peer 1 on an empty disk of which these reads fail.
+#[tactic(auto, using(crate::proofs::Standing::made_begun))]
+fn host_of(alloc: Global, plan: &Plan, fail_reads: &[u32]) -> Result<Host<MemDisk>, Fail>
+    ensures made { IfOk result (λ host. IsMadeBy plan.now host.peer.own) }
+    ensures stands { IfOk result (λ host. StandsFor mem_face host (map alone host.peer.journal)) }
+    ensures whole { IfOk result (λ host. host.broken ≡ false) }
+    ensures end { IfOk result (λ host. host.journal.end ≤ 33558580) }
+{
+    plan.check()?;
+    let Some(_) = find_honest(plan.peers.as_slice(), 1) else {
+        return Err(Fail::from(HostFault::Failed));
+    };
+    let disk = MemDisk::faulty(alloc, Vec::new(alloc), fail_reads.to_vec(alloc)?);
+    match Host::create(alloc, plan, 1, disk) {
+        Ok(host) => Ok(host),
+        Err((_, fault)) => Err(Fail::from(fault)),
+    }
+}
+
+fn name_of(outcome: &Outcome) -> &'static str {
+    match outcome {
+        Outcome::Whole(_) => "whole",
+        Outcome::Kept(_) => "kept",
+        Outcome::Lost => "lost",
+    }
+}
+
+/// Cuts off two steps of a new host, and answers what became of each, and how many batches there are.
+fn cut_twice(
+    alloc: Global,
+    plan: &Plan,
+    calls: u32,
+    choice: u64,
+) -> Result<(&'static str, &'static str, u64), Fail> {
+    let mut host = host_of(alloc, plan, &[])?;
+    let first = cut_step(
+        &mut host,
+        plan,
+        1,
+        &Input::OpenPoll { au: 1 },
+        calls,
+        choice,
+    )?;
+    let second = cut_step(
+        &mut host,
+        plan,
+        2,
+        &Input::OpenPoll { au: 2 },
+        calls,
+        choice,
+    )?;
+    Ok((name_of(&first), name_of(&second), host.count()))
+}
+
+#[test]
+fn survives_cuts(rt: HostRuntime) -> Result<(), Fail> {
+    let alloc = rt.alloc();
+    let plan = plan_of_one(alloc)?;
+    // what a power cut leaves, and what becomes of a step for 0 to 4 and 8 calls that pass
+    let rows: [(u64, [&str; 6]); 4] = [
+        (0, ["lost", "lost", "lost", "lost", "whole", "whole"]),
+        (1, ["lost", "lost", "kept", "kept", "whole", "whole"]),
+        (2, ["lost", "lost", "lost", "lost", "whole", "whole"]),
+        (165, ["lost", "lost", "kept", "kept", "whole", "whole"]),
+    ];
+    for (choice, outcomes) in rows {
+        for (place, outcome) in outcomes.iter().enumerate() {
+            let calls = if place == 5 { 8 } else { place as u32 };
+            let count = if *outcome == "lost" { 2 } else { 4 };
+            assert_eq!(rt;
+                cut_twice(alloc, &plan, calls, choice)?,
+                (*outcome, *outcome, count),
+                "{calls} {choice}"
+            );
+        }
+    }
+    Ok(())
+}
+
+/// Cuts the power of a new host on a disk of which a read fails, and recovers it twice. Answers how many batches each
+/// recovery read, and whether the host was broken after it.
+fn recover_twice(
+    alloc: Global,
+    plan: &Plan,
+    read: u32,
+) -> Result<[(Result<u64, HostFault>, bool); 2], Fail> {
+    let mut host = host_of(alloc, plan, &[read])?;
+    host.power_cut();
+    let first = host.recover(plan).map(|found| found.count);
+    let broken = host.broken();
+    let second = host.recover(plan).map(|found| found.count);
+    Ok([(first, broken), (second, host.broken())])
+}
+
+#[test]
+fn recovers_after_a_failed_read(rt: HostRuntime) -> Result<(), Fail> {
+    let alloc = rt.alloc();
+    let plan = plan_of_one(alloc)?;
+    for read in [1, 2] {
+        let answers = recover_twice(alloc, &plan, read)?;
+        assert_eq!(rt;
+            answers,
+            [(Err(HostFault::Failed), true), (Ok(2), false)],
+            "{read}"
+        );
+    }
+
+    // A step that is cut off is answered by the fault of its recovery.
+    let mut host = host_of(alloc, &plan, &[1])?;
+    let outcome = cut_step(&mut host, &plan, 1, &Input::OpenPoll { au: 1 }, 0, 0);
+    assert!(rt; matches!(outcome, Err(HostFault::Failed)));
+    assert!(rt; host.broken());
+    Ok(())
+}
