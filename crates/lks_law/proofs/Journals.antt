@@ -1,13 +1,17 @@
 -- What holds of every journal, and in every world.
 use Rattle.std.proofs.Common.{◌≡◌, ◌≢◌, ◌≤◌, ◌+◌, ◌∙◌, ◌⊎◌, inl, inr, ap, sym, subst, ℕ, zero, suc, Bool, true, false, cond, eqb, List, [], ◌∷◌, ◌++◌, length, take, filter, refl, arith}
-use Rattle.std.specs.Prelude.{Option, Some, None, slice_get, option_map, ◌&&◌}
-use Rattle.std.specs.List.{list_all, filter_map, cons_option}
+use Rattle.std.specs.Prelude.{Option, Some, None, IfSome, Result, Ok, Err, slice_get, option_map, ◌&&◌}
+use Rattle.std.specs.List.{list_all, filter_map, cons_option, range_with_len}
+use Rattle.std.proofs.lemmas.List.{length-map}
 use Rattle.std.proofs.lemmas.List.Elements.{All-filter}
 use Rattle.std.proofs.lemmas.List.Folds.{list_all-append}
 use Rattle.std.proofs.lemmas.Option.{slice_get-map, slice_get_within, get_or_from_slice_get}
 use Rattle.lks_base.specs.Checking.{plan_fault}
+use Rattle.lks_base.specs.declared.events.Envelope.{Envelope}
 use Rattle.lks_base.specs.declared.events.Event.{Event}
 use Rattle.lks_base.specs.declared.events.Event.TheVariants.{Step, Cut, Tick, Lose, Forge, Crash}
+use Rattle.lks_base.specs.declared.events.PeerStep.{PeerStep}
+use Rattle.lks_base.specs.declared.events.PeerStep.TheVariants.{OpenPoll, Widen, Shut, Tally, Nudge, GiveUp, Work, Expire, Check, Tune, Deliver}
 use Rattle.lks_base.specs.declared.messages.Message.{Message}
 use Rattle.lks_base.specs.declared.messages.Message.TheVariants as message
 use Rattle.lks_base.specs.declared.names.Judged.{Judged}
@@ -20,17 +24,22 @@ use Rattle.lks_base.specs.declared.reactions.Input.TheVariants as input
 use Rattle.lks_base.specs.declared.records.Record.{Record}
 use Rattle.lks_base.specs.declared.records.Record.TheVariants.{Deposit, Replaced}
 use Rattle.lks_law.specs.Circles.{IsCircle, HaveCircles, Samples}
-use Rattle.lks_law.specs.Facts.{Heard, journal_after, AreInOrder, IsJournalOf, HasJournal, HaveJournals, HasPolls}
-use Rattle.lks_law.specs.Journal.{Opening, contents_of, opening_of, is_shut, is_closed, has_asked, unanswered, waiting}
+use Rattle.lks_law.specs.Facts.{Heard, IsHeard, GoesBy, AreInOrder, IsJournalOf, HasJournal, HaveJournals, HasPolls}
+use Rattle.lks_law.specs.Journal.{Opening, contents_of, opening_of, is_shut, is_closed, has_asked, unanswered, waiting, openings, opened_numbers}
 use Rattle.lks_law.specs.Polls.{Station, limits_of, ballot_of, votes, inner_votes, verdict_in}
 use Rattle.lks_law.specs.Reaction.{reaction, may_tally, on_message}
 use Rattle.lks_law.specs.Safe.{Safe}
-use Rattle.lks_law.specs.World.{Standing, World, Deed, is_honest, standing_of, deposit_for, deposits, start, deed_of, peer_at, reaction_at, effect_of, with_records, peers_after, after_step, happens, happen_all, world}
+use Rattle.lks_law.specs.World.{Standing, World, Deed, is_honest, standing_of, deposit_for, deposits, start, got, delivered, own_deed_of, deed_of, peer_at, reaction_at, effect_of, with_records, peers_after, after_step, happens, happen_all, world}
 use Rattle.lks_law.proofs.Kept.{Kept}
 use Rattle.lks_law.proofs.Openings.{kept_on_open}
 use Rattle.lks_law.proofs.PollStates.{Good, poll_of, blank, copies_in, good_poll}
 use Rattle.lks_law.proofs.Repairs.{kept_on_repair, kept_on_give_up}
 use Rattle.lks_law.proofs.Samples.{circles_more, reaction_adds, list_kept, peers_listed}
+use Rattle.lks_law.proofs.Unnumbered.{adds_kept, adds_circles}
+use Rattle.lks_message.proofs.Within.{read_within}
+use Rattle.lks_message.specs.Reading.{decode_of}
+use Rattle.lks_message.specs.Spelling.{IsWithin}
+use Rattle.lks_message.specs.declared.fault.MsgFault.{MsgFault}
 use Rattle.lks_refs.specs.Lists.{IsReferenceList}
 use Rattle.lks_law.proofs.Rows.{KeptBy, kept_nothing, kept_on_challenge, kept_on_nominate, kept_on_vote, kept_on_shut, kept_on_tally, kept_on_widen, kept_on_check, kept_on_nudge, tally_parts}
 use Rattle.lks_tally.specs.declared.ballots.Verdict.TheVariants as verdict
@@ -72,6 +81,15 @@ deposits_say n [] all = refl
 deposits_say n (Deposit au blocks ∷ js) all = deposits_say n js all
 deposits_say n (r ∷ js) all = absurd cc
 
+none_opened : (js : List Record) → AreDeposits js → opened_numbers js ≡ range_with_len 1 (openings js)
+unfolding AreDeposits opened_numbers openings
+none_opened js all = let none = nothing_opened js all in none.0 ∙ ap (range_with_len 1) (sym none.1)
+  where
+    nothing_opened : (rs : List Record) → list_all is_deposit rs ≡ true → (opened_numbers rs ≡ []) × (openings rs ≡ 0)
+    nothing_opened [] all = (refl, refl)
+    nothing_opened (Deposit au blocks ∷ rs) all = nothing_opened rs all
+    nothing_opened (r ∷ rs) all = absurd cc
+
 none_replaced : (js : List Record) → AreDeposits js → (i n au b : ℕ) (bytes : List ℕ) → slice_get js i ≡ Some (Replaced n au b bytes) → ⊥
 unfolding AreDeposits
 none_replaced [] all i n au b bytes e = absurd cc
@@ -96,6 +114,7 @@ kept_deposits own js all =
     record {
       good = λ n. subst (Good own n (copies_in js)) (sym (deposits_say n js all)) (good_blank own n (copies_in js));
       rest = record {
+        in_order = none_opened js all;
         numbered = λ n o is. absurd (no_opening (opening_of n js) o (none n) is);
         alone = λ m n o p is too runs also au. absurd (no_opening (opening_of m js) o (none m) is);
         evidence = λ i n au b bytes at. absurd (none_replaced js all i n au b bytes at);
@@ -142,22 +161,25 @@ deposits_have_circles own js all i r at = no_circle own (take i js) r (deposit_a
 
 -- Every journal.
 
-kept_journal : (own : Station) (aus : List AuPlan) (copies : List Holding) (heard : List Heard) → Kept own (journal_after own (deposits aus copies) heard)
-kept_journal own aus copies [] = kept_deposits own (deposits aus copies) (deposits_are aus copies)
-kept_journal own aus copies (h ∷ hs) = kept_reaction own (journal_after own (deposits aus copies) hs) h.tick h.input (kept_journal own aus copies hs)
+kept_journal : (own : Station) (aus : List AuPlan) (copies : List Holding) (heard : List Heard) (js : List Record) → GoesBy own (deposits aus copies) heard js → Kept own js
+kept_journal own aus copies [] js is = subst (Kept own) (sym is) (kept_deposits own (deposits aus copies) (deposits_are aus copies))
+kept_journal own aus copies (h ∷ hs) js (before, added, goes, heard, adds, is) =
+    let kept = kept_journal own aus copies hs before goes in
+    subst (Kept own) (sym is) (adds_kept own before h.tick h.input added (kept_reaction own before h.tick h.input kept) kept adds)
 
 kept_of : (own : Station) (aus : List AuPlan) (copies : List Holding) (tick : ℕ) (js : List Record) → IsJournalOf own (deposits aus copies) tick js → Kept own js
-kept_of own aus copies tick js is = subst (Kept own) (sym is.made) (kept_journal own aus copies is.heard)
+kept_of own aus copies tick js is = kept_journal own aus copies is.heard js is.made
 
-circles_of : (own : Station) (aus : List AuPlan) (copies : List Holding) (heard : List Heard) → IsReferenceList own.id own.refs
-    → HaveCircles own (journal_after own (deposits aus copies) heard)
-circles_of own aus copies [] is = deposits_have_circles own (deposits aus copies) (deposits_are aus copies)
-circles_of own aus copies (h ∷ hs) is =
-    let js = journal_after own (deposits aus copies) hs in
-    circles_more own js (reaction own js h.tick h.input).records (circles_of own aus copies hs is) (reaction_adds own js h.tick h.input is)
+circles_of : (own : Station) (aus : List AuPlan) (copies : List Holding) (heard : List Heard) (js : List Record) → IsReferenceList own.id own.refs
+    → GoesBy own (deposits aus copies) heard js → HaveCircles own js
+circles_of own aus copies [] js listed is = subst (HaveCircles own) (sym is) (deposits_have_circles own (deposits aus copies) (deposits_are aus copies))
+circles_of own aus copies (h ∷ hs) js listed (before, added, goes, heard, adds, is) =
+    subst (HaveCircles own) (sym is)
+    (circles_more own before added (circles_of own aus copies hs before listed goes)
+    (adds_circles own before h.tick h.input added (reaction_adds own before h.tick h.input listed) listed adds))
 
 polls_of : (own : Station) (js : List Record) → Kept own js → HasPolls own js
-polls_of own js kept = record { each = λ n. good_poll own js n (kept.good n); alone = kept.rest.alone }
+polls_of own js kept = record { numbered = kept.rest.in_order; each = λ n. good_poll own js n (kept.good n); alone = kept.rest.alone }
 
 -- Every world.
 
@@ -185,15 +207,15 @@ records_at id added (s ∷ ss) place after e = by_id (eqb s.own.id id) refl plac
       | inr more ↦ inr (record { before = more.before; there = more.there; found = ap (λ b. cond b (Some s) (peer_at id ss)) here ∙ more.found; is = more.is })
     ]
 
-journal_more : (plan : Plan) (tick : ℕ) (p : Option PeerPlan) (s : Standing) (i : Input) → HasJournal plan tick p s
+journal_more : (plan : Plan) (tick : ℕ) (p : Option PeerPlan) (s : Standing) (i : Input) → IsHeard i → HasJournal plan tick p s
     → HasJournal plan tick p (record { own = s.own; journal = s.journal ++ (reaction s.own s.journal tick i).records })
-journal_more plan tick None s i has = has
-journal_more plan tick (Some p) s i has = (
+journal_more plan tick None s i heard has = has
+journal_more plan tick (Some p) s i heard has = (
   has.0,
   record {
     heard = record { tick = tick; input = i } ∷ has.1.heard;
     in_order = (omega arith, has.1.in_order);
-    made = ap (λ js. js ++ (reaction s.own js tick i).records) has.1.made;
+    made = (s.journal, (reaction s.own s.journal tick i).records, has.1.made, heard, inl refl, refl);
   },
 )
 
@@ -209,24 +231,74 @@ journal_later plan tick by (Some p) s has =
 abbrev PeersHave : Plan → ℕ → List Standing → Type 0
 PeersHave plan tick peers = (place : ℕ) (s : Standing) → slice_get peers place ≡ Some s → HasJournal plan tick (slice_get (filter is_honest plan.peers) place) s
 
-deed_keeps : (plan : Plan) (tick : ℕ) (peers : List Standing) (d : Option Deed) → PeersHave plan tick peers → PeersHave plan tick (peers_after tick peers d)
-deed_keeps plan tick peers None has place s at = has place s at
-deed_keeps plan tick peers (Some d) has place s at = elim (records_at d.peer (effect_of tick peers (Some d)).records peers place s at) [
+-- what a deed is to its peer is heard in its limits
+
+said_heard : (e : Envelope) (judged : Judged) (read : Result Message MsgFault) → ((m : Message) → read ≡ Ok m → IsWithin m)
+    → IfSome (got e judged (elim read [ Ok m ↦ Some m | Err fault ↦ None ])) (λ d. IsHeard d.input)
+said_heard e judged (Ok m) within = within m refl
+said_heard e judged (Err fault) within = tt
+
+pub deed_heard : (bag : List Envelope) (s : PeerStep) → IfSome (deed_of bag s) (λ d. IsHeard d.input)
+unfolding deed_of own_deed_of
+deed_heard bag (Deliver envelope judged) = by_envelope (slice_get bag envelope)
+  where
+    by_envelope : (e : Option Envelope) → IfSome (delivered e judged) (λ d. IsHeard d.input)
+    by_envelope None = tt
+    by_envelope (Some e) = said_heard e judged (decode_of e.bytes) (read_within e.bytes)
+deed_heard bag (OpenPoll peer au) = tt
+deed_heard bag (Widen peer number) = tt
+deed_heard bag (Shut peer number) = tt
+deed_heard bag (Tally peer number) = tt
+deed_heard bag (Nudge peer number) = tt
+deed_heard bag (GiveUp peer number) = tt
+deed_heard bag (Work peer poll) = tt
+deed_heard bag (Expire peer poll) = tt
+deed_heard bag (Check peer) = tt
+deed_heard bag (Tune peer quorum minority repairs) = tt
+
+deed_keeps : (plan : Plan) (tick : ℕ) (peers : List Standing) (d : Option Deed) → IfSome d (λ d. IsHeard d.input) → PeersHave plan tick peers → PeersHave plan tick (peers_after tick peers d)
+deed_keeps plan tick peers None heard has place s at = has place s at
+deed_keeps plan tick peers (Some d) heard has place s at = elim (records_at d.peer (effect_of tick peers (Some d)).records peers place s at) [
   | inl same ↦ has place s same
   | inr more ↦
       subst (HasJournal plan tick (slice_get (filter is_honest plan.peers) place)) more.is
       (subst (λ o. HasJournal plan tick (slice_get (filter is_honest plan.peers) place) (record { own = more.before.own; journal = more.before.journal ++ (reaction_at tick o d.input).records })) (sym more.found)
-      (journal_more plan tick (slice_get (filter is_honest plan.peers) place) more.before d.input (has place more.before more.there)))
+      (journal_more plan tick (slice_get (filter is_honest plan.peers) place) more.before d.input heard (has place more.before more.there)))
 ]
+
+-- no peer comes or goes
+
+records_count : (id : ℕ) (added : List Record) (ss : List Standing) → length (with_records id added ss) ≡ length ss
+records_count id added [] = refl
+records_count id added (s ∷ ss) = by_id (eqb s.own.id id) (records_count id added ss)
+  where
+    by_id : (b : Bool) → length (with_records id added ss) ≡ length ss
+        → length (cond b (record { own = s.own; journal = s.journal ++ added } ∷ ss) (s ∷ with_records id added ss)) ≡ suc (length ss)
+    by_id true rest = refl
+    by_id false rest = ap suc rest
+
+deed_count : (tick : ℕ) (peers : List Standing) (d : Option Deed) → length (peers_after tick peers d) ≡ length peers
+deed_count tick peers None = refl
+deed_count tick peers (Some d) = records_count d.peer (effect_of tick peers (Some d)).records peers
+
+step_keeps : (plan : Plan) (w : World) (s : PeerStep) → HaveJournals plan w → HaveJournals plan (after_step w s true)
+unfolding after_step
+step_keeps plan w s has = record {
+  count = deed_count w.tick w.peers (deed_of w.bag s) ∙ has.count;
+  each = deed_keeps plan w.tick w.peers (deed_of w.bag s) (deed_heard w.bag s) has.each;
+}
 
 happens_keeps : (plan : Plan) (w : World) (e : Event) → HaveJournals plan w → HaveJournals plan (happens w e)
 unfolding happens after_step
-happens_keeps plan w (Step s) has = deed_keeps plan w.tick w.peers (deed_of w.bag s) has
-happens_keeps plan w (Cut s true) has = deed_keeps plan w.tick w.peers (deed_of w.bag s) has
+happens_keeps plan w (Step s) has = step_keeps plan w s has
+happens_keeps plan w (Cut s true) has = let kept = step_keeps plan w s has in record { count = kept.count; each = kept.each }
 happens_keeps plan w (Cut s false) has = has
-happens_keeps plan w (Tick by) has = λ place s at. journal_later plan w.tick by (slice_get (filter is_honest plan.peers) place) s (has place s at)
+happens_keeps plan w (Tick by) has = record {
+  count = has.count;
+  each = λ place s at. journal_later plan w.tick by (slice_get (filter is_honest plan.peers) place) s (has.each place s at);
+}
 happens_keeps plan w (Lose envelope) has = has
-happens_keeps plan w (Forge from to bytes) has = has
+happens_keeps plan w (Forge from to bytes) has = record { count = has.count; each = has.each }
 happens_keeps plan w (Crash peer) has = has
 
 all_keep : (plan : Plan) (w : World) (history : List Event) → HaveJournals plan w → HaveJournals plan (happen_all w history)
@@ -235,11 +307,14 @@ all_keep plan w (e ∷ es) has = all_keep plan (happens w e) es (happens_keeps p
 
 start_has : (plan : Plan) → HaveJournals plan (start plan)
 unfolding start
-start_has plan place s at = standing (slice_get (filter is_honest plan.peers) place) (sym (slice_get-map (standing_of plan) (filter is_honest plan.peers) place) ∙ at)
+start_has plan = record {
+  count = length-map (filter is_honest plan.peers) (standing_of plan);
+  each = λ place s at. standing s (slice_get (filter is_honest plan.peers) place) (sym (slice_get-map (standing_of plan) (filter is_honest plan.peers) place) ∙ at);
+}
   where
-    standing : (p : Option PeerPlan) → option_map (standing_of plan) p ≡ Some s → HasJournal plan 0 p s
-    standing None e = absurd cc
-    standing (Some p) e =
+    standing : (s : Standing) (p : Option PeerPlan) → option_map (standing_of plan) p ≡ Some s → HasJournal plan 0 p s
+    standing s None e = absurd cc
+    standing s (Some p) e =
         let same : standing_of plan p ≡ s = cc in
         subst (HasJournal plan 0 (Some p)) same (refl, record { heard = []; in_order = tt; made = refl })
 
@@ -252,7 +327,7 @@ kept_at plan tick None s has = absurd has
 kept_at plan tick (Some p) s has = kept_of s.own plan.aus p.copies tick s.journal has.1
 
 pub kept_in : (plan : Plan) (history : List Event) (place : ℕ) (s : Standing) → slice_get (world plan history).peers place ≡ Some s → Kept s.own s.journal
-kept_in plan history place s at = kept_at plan (world plan history).tick (slice_get (filter is_honest plan.peers) place) s (journals_are_own plan history place s at)
+kept_in plan history place s at = kept_at plan (world plan history).tick (slice_get (filter is_honest plan.peers) place) s ((journals_are_own plan history).each place s at)
 
 pub polls_keep : (plan : Plan) (history : List Event) (place : ℕ) (s : Standing) → slice_get (world plan history).peers place ≡ Some s → HasPolls s.own s.journal
 polls_keep plan history place s at = polls_of s.own s.journal (kept_in plan history place s at)
@@ -287,9 +362,9 @@ sampled_at plan good place tick (Some p) at s has =
     let listed : IsReferenceList s.own.id s.own.refs = subst (λ own. IsReferenceList own.id own.refs) (sym has.0) (good_at plan good place p at) in
     record {
       list = list_kept s.own s.journal listed;
-      circles = subst (HaveCircles s.own) (sym has.1.made) (circles_of s.own plan.aus p.copies has.1.heard listed);
+      circles = circles_of s.own plan.aus p.copies has.1.heard s.journal listed has.1.made;
     }
 
 pub circles_are_samples : (plan : Plan) → plan_fault plan ≡ None → (history : List Event) (place : ℕ) (s : Standing) → slice_get (world plan history).peers place ≡ Some s → Samples s
 circles_are_samples plan good history place s at =
-    sampled_at plan good place (world plan history).tick (slice_get (filter is_honest plan.peers) place) refl s (journals_are_own plan history place s at)
+    sampled_at plan good place (world plan history).tick (slice_get (filter is_honest plan.peers) place) refl s ((journals_are_own plan history).each place s at)

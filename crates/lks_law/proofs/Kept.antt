@@ -1,21 +1,22 @@
 -- What every record that the rules add keeps.
 use Rattle.std.proofs.Common.{◌≡◌, ◌≢◌, ◌≤◌, ◌<◌, ◌+◌, ◌∙◌, inl, inr, ap, sym, subst, ℕ, zero, suc, Bool, true, false, cond, eqb, List, [], ◌∷◌, ◌++◌, length, get_or, refl, arith}
 use Rattle.std.specs.Prelude.{Option, Some, None, ◌&&◌}
-use Rattle.std.specs.List.{cons_option}
+use Rattle.std.specs.List.{cons_option, range_with_len}
 use Rattle.std.proofs.lemmas.Bool.{eq-eqb, and_from, both_ways, or_parts}
-use Rattle.std.proofs.lemmas.List.{take-append-le, take_at}
+use Rattle.std.proofs.lemmas.List.{append-nil, take-append-le, take_at}
 use Rattle.lks_base.specs.declared.names.Outcome.{Outcome}
 use Rattle.lks_base.specs.declared.records.Record.{Record}
-use Rattle.lks_base.specs.declared.records.Record.TheVariants.{Nominated, OuterOpened, VoteIn, Shut, Asked, RepairBad, Replaced, Closed, Overdue}
-use Rattle.lks_law.specs.Journal.{Opening, deposit_in, replacement_in, contents_of, opening_in, opening_of, is_opening, openings, vote_in, is_vote_of, has_voted, is_closed}
+use Rattle.lks_base.specs.declared.records.Record.TheVariants.{PollOpened, Nominated, OuterOpened, VoteIn, Shut, Asked, RepairBad, Replaced, Closed, Overdue}
+use Rattle.lks_law.specs.Journal.{Opening, deposit_in, replacement_in, contents_of, opening_in, opening_of, is_opening, openings, opened_in, opened_numbers, vote_in, is_vote_of, has_voted, is_closed}
 use Rattle.lks_law.specs.Polls.{Station, votes}
 use Rattle.lks_law.specs.Safe.{Evidence, HasEvidence}
-use Rattle.lks_law.proofs.Grown.{first_opening, opening_more, openings_more, closed_more, contents_more, replaced_if, last_or_before}
+use Rattle.lks_law.proofs.Grown.{first_opening, opening_more, openings_more, numbers_more, closed_more, contents_more, replaced_if, last_or_before}
 use Rattle.lks_law.proofs.PollStates.{Good, poll_of, poll_after, poll_more, copies_in}
 use Rattle.lks_tally.specs.declared.ballots.Vote.{Vote}
 
 -- the polls of a journal, apart from what each is
 pub record Rest (own : Station) (js : List Record) : Type 0 where
+  pub in_order : opened_numbers js ≡ range_with_len 1 (openings js)
   pub numbered : (n : ℕ) (o : Opening) → opening_of n js ≡ Some o → n ≤ openings js
   pub alone : (m n : ℕ) (o p : Opening) → opening_of m js ≡ Some o → opening_of n js ≡ Some p → is_closed m js ≡ false → is_closed n js ≡ false → o.au ≡ p.au → m ≡ n
   pub evidence : HasEvidence own js
@@ -58,13 +59,22 @@ evidence_more own js r has last i n au b bytes at = elim (last_or_before js r i 
   | inr here ↦ let place = here.0 in subst (λ front. Evidence own front n au b bytes) (sym (take_at js (r ∷ []) i (sym place))) (last n au b bytes here.1)
 ]
 
+opens_none : (r : Record) → is_opening r ≡ false → opened_in r ≡ None
+opens_none (PollOpened number au nonce inner tick limits kind) e = absurd cc
+opens_none r e = refl
+
+same_numbers : (js : List Record) (r : Record) → is_opening r ≡ false → opened_numbers (js ++ r ∷ []) ≡ opened_numbers js
+same_numbers js r counted = numbers_more js r ∙ ap (λ o. opened_numbers js ++ cons_option o []) (opens_none r counted) ∙ append-nil (opened_numbers js)
+
 -- a record that opens no poll leaves their numbers, and at most one runs on an AU
 pub rest_after : (own : Station) (js : List Record) (r : Record) → ((n : ℕ) → opening_in n r ≡ None) → is_opening r ≡ false → HasEvidence own (js ++ r ∷ []) → Rest own js
     → Rest own (js ++ r ∷ [])
 rest_after own js r none counted evidence rest =
     let same : (n : ℕ) → opening_of n (js ++ r ∷ []) ≡ opening_of n js = λ n. same_opening n js r (none n) in
     let count : openings (js ++ r ∷ []) ≡ openings js + 0 = openings_more js r ∙ ap (λ b. openings js + cond b 1 0) counted in
+    let as_many : openings (js ++ r ∷ []) ≡ openings js = omega (arith, count) in
     record {
+      in_order = same_numbers js r counted ∙ rest.in_order ∙ ap (range_with_len 1) (sym as_many);
       numbered = λ n o opened. let low = rest.numbered n o (sym (same n) ∙ opened) in omega (arith, low, count);
       alone = λ m n o p first second runs also au.
           rest.alone m n o p (sym (same m) ∙ first) (sym (same n) ∙ second) (was_running m js r runs) (was_running n js r also) au;

@@ -1,5 +1,7 @@
 pub mod Batches
+pub mod Breaking
 pub mod Grown
+pub mod Happening
 pub mod Histories
 pub mod Kept
 pub mod Journals
@@ -9,3 +11,4 @@ pub mod Ranges
 pub mod Repairs
 pub mod Rows
 pub mod Samples
+pub mod Unnumbered

@@ -1,18 +1,19 @@
 -- What the opening of a poll keeps.
 use Rattle.std.proofs.Common.{◌≡◌, ◌≤◌, ◌+◌, ◌∙◌, ◌⊎◌, inl, inr, ap, sym, subst, ℕ, Bool, true, false, cond, eqb, ltb, List, [], ◌∷◌, ◌++◌, refl, arith}
 use Rattle.std.specs.Prelude.{Option, Some, None, is_some, not, ◌&&◌, count_by}
-use Rattle.std.specs.List.{list_any}
+use Rattle.std.specs.List.{list_any, range_with_len}
 use Rattle.std.proofs.lemmas.Bool.{and_parts, not-true, eqb-true, eq-eqb, and_from, both_ways, or_left, or_right, not_from_false}
 use Rattle.lks_base.specs.declared.records.Record.{Record}
 use Rattle.lks_base.specs.declared.records.Record.TheVariants as records
 use Rattle.lks_hash.specs.Hashes.{nonce_from}
-use Rattle.lks_law.specs.Journal.{Opening, deposit_of, opening_in, opening_of, openings, is_closed, opens_running, opens_open, opens_lately}
+use Rattle.lks_law.specs.Journal.{Opening, deposit_of, opening_in, opening_of, openings, opened_numbers, is_closed, opens_running, opens_open, opens_lately}
 use Rattle.lks_law.specs.Polls.{Station, limits_in_force}
 use Rattle.lks_law.specs.Reaction.{may_open, opened, on_open}
 use Rattle.lks_law.specs.References.{inner_circle}
-use Rattle.lks_law.proofs.Grown.{first_opening, opening_more, openings_more, contents_more}
+use Rattle.lks_law.proofs.Grown.{first_opening, opening_more, openings_more, numbers_more, contents_more}
 use Rattle.lks_law.proofs.Kept.{Kept, AllGood, evidence_more, was_running}
 use Rattle.lks_law.proofs.PollStates.{Good, poll_of, poll_more, copies_in, if_own, good_opened}
+use Rattle.lks_law.proofs.Ranges.{range_last}
 use Rattle.lks_law.proofs.Rows.{KeptBy, kept_if}
 
 -- A poll that runs on an AU is found.
@@ -91,6 +92,12 @@ module _ (own : Station) (js : List Record) (n tick : ℕ) (o : Opening) where
       ]
     ]
 
+    in_order_after : opened_numbers (js ++ opening ∷ []) ≡ range_with_len 1 (openings (js ++ opening ∷ []))
+    in_order_after =
+        let count : openings (js ++ opening ∷ []) ≡ openings js + 1 = openings_more js opening in
+        let last : 1 + openings js ≡ n = omega (arith, next) in
+        numbers_more js opening ∙ ap (λ (ns : List ℕ). ns ++ n ∷ []) kept.rest.in_order ∙ sym (range_last 1 (openings js) n last) ∙ ap (range_with_len 1) (sym count)
+
     same_copies_after : copies_in (js ++ opening ∷ []) ≡ copies_in js
     same_copies_after = λ i au. contents_more au js opening refl i
 
@@ -105,13 +112,14 @@ module _ (own : Station) (js : List Record) (n tick : ℕ) (o : Opening) where
     kept_opened = record {
       good = good_after;
       rest = record {
+        in_order = in_order_after;
         numbered = numbered_after;
         alone = alone_after;
         evidence = evidence_more own js opening kept.rest.evidence (λ m au b bytes is. absurd cc);
       };
     }
 
-free_of : (own : Station) (js : List Record) (tick au : ℕ) → may_open own js tick au ≡ true → list_any (opens_running au js) js ≡ false
+pub free_of : (own : Station) (js : List Record) (tick au : ℕ) → may_open own js tick au ≡ true → list_any (opens_running au js) js ≡ false
 unfolding may_open
 free_of own js tick au may =
     let all = and_parts (is_some (deposit_of au js) && not (list_any (opens_running au js) js) && ltb (count_by (opens_open js) js) 8) (not (list_any (opens_lately au tick own.rules.pace) js)) may in

@@ -8,7 +8,7 @@ use Rattle.lks_base.specs.declared.records.Record.{Record}
 use Rattle.lks_base.specs.declared.records.Record.TheVariants.{PollOpened, VoteIn, Shut, Asked, RepairBad, Replaced, Closed}
 use Rattle.lks_law.specs.Journal.{Opening, Request, contents_of, opening_in, opening_of, vote_in, shuts, is_shut, closes, is_closed, asks_any, has_asked, unanswered_after, unanswered, waiting_after, waiting}
 use Rattle.lks_law.specs.Polls.{Station, limits_of, ballot_of, votes, inner_votes, said_at}
-use Rattle.lks_law.specs.Safe.{AreDistinct}
+use Rattle.lks_tally.specs.Distinct.{AreDistinct}
 use Rattle.lks_law.specs.Facts.{IsPollOf}
 use Rattle.lks_law.proofs.Grown.{first_opening, votes_after, opening_more, votes_more, shut_more, closed_more, asked_more, unanswered_more, waiting_more}
 use Rattle.lks_tally.specs.declared.ballots.At.TheVariants as at

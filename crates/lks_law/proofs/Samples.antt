@@ -71,7 +71,7 @@ inner_pick own n js =
 pub few_inner : (own : Station) (n : ℕ) (js : List Record) → length (inner_circle own n js) ≤ own.rules.inner
 few_inner own n js = let pick = inner_pick own n js in omega (arith, pick.count)
 
-inner_sample : (own : Station) (n : ℕ) (js : List Record) → IsReferenceList own.id own.refs → IsSample own.id own.rules.inner (inner_circle own n js)
+pub inner_sample : (own : Station) (n : ℕ) (js : List Record) → IsReferenceList own.id own.refs → IsSample own.id own.rules.inner (inner_circle own n js)
 inner_sample own n js is =
     let list = list_kept own js is in
     let pick = inner_pick own n js in
@@ -91,7 +91,7 @@ outer_sample own n o js =
 
 -- Each rule adds such circles alone.
 
-abbrev Adds : Station → List Record → List Record → Type 0
+abbrev pub Adds : Station → List Record → List Record → Type 0
 Adds own js [] = Unit {0}
 Adds own js (r ∷ rs) = IsCircle own js r × Adds own (js ++ r ∷ []) rs
 
@@ -119,7 +119,7 @@ module _ (own : Station) (js : List Record) where
   at_opening None f adds = tt
   at_opening (Some x) f adds = adds x refl
 
-  open_adds : (tick au : ℕ) → IsReferenceList own.id own.refs → Adds own js (on_open own js tick au).records
+  pub open_adds : (tick au : ℕ) → IsReferenceList own.id own.refs → Adds own js (on_open own js tick au).records
   unfolding on_open
   open_adds tick au is = if_adds (may_open own js tick au) (opened own js tick au (openings js + 1)) (inner_sample own (openings js + 1) js is, tt)
 

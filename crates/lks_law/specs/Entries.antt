@@ -7,12 +7,12 @@ use Rattle.lks_base.specs.declared.entries.Note.{Note}
 use Rattle.lks_base.specs.declared.entries.Note.TheVariants as note
 use Rattle.lks_base.specs.declared.events.Envelope.{Envelope}
 use Rattle.lks_base.specs.declared.events.Event.{Event}
-use Rattle.lks_base.specs.declared.events.Event.TheVariants.{Step, Cut, Forge}
+use Rattle.lks_base.specs.declared.events.Event.TheVariants.{Step, Cut, Tick, Lose, Forge, Crash}
 use Rattle.lks_base.specs.declared.events.PeerStep.{PeerStep}
-use Rattle.lks_base.specs.declared.events.PeerStep.TheVariants.{Deliver}
+use Rattle.lks_base.specs.declared.events.PeerStep.TheVariants.{OpenPoll, Widen, Shut as Shutting, Tally, Nudge, GiveUp, Work, Expire, Check, Tune, Deliver}
 use Rattle.lks_base.specs.declared.plans.Plan.{Plan}
 use Rattle.lks_base.specs.declared.records.Record.{Record}
-use Rattle.lks_base.specs.declared.records.Record.TheVariants.{PollOpened, Nominated, OuterOpened, VoteIn, Shut, Asked, RepairBad, Replaced, Closed, Overdue, Joined, Committed, Voted, Served, Ended, Tuned}
+use Rattle.lks_base.specs.declared.records.Record.TheVariants.{Deposit, PollOpened, Nominated, OuterOpened, VoteIn, Shut, Asked, RepairBad, Replaced, Closed, Overdue, Joined, Committed, Voted, Served, Ended, Tuned}
 use Rattle.lks_law.specs.Journal.{Opening, opening_of}
 use Rattle.lks_law.specs.World.{World, Deed, Standing, start, happens, deed_of, effect_of, peer_at}
 
@@ -28,8 +28,18 @@ is_inner journal n v = has_inner (opening_of n journal) v
 abbrev pub reported : ℕ → ℕ
 reported n = min n 65535
 
--- the note of a record of another peer's poll, or of the peer itself; a deposit has none
+-- the note of a record of another peer's poll, or of the peer itself
 unfoldable pub session_note_of : Record → Option Note
+session_note_of (Deposit au blocks) = None
+session_note_of (PollOpened number au nonce inner tick limits kind) = None
+session_note_of (Nominated number voter nominees) = None
+session_note_of (OuterOpened number outer) = None
+session_note_of (VoteIn number voter hashes) = None
+session_note_of (Shut number) = None
+session_note_of (Asked number block voter) = None
+session_note_of (RepairBad number block voter) = None
+session_note_of (Replaced number au block bytes) = None
+session_note_of (Closed number outcome tick) = None
 session_note_of (Overdue au tick) = Some (note.Overdue au)
 session_note_of (Joined poll au tick low repairs) = Some (note.Joined poll au low)
 session_note_of (Committed poll nonce version kind) = Some (note.Committed poll version)
@@ -37,10 +47,10 @@ session_note_of (Voted poll hashes) = Some (note.Voted poll)
 session_note_of (Served poll block) = Some (note.Served poll block)
 session_note_of (Ended poll) = Some (note.Ended poll)
 session_note_of (Tuned quorum minority repairs) = Some (note.Tuned quorum minority repairs)
-session_note_of _ = None
 
--- the note of a record, in a journal that has it
+-- the note of a record, in a journal that has it; a deposit has none
 unfoldable pub note_of : List Record → Record → Option Note
+note_of journal (Deposit au blocks) = None
 note_of journal (PollOpened number au nonce inner tick limits kind) = Some (note.Opened number au)
 note_of journal (Nominated number voter nominees) = Some (note.Nominated number voter)
 note_of journal (OuterOpened number outer) = Some (note.Outer number (reported (length outer)))
@@ -50,7 +60,13 @@ note_of journal (Asked number block voter) = Some (note.Asked number block voter
 note_of journal (RepairBad number block voter) = Some (note.RepairBad number block voter)
 note_of journal (Replaced number au block bytes) = Some (note.Replaced number au block (reported (length bytes)))
 note_of journal (Closed number outcome tick) = Some (note.Closed number outcome)
-note_of journal r = session_note_of r
+note_of journal (Overdue au tick) = session_note_of (Overdue au tick)
+note_of journal (Joined poll au tick low repairs) = session_note_of (Joined poll au tick low repairs)
+note_of journal (Committed poll nonce version kind) = session_note_of (Committed poll nonce version kind)
+note_of journal (Voted poll hashes) = session_note_of (Voted poll hashes)
+note_of journal (Served poll block) = session_note_of (Served poll block)
+note_of journal (Ended poll) = session_note_of (Ended poll)
+note_of journal (Tuned quorum minority repairs) = session_note_of (Tuned quorum minority repairs)
 
 abbrev pub notes_at : Option Standing → List Record → List Note
 notes_at None added = []
@@ -71,8 +87,17 @@ receiver_of (Some e) = e.to
 
 -- the envelope that a step delivers
 abbrev pub carried : List Envelope → PeerStep → Option Envelope
+carried bag (OpenPoll peer au) = None
+carried bag (Widen peer number) = None
+carried bag (Shutting peer number) = None
+carried bag (Tally peer number) = None
+carried bag (Nudge peer number) = None
+carried bag (GiveUp peer number) = None
+carried bag (Work peer poll) = None
+carried bag (Expire peer poll) = None
+carried bag (Check peer) = None
+carried bag (Tune peer quorum minority repairs) = None
 carried bag (Deliver envelope judged) = slice_get bag envelope
-carried bag _ = None
 
 abbrev pub entry_for : Event → Option Envelope → List Note → ℕ → Entry
 entry_for event envelope notes sends = record { event = event; from = sender_of envelope; to = receiver_of envelope; notes = notes; sends = sends }
@@ -81,7 +106,9 @@ unfoldable pub entry_of : World → Event → Entry
 entry_of w (Step s) = entry_for (Step s) (carried w.bag s) (notes_of w.tick w.peers (deed_of w.bag s)) (length (effect_of w.tick w.peers (deed_of w.bag s)).sends)
 entry_of w (Cut s kept) = entry_for (Cut s kept) (carried w.bag s) (if kept then notes_of w.tick w.peers (deed_of w.bag s) else []) 0
 entry_of w (Forge from to bytes) = entry_for (Forge from to bytes) None [] 1
-entry_of w event = entry_for event None [] 0
+entry_of w (Tick by) = entry_for (Tick by) None [] 0
+entry_of w (Lose envelope) = entry_for (Lose envelope) None [] 0
+entry_of w (Crash peer) = entry_for (Crash peer) None [] 0
 
 abbrev pub entries_from : World → List Event → List Entry
 entries_from w [] = []

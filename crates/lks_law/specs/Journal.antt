@@ -3,9 +3,10 @@ use Rattle.std.specs.Prelude.{ℕ, Bool, true, false, ◌==◌, ◌-◌, ◌&&�
 use Rattle.std.specs.List.{list_any, filter_map}
 use Rattle.lks_base.specs.declared.names.HashKind.{HashKind}
 use Rattle.lks_base.specs.declared.names.Limits.{Limits}
-use Rattle.lks_base.specs.declared.names.Outcome.TheVariants.{Agreed}
+use Rattle.lks_base.specs.declared.names.Numbers.{Numbers}
+use Rattle.lks_base.specs.declared.names.Outcome.TheVariants.{Agreed, Inquorate, Split, NoSupplier}
 use Rattle.lks_base.specs.declared.records.Record.{Record}
-use Rattle.lks_base.specs.declared.records.Record.TheVariants.{Deposit, PollOpened, Nominated, OuterOpened, VoteIn, Shut, Asked, RepairBad, Replaced, Closed, Overdue, Tuned}
+use Rattle.lks_base.specs.declared.records.Record.TheVariants.{Deposit, PollOpened, Nominated, OuterOpened, VoteIn, Shut, Asked, RepairBad, Replaced, Closed, Overdue, Joined, Committed, Voted, Served, Ended, Tuned}
 use Rattle.lks_tally.specs.declared.ballots.Vote.{Vote}
 
 -- what a poll keeps from its opening
@@ -94,19 +95,70 @@ asks_any n _ = false
 abbrev pub waiting_after : ℕ → List Request → Record → List Request
 waiting_after n before (Asked number block voter) = if number == n then before ++ record { block = block; voter = voter } ∷ [] else before
 waiting_after n before (RepairBad number block voter) = if number == n then [] else before
-waiting_after n before (Replaced number au block bytes) = if number == n then [] else before
-waiting_after n before _ = before
+waiting_after n before (Replaced number a block bytes) = if number == n then [] else before
+waiting_after n before (Deposit a blocks) = before
+waiting_after n before (PollOpened number a nonce inner tick limits kind) = before
+waiting_after n before (Nominated number voter nominees) = before
+waiting_after n before (OuterOpened number outer) = before
+waiting_after n before (VoteIn number voter hashes) = before
+waiting_after n before (Shut number) = before
+waiting_after n before (Closed number outcome tick) = before
+waiting_after n before (Overdue a tick) = before
+waiting_after n before (Joined poll a tick low repairs) = before
+waiting_after n before (Committed poll nonce version kind) = before
+waiting_after n before (Voted poll hashes) = before
+waiting_after n before (Served poll block) = before
+waiting_after n before (Ended poll) = before
+waiting_after n before (Tuned quorum minority repairs) = before
 
 -- the request of poll n that is unanswered after a record, given the one before it
 abbrev pub unanswered_after : ℕ → Option Request → Record → Option Request
 unanswered_after n before (Asked number block voter) = if number == n then Some (record { block = block; voter = voter }) else before
 unanswered_after n before (RepairBad number block voter) = if number == n then None else before
-unanswered_after n before (Replaced number au block bytes) = if number == n then None else before
-unanswered_after n before _ = before
+unanswered_after n before (Replaced number a block bytes) = if number == n then None else before
+unanswered_after n before (Deposit a blocks) = before
+unanswered_after n before (PollOpened number a nonce inner tick limits kind) = before
+unanswered_after n before (Nominated number voter nominees) = before
+unanswered_after n before (OuterOpened number outer) = before
+unanswered_after n before (VoteIn number voter hashes) = before
+unanswered_after n before (Shut number) = before
+unanswered_after n before (Closed number outcome tick) = before
+unanswered_after n before (Overdue a tick) = before
+unanswered_after n before (Joined poll a tick low repairs) = before
+unanswered_after n before (Committed poll nonce version kind) = before
+unanswered_after n before (Voted poll hashes) = before
+unanswered_after n before (Served poll block) = before
+unanswered_after n before (Ended poll) = before
+unanswered_after n before (Tuned quorum minority repairs) = before
 
-abbrev pub limits_after : Limits → Record → Limits
-limits_after before (Tuned quorum minority repairs) = record { quorum = quorum; minority = minority }
-limits_after before _ = before
+-- the numbers in force after a record, given those before it
+abbrev pub numbers_after : Numbers → Record → Numbers
+numbers_after before (Tuned quorum minority repairs) = record { quorum = quorum; minority = minority; repairs = repairs }
+numbers_after before (Deposit a blocks) = before
+numbers_after before (PollOpened number a nonce inner tick limits kind) = before
+numbers_after before (Nominated number voter nominees) = before
+numbers_after before (OuterOpened number outer) = before
+numbers_after before (VoteIn number voter hashes) = before
+numbers_after before (Shut number) = before
+numbers_after before (Asked number block voter) = before
+numbers_after before (RepairBad number block voter) = before
+numbers_after before (Replaced number a block bytes) = before
+numbers_after before (Closed number outcome tick) = before
+numbers_after before (Overdue a tick) = before
+numbers_after before (Joined poll a tick low repairs) = before
+numbers_after before (Committed poll nonce version kind) = before
+numbers_after before (Voted poll hashes) = before
+numbers_after before (Served poll block) = before
+numbers_after before (Ended poll) = before
+
+abbrev pub is_tuning : Record → Bool
+is_tuning (Tuned quorum minority repairs) = true
+is_tuning _ = false
+
+-- the number of the poll that the record opens
+abbrev pub opened_in : Record → Option ℕ
+opened_in (PollOpened number au nonce inner tick limits kind) = Some number
+opened_in _ = None
 
 -- AUs and their contents.
 
@@ -190,9 +242,16 @@ unanswered_from n before (r ∷ rs) = unanswered_from n (unanswered_after n befo
 unfoldable pub unanswered : ℕ → List Record → Option Request
 unanswered n journal = unanswered_from n None journal
 
-abbrev pub limits_from : Limits → List Record → Limits
-limits_from before [] = before
-limits_from before (r ∷ rs) = limits_from (limits_after before r) rs
+abbrev pub numbers_from : Numbers → List Record → Numbers
+numbers_from before [] = before
+numbers_from before (r ∷ rs) = numbers_from (numbers_after before r) rs
+
+unfoldable pub was_tuned : List Record → Bool
+was_tuned journal = list_any is_tuning journal
+
+-- the numbers of the polls, in the order in which they were opened
+unfoldable pub opened_numbers : List Record → List ℕ
+opened_numbers journal = filter_map opened_in journal
 
 -- the nominations of poll n, in order
 unfoldable pub nominations : ℕ → List Record → List (List ℕ)
@@ -213,8 +272,25 @@ is_of_au au (Some o) = o.au == au
 unfoldable pub audit_after : ℕ → List Record → Audit → Record → Audit
 audit_after au journal before (Closed number Agreed tick) =
     if is_of_au au (opening_of number journal) then record { tick = tick; noted = false } else before
+audit_after au journal before (Closed number Inquorate tick) = before
+audit_after au journal before (Closed number (Split block) tick) = before
+audit_after au journal before (Closed number (NoSupplier block) tick) = before
 audit_after au journal before (Overdue a tick) = if a == au then record { tick = before.tick; noted = true } else before
-audit_after au journal before _ = before
+audit_after au journal before (Deposit a blocks) = before
+audit_after au journal before (PollOpened number a nonce inner tick limits kind) = before
+audit_after au journal before (Nominated number voter nominees) = before
+audit_after au journal before (OuterOpened number outer) = before
+audit_after au journal before (VoteIn number voter hashes) = before
+audit_after au journal before (Shut number) = before
+audit_after au journal before (Asked number block voter) = before
+audit_after au journal before (RepairBad number block voter) = before
+audit_after au journal before (Replaced number a block bytes) = before
+audit_after au journal before (Joined poll a tick low repairs) = before
+audit_after au journal before (Committed poll nonce version kind) = before
+audit_after au journal before (Voted poll hashes) = before
+audit_after au journal before (Served poll block) = before
+audit_after au journal before (Ended poll) = before
+audit_after au journal before (Tuned quorum minority repairs) = before
 
 abbrev pub audit_from : ℕ → List Record → Audit → List Record → Audit
 audit_from au journal before [] = before

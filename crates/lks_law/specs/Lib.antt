@@ -1,10 +1,14 @@
+pub mod Alarms
 pub mod Batches
+pub mod Broken
 pub mod Circles
 pub mod Due
 pub mod Entries
 pub mod Facts
+pub mod Histories
 pub mod Journal
 pub mod Polls
+pub mod Questions
 pub mod Reaction
 pub mod References
 pub mod Safe

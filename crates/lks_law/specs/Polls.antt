@@ -1,18 +1,20 @@
 -- The votes of a peer's own polls, and their verdicts.
-use Rattle.std.specs.Prelude.{ℕ, Bool, true, false, ◌||◌, Option, unwrap_or, List, length, filter, find, not, slice_set}
+use Rattle.std.specs.Prelude.{ℕ, Bool, true, false, Option, unwrap_or, List, length, filter, find, not, slice_set}
 use Rattle.std.specs.List.{filter_map}
 use Rattle.lks_base.specs.Checking.{has_member}
 use Rattle.lks_base.specs.declared.names.HashKind.{HashKind}
 use Rattle.lks_base.specs.declared.names.Limits.{Limits}
+use Rattle.lks_base.specs.declared.names.Numbers.{Numbers}
 use Rattle.lks_base.specs.declared.plans.AuPlan.{AuPlan}
 use Rattle.lks_base.specs.declared.plans.Rules.{Rules}
 use Rattle.lks_base.specs.declared.records.Record.{Record}
-use Rattle.lks_law.specs.Journal.{Opening, vote_in, outer_of, contents_of, was_asked, limits_from}
+use Rattle.lks_law.specs.Journal.{Opening, vote_in, outer_of, contents_of, was_asked, numbers_from}
 use Rattle.lks_tally.specs.declared.ballots.At.{At}
 use Rattle.lks_tally.specs.declared.ballots.At.TheVariants.{Win, Loss, Split}
 use Rattle.lks_tally.specs.declared.ballots.Ballot.{Ballot}
 use Rattle.lks_tally.specs.declared.ballots.Verdict.{Verdict}
 use Rattle.lks_tally.specs.declared.ballots.Vote.{Vote}
+use Rattle.lks_tally.specs.PollRules as poll
 use Rattle.lks_tally.specs.Counting.{verdict_at, verdict_on, voters_against}
 
 -- what a peer goes by: the rules, the AUs in the plan's order, and its own part of the plan
@@ -26,9 +28,15 @@ pub record Station : Type 0 where
   pub friends : List ℕ
   pub hash : HashKind
 
--- the numbers with which a poll begins: the rules', or those of the last tuning
-unfoldable pub limits_in_force : Rules → List Record → Limits
-limits_in_force rules journal = limits_from (record { quorum = rules.quorum; minority = rules.minority }) journal
+-- the numbers in force: the rules', or those of the last tuning
+unfoldable pub numbers_in_force : Rules → List Record → Numbers
+numbers_in_force rules journal = numbers_from (record { quorum = rules.quorum; minority = rules.minority; repairs = rules.repairs }) journal
+
+-- those with which a poll begins
+abbrev pub limits_in_force : Rules → List Record → Limits
+limits_in_force rules journal =
+    let numbers = numbers_in_force rules journal in
+    record { quorum = numbers.quorum; minority = numbers.minority }
 
 -- the numbers that a poll keeps, or the rules' where it keeps none
 abbrev pub limits_of : Rules → Opening → Limits
@@ -44,7 +52,7 @@ inner_votes n inner journal = filter (λ v. has_member inner v.voter) (votes n j
 
 -- whether the peer was invited to poll n: the inner circle, then the outer one
 unfoldable pub is_invited : ℕ → ℕ → List ℕ → List Record → Bool
-is_invited v n inner journal = has_member inner v || has_member (outer_of n journal) v
+is_invited v n inner journal = poll.is_invited inner (outer_of n journal) v
 
 -- what the votes of poll n are about
 abbrev pub ballot_of : Station → ℕ → Opening → ℕ → Ballot

@@ -6,7 +6,7 @@ use Rattle.lks_base.specs.Checking.{has_member}
 use Rattle.lks_base.specs.declared.messages.Message.{Message}
 use Rattle.lks_base.specs.declared.messages.Message.TheVariants as message
 use Rattle.lks_base.specs.declared.names.Judged.{Judged}
-use Rattle.lks_base.specs.declared.names.Judged.TheVariants.{Accepted}
+use Rattle.lks_base.specs.declared.names.Judged.TheVariants.{NotAsked, Accepted, Refused}
 use Rattle.lks_base.specs.declared.names.Outcome.{Outcome}
 use Rattle.lks_base.specs.declared.names.Outcome.TheVariants as outcome
 use Rattle.lks_base.specs.declared.plans.AuPlan.{AuPlan}
@@ -21,6 +21,7 @@ use Rattle.lks_law.specs.Journal.{Opening, Request, deposit_of, contents_of, ope
 use Rattle.lks_law.specs.Polls.{Station, limits_in_force, limits_of, votes, inner_votes, is_invited, verdict_in, candidate, restores}
 use Rattle.lks_law.specs.References.{inner_circle, outer_circle}
 use Rattle.lks_message.specs.Spelling.{spelling}
+use Rattle.lks_tally.specs.PollRules as poll
 use Rattle.lks_tally.specs.declared.ballots.Verdict.{Verdict}
 use Rattle.lks_tally.specs.declared.ballots.Verdict.TheVariants as verdict
 
@@ -64,7 +65,7 @@ widened own journal n opening =
 
 unfoldable pub on_widen : Station → List Record → ℕ → Reaction
 on_widen own journal n =
-    if is_voting n journal && not (is_widened n journal) then for_opening (opening_of n journal) (widened own journal n) else nothing
+    if poll.may_widen (is_voting n journal) (is_widened n journal) then for_opening (opening_of n journal) (widened own journal n) else nothing
 
 -- A reminder. While votes are open, each invited peer that hasn't voted is invited again; a request that is unanswered
 -- is sent again.
@@ -99,7 +100,7 @@ receipts n journal = map (λ v. letter (message.Receipt n) v.voter) (votes n jou
 -- Voting ends. A poll with fewer inner votes than its quorum is closed at once.
 
 unfoldable pub is_inquorate : Station → ℕ → Opening → List Record → Bool
-is_inquorate own n opening journal = nat_lt (length (inner_votes n opening.inner journal)) (limits_of own.rules opening).quorum
+is_inquorate own n opening journal = poll.is_inquorate (length (inner_votes n opening.inner journal)) (limits_of own.rules opening).quorum
 
 abbrev pub shut_inquorate : List Record → ℕ → ℕ → Reaction
 shut_inquorate journal tick n =
@@ -170,7 +171,7 @@ on_challenge own journal from n agrees =
 -- Each inner peer nominates once, until the outer circle is invited.
 
 unfoldable pub may_nominate : List Record → ℕ → ℕ → Opening → Bool
-may_nominate journal from n opening = has_member opening.inner from && not (has_nominated n from journal)
+may_nominate journal from n opening = poll.may_nominate (has_member opening.inner from) (has_nominated n from journal)
 
 abbrev pub nominated : List Record → ℕ → ℕ → List ℕ → Opening → Reaction
 nominated journal from n nominees opening =
@@ -178,7 +179,7 @@ nominated journal from n nominees opening =
 
 unfoldable pub on_nominate : List Record → ℕ → ℕ → List ℕ → Reaction
 on_nominate journal from n nominees =
-    if is_voting n journal && not (is_widened n journal)
+    if poll.may_widen (is_voting n journal) (is_widened n journal)
     then for_opening (opening_of n journal) (nominated journal from n nominees)
     else nothing
 
@@ -186,11 +187,12 @@ on_nominate journal from n nominees =
 
 abbrev pub is_accepted : Judged → Bool
 is_accepted Accepted = true
-is_accepted _ = false
+is_accepted Refused = false
+is_accepted NotAsked = false
 
 unfoldable pub may_vote : List Record → ℕ → ℕ → ℕ → Opening → Bool
 may_vote journal from n hashes opening =
-    is_invited from n opening.inner journal && not (has_voted n from journal) && (hashes == length (contents_of opening.au journal))
+    poll.may_vote (is_invited from n opening.inner journal) (has_voted n from journal) hashes (length (contents_of opening.au journal))
 
 abbrev pub counted : List Record → ℕ → ℕ → List (List ℕ) → Opening → Reaction
 counted journal from n hashes opening =
@@ -220,12 +222,16 @@ unfoldable pub on_repair : Station → List Record → ℕ → ℕ → ℕ → L
 on_repair own journal from n b bytes =
     if may_repair journal from n b then for_opening (opening_of n journal) (repaired own journal from n b bytes) else nothing
 
+-- A poller's messages find nobody yet who votes.
 abbrev pub on_message : Station → List Record → ℕ → Message → Judged → Reaction
+on_message own journal from (message.Poll n au) judged = nothing
 on_message own journal from (message.PollChallenge n agrees) judged = on_challenge own journal from n agrees
+on_message own journal from (message.PollProof n nonce kind proof) judged = nothing
 on_message own journal from (message.Nominate n nominees) judged = on_nominate journal from n nominees
 on_message own journal from (message.Vote n hashes proof) judged = on_vote journal from n hashes judged
+on_message own journal from (message.RepairRequest n b) judged = nothing
 on_message own journal from (message.Repair n b bytes) judged = on_repair own journal from n b bytes
-on_message own journal from _ judged = nothing
+on_message own journal from (message.Receipt n) judged = nothing
 
 -- what a peer with this journal adds and sends at this tick
 unfoldable pub reaction : Station → List Record → ℕ → Input → Reaction
@@ -235,6 +241,8 @@ reaction own journal tick (input.Shut n) = on_shut own journal tick n
 reaction own journal tick (input.Tally n) = on_tally own journal tick n
 reaction own journal tick (input.Nudge n) = on_nudge journal n
 reaction own journal tick (input.GiveUp n) = on_give_up journal n
+reaction own journal tick (input.Work poll) = nothing
+reaction own journal tick (input.Expire poll) = nothing
 reaction own journal tick input.Check = on_check own journal tick
+reaction own journal tick (input.Tune quorum minority repairs) = nothing
 reaction own journal tick (input.Got from m judged) = on_message own journal from m judged
-reaction own journal tick _ = nothing

@@ -1,5 +1,5 @@
 -- What stands behind each replaced block.
-use Rattle.std.specs.Prelude.{◌≡◌, ◌≢◌, ◌≤◌, ℕ, Some, true, List, length, take, AllPairs, slice_get, slice_set}
+use Rattle.std.specs.Prelude.{◌≡◌, ◌≤◌, ℕ, Some, true, List, length, take, slice_get, slice_set}
 use Rattle.lks_base.specs.declared.events.Event.{Event}
 use Rattle.lks_base.specs.declared.plans.Plan.{Plan}
 use Rattle.lks_base.specs.declared.records.Record.{Record}
@@ -7,12 +7,8 @@ use Rattle.lks_base.specs.declared.records.Record.TheVariants.{Replaced}
 use Rattle.lks_law.specs.Journal.{Opening, contents_of, opening_of, is_shut}
 use Rattle.lks_law.specs.Polls.{Station, limits_of, inner_votes, ballot_of}
 use Rattle.lks_law.specs.World.{Standing, world}
-use Rattle.lks_tally.specs.declared.ballots.Vote.{Vote}
 use Rattle.lks_tally.specs.Counting.{for_at, against_at}
-
--- no two votes are of one voter
-abbrev pub AreDistinct : List Vote → Type 0
-AreDistinct votes = AllPairs (λ v w. v.voter ≢ w.voter) votes
+use Rattle.lks_tally.specs.Distinct.{AreDistinct}
 
 -- The evidence for new bytes of a block, in the journal before they were put there: of one poll on the AU, whose voting
 -- had ended, at least a quorum of distinct invited inner peers voted, at most a minority of these votes is for the old

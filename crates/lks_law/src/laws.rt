@@ -1,18 +1,25 @@
 //! Laws on every history of every plan.
 
-ghost use Rattle.std.specs.Prelude.{◌≡◌, ◌≢◌, ℕ, true, Some, None, List, map, slice_get};
+ghost use Rattle.std.specs.Prelude.{◌≡◌, ◌≢◌, ◌<◌, ◌++◌, ◌∷◌, [], ℕ, true, Some, None, List, length, map, slice_get};
 ghost use Rattle.lks_base.specs.Checking.{plan_fault};
 ghost use Rattle.lks_base.specs.declared.entries.Entry.{Entry};
+ghost use Rattle.lks_base.specs.declared.events.Due.{Due};
 ghost use Rattle.lks_base.specs.declared.events.Event.{Event};
+ghost use Rattle.lks_base.specs.declared.limits.TheConstants.{MOST_EVENTS};
 ghost use Rattle.lks_base.specs.declared.plans.Plan.{Plan};
+ghost use Rattle.lks_law.specs.Alarms.{alarms_by, alarms};
 ghost use Rattle.lks_law.specs.Batches.{together, journal_at, batches_at};
+ghost use Rattle.lks_law.specs.Broken.{with_one_vote, with_one_voter, with_later_votes, with_no_envelope};
 ghost use Rattle.lks_law.specs.Circles.{Samples};
+ghost use Rattle.lks_law.specs.Due.{next_to_finish};
 ghost use Rattle.lks_law.specs.Entries.{entries};
 ghost use Rattle.lks_law.specs.Facts.{HaveJournals, HasPolls};
+ghost use Rattle.lks_law.specs.Histories.{MayHappen, IsHistory};
 ghost use Rattle.lks_law.specs.Journal.{Opening, opening_of};
-ghost use Rattle.lks_law.specs.Polls.{verdict_in};
+ghost use Rattle.lks_law.specs.Polls.{Station, verdict_in};
+ghost use Rattle.lks_law.specs.Questions.{Verdicts, asked_by, questions, event_of};
 ghost use Rattle.lks_law.specs.Reaction.{may_tally};
-ghost use Rattle.lks_law.specs.Safe.{Safe};
+ghost use Rattle.lks_law.specs.Safe.{HasEvidence, Safe};
 ghost use Rattle.lks_law.specs.World.{Standing, world};
 ghost use Rattle.lks_tally.specs.declared.ballots.Verdict.{Verdict};
 
@@ -21,8 +28,8 @@ pub fn every_event_has_its_entry()
     ensures { (plan : Plan) (history : List Event) → map (λ (e : Entry). e.event) (entries plan history) ≡ history }
 {}
 
-/// The honest peers of a world are those of its plan, and each has a journal of its own: its deposits, and then
-/// what the rules add for what it did and was told, at ticks that don't fall.
+/// The honest peers of a world are those of its plan, as many and in its order, and each has a journal of its own: its
+/// deposits, and then what the rules add for what it did and was told, at ticks that don't fall.
 pub fn every_journal_is_its_peers_own()
     ensures { (plan : Plan) (history : List Event) → HaveJournals plan (world plan history) }
 {}
@@ -39,7 +46,7 @@ pub fn every_circle_is_a_sample()
     ensures { (plan : Plan) → plan_fault plan ≡ None → (history : List Event) (place : ℕ) (s : Standing) → slice_get (world plan history).peers place ≡ Some s → Samples s }
 {}
 
-/// At most one poll of an honest peer runs on an AU. A poll that runs and is shut has its quorum, and so has each
+/// The polls of an honest peer are numbered from 1 on, each is opened once, and at most one runs on an AU. A poll that runs and is shut has its quorum, and so has each
 /// that asked for a repair. It waits for one repair at most, and its votes still say that this block is lost.
 pub fn every_poll_keeps_its_state()
     ensures { (plan : Plan) (history : List Event) (place : ℕ) (s : Standing) → slice_get (world plan history).peers place ≡ Some s → HasPolls s.own s.journal }
@@ -49,6 +56,32 @@ pub fn every_poll_keeps_its_state()
 pub fn every_tally_has_its_quorum()
     ensures { (plan : Plan) (history : List Event) (place : ℕ) (s : Standing) → slice_get (world plan history).peers place ≡ Some s
         → (n : ℕ) (opening : Opening) → may_tally n s.journal ≡ true → opening_of n s.journal ≡ Some opening → verdict_in s.own n opening s.journal ≢ Verdict.Inquorate }
+{}
+
+/// A history goes on by each event that may happen in its world, while it has fewer than 4,096.
+pub fn every_history_goes_on()
+    ensures none { (plan : Plan) → IsHistory plan [] }
+    ensures more { (plan : Plan) (history : List Event) (e : Event) → IsHistory plan history → length history < MOST_EVENTS → MayHappen plan (world plan history) e → IsHistory plan (history ++ e ∷ []) }
+{}
+
+/// What is due in the world of a history may happen there, whatever the judge says.
+pub fn whatever_is_due_may_happen()
+    ensures { (verdict : Verdicts) (plan : Plan) (history : List Event) (d : Due) → next_to_finish plan history ≡ Some d → MayHappen plan (world plan history) (event_of verdict plan history d) }
+{}
+
+/// What an event asks and what it raises comes behind the questions and the alarms of the events before it.
+pub fn every_event_asks_and_raises_its_own()
+    ensures asks { (plan : Plan) (history : List Event) (e : Event) → questions plan (history ++ e ∷ []) ≡ questions plan history ++ asked_by (world plan history) e }
+    ensures raises { (plan : Plan) (history : List Event) (e : Event) → alarms plan (history ++ e ∷ []) ≡ alarms plan history ++ alarms_by (world plan history) e }
+{}
+
+/// The definitions can be broken: a block that was replaced with a vote too few, by one voter's two votes, or before the
+/// votes came has no evidence, and a list in which an envelope comes that nobody sent is no history.
+pub fn rules_can_be_broken()
+    ensures few { (own : Station) (au b : ℕ) (bytes : List ℕ) → HasEvidence own (with_one_vote au b bytes) → ⊥ }
+    ensures twice { (own : Station) (au b : ℕ) (bytes : List ℕ) → HasEvidence own (with_one_voter au b bytes) → ⊥ }
+    ensures later { (own : Station) (au b : ℕ) (bytes : List ℕ) → HasEvidence own (with_later_votes au b bytes) → ⊥ }
+    ensures unsent { (plan : Plan) → IsHistory plan with_no_envelope → ⊥ }
 {}
 
 /// Each replaced block of each honest peer's journal has its evidence: at least a quorum of votes by distinct

@@ -8,7 +8,8 @@
 mod laws;
 
 pub use laws::{
-    every_circle_is_a_sample, every_event_has_its_entry, every_journal_is_its_batches,
-    every_journal_is_its_peers_own, every_poll_keeps_its_state, every_replacement_has_evidence,
-    every_tally_has_its_quorum,
+    every_circle_is_a_sample, every_event_asks_and_raises_its_own, every_event_has_its_entry,
+    every_history_goes_on, every_journal_is_its_batches, every_journal_is_its_peers_own,
+    every_poll_keeps_its_state, every_replacement_has_evidence, every_tally_has_its_quorum,
+    rules_can_be_broken, whatever_is_due_may_happen,
 };

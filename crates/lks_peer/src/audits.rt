@@ -6,7 +6,7 @@ ghost use Rattle.lks_law.specs.Reaction.{must_note, on_check};
 
 use crate::journals::{find_deposit, find_opening};
 use crate::reactions::no_sends;
-use crate::stations::Own;
+use crate::stations::Station;
 use lks_base::{AuId, OutOfMemory, Outcome, Reaction, Record, Seq};
 use std::alloc::Global;
 use std::marker::Model;
@@ -50,7 +50,23 @@ fn follow(journal: &[Record], au: AuId, before: Audit, r: &Record) -> Audit
             tick: before.tick,
             noted: true,
         },
-        _ => before,
+        Record::Deposit { .. }
+        | Record::PollOpened { .. }
+        | Record::Nominated { .. }
+        | Record::OuterOpened { .. }
+        | Record::VoteIn { .. }
+        | Record::Shut { .. }
+        | Record::Asked { .. }
+        | Record::RepairBad { .. }
+        | Record::Replaced { .. }
+        | Record::Closed { .. }
+        | Record::Overdue { .. }
+        | Record::Joined { .. }
+        | Record::Committed { .. }
+        | Record::Voted { .. }
+        | Record::Served { .. }
+        | Record::Ended { .. }
+        | Record::Tuned { .. } => before,
     }
 }
 
@@ -69,7 +85,7 @@ fn find_audit(journal: &[Record], au: AuId) -> Audit
 }
 
 #[tactic(auto, unfolding(lks_law::specs::Journal::is_overdue))]
-fn overdue(journal: &[Record], au: AuId, now: u32, most: u32) -> bool
+fn is_overdue(journal: &[Record], au: AuId, now: u32, most: u32) -> bool
     ensures { result ≡ is_overdue au now most journal.now }
 {
     let audit = find_audit(journal, au);
@@ -77,17 +93,17 @@ fn overdue(journal: &[Record], au: AuId, now: u32, most: u32) -> bool
 }
 
 #[tactic(auto, unfolding(lks_law::specs::Reaction::must_note))]
-fn must_be_noted(own: &Own, journal: &[Record], tick: u32, au: AuId) -> bool
+fn must_note(own: &Station, journal: &[Record], tick: u32, au: AuId) -> bool
     ensures { result ≡ must_note own.now journal.now tick au }
 {
-    find_deposit(journal, au).is_some() && overdue(journal, au, tick, own.rules.overdue)
+    find_deposit(journal, au).is_some() && is_overdue(journal, au, tick, own.rules.overdue)
 }
 
 /// A note of each held AU that is overdue, in the plan's order of AUs.
 #[tactic(auto, unfolding(lks_law::specs::Reaction::on_check))]
 pub fn check_aus(
     alloc: Global,
-    own: &Own,
+    own: &Station,
     journal: &[Record],
     tick: u32,
 ) -> Result<Reaction, OutOfMemory>
@@ -95,7 +111,7 @@ pub fn check_aus(
 {
     let mut records = Vec::new(alloc);
     for au in own.aus.as_slice() {
-        if must_be_noted(own, journal, tick, au.id) {
+        if must_note(own, journal, tick, au.id) {
             records.push(Record::Overdue { au: au.id, tick })?;
         }
     }

@@ -1,18 +1,18 @@
 //! What a peer adds to its journal and sends for each message that reaches it.
 
 ghost use Rattle.std.specs.Prelude.{◌≡◌, ◌≤◌, true, IfOk, length};
+ghost use Rattle.lks_base.specs.declared.limits.TheConstants.{MOST_PROOF_BYTES};
 ghost use Rattle.lks_law.specs.Reaction.{may_prove, proved, on_challenge, may_nominate, nominated, on_nominate, is_accepted, may_vote, counted, on_vote, repaired, on_repair, on_message};
 ghost use Rattle.lks_peer.specs.Small.{are_small};
 
 use crate::copies::count_blocks;
 use crate::journals::{
-    Opening, awaits_repair, find_opening, invites, nominated_already, takes_votes, voted_already,
-    widened_already,
+    Opening, find_opening, has_nominated, has_voted, is_invited, is_voting, is_widened, may_repair,
 };
 use crate::letters::write;
-use crate::polls::is_restored;
+use crate::polls::restores;
 use crate::reactions::{adding, no_reaction, no_sends, sending};
-use crate::stations::Own;
+use crate::stations::Station;
 use lks_base::{
     Bytes, Hashes, Ids, Judged, Message, OutOfMemory, PeerId, Reaction, Record, has_member,
 };
@@ -21,24 +21,24 @@ use std::alloc::Global;
 use std::sync::ledger::Ledger;
 
 #[tactic(auto, unfolding(lks_law::specs::Reaction::may_prove))]
-fn may_be_proved(journal: &[Record], from: PeerId, number: u32, opening: &Opening<'_>) -> bool
+fn may_prove(journal: &[Record], from: PeerId, number: u32, opening: &Opening<'_>) -> bool
     ensures { result ≡ may_prove journal.now from number opening.now }
 {
-    invites(journal, number, opening.inner, from) && !voted_already(journal, number, from)
+    is_invited(journal, number, opening.inner, from) && !has_voted(journal, number, from)
 }
 
 fn prove_with(
     alloc: Global,
-    own: &Own,
+    own: &Station,
     journal: &[Record],
     from: PeerId,
     number: u32,
     opening: &Opening<'_>,
 ) -> Result<Reaction, OutOfMemory>
-    requires { length own.now.proof ≤ 64 }
+    requires { length own.now.proof ≤ MOST_PROOF_BYTES }
     ensures { IfOk result (λ r. r ≡ proved own.now journal.now from number opening.now) }
 {
-    if !may_be_proved(journal, from, number, opening) {
+    if !may_prove(journal, from, number, opening) {
         return Ok(no_reaction(alloc));
     }
     let proof = own.proof.clone()?;
@@ -54,16 +54,16 @@ fn prove_with(
 #[tactic(auto, unfolding(lks_law::specs::Reaction::on_challenge))]
 fn take_challenge(
     alloc: Global,
-    own: &Own,
+    own: &Station,
     journal: &[Record],
     from: PeerId,
     number: u32,
     yes: bool,
 ) -> Result<Reaction, OutOfMemory>
-    requires { length own.now.proof ≤ 64 }
+    requires { length own.now.proof ≤ MOST_PROOF_BYTES }
     ensures { IfOk result (λ r. r ≡ on_challenge own.now journal.now from number yes) }
 {
-    if !(yes && takes_votes(journal, number)) {
+    if !(yes && is_voting(journal, number)) {
         return Ok(no_reaction(alloc));
     }
     match find_opening(journal, number) {
@@ -73,10 +73,10 @@ fn take_challenge(
 }
 
 #[tactic(auto, unfolding(lks_law::specs::Reaction::may_nominate))]
-fn may_be_nominated(journal: &[Record], from: PeerId, number: u32, opening: &Opening<'_>) -> bool
+fn may_nominate(journal: &[Record], from: PeerId, number: u32, opening: &Opening<'_>) -> bool
     ensures { result ≡ may_nominate journal.now from number opening.now }
 {
-    has_member(opening.inner, from) && !nominated_already(journal, number, from)
+    has_member(opening.inner, from) && !has_nominated(journal, number, from)
 }
 
 fn nominate_with(
@@ -89,7 +89,7 @@ fn nominate_with(
 ) -> Result<Reaction, OutOfMemory>
     ensures { IfOk result (λ r. r ≡ nominated journal.now from number nominees.now opening.now) }
 {
-    if !may_be_nominated(journal, from, number, opening) {
+    if !may_nominate(journal, from, number, opening) {
         return Ok(no_reaction(alloc));
     }
     let nominees = nominees.clone()?;
@@ -111,7 +111,7 @@ fn take_nomination(
 ) -> Result<Reaction, OutOfMemory>
     ensures { IfOk result (λ r. r ≡ on_nominate journal.now from number nominees.now) }
 {
-    if !(takes_votes(journal, number) && !widened_already(journal, number)) {
+    if !(is_voting(journal, number) && !is_widened(journal, number)) {
         return Ok(no_reaction(alloc));
     }
     match find_opening(journal, number) {
@@ -120,14 +120,14 @@ fn take_nomination(
     }
 }
 
-fn accepts(judged: Judged) -> bool
+fn is_accepted(judged: Judged) -> bool
     ensures { result ≡ is_accepted judged }
 {
     matches!(judged, Judged::Accepted)
 }
 
 #[tactic(auto, unfolding(lks_law::specs::Reaction::may_vote))]
-fn may_be_counted(
+fn may_vote(
     journal: &[Record],
     from: PeerId,
     number: u32,
@@ -136,8 +136,8 @@ fn may_be_counted(
 ) -> bool
     ensures { result ≡ may_vote journal.now from number hashes opening.now }
 {
-    invites(journal, number, opening.inner, from)
-        && !voted_already(journal, number, from)
+    is_invited(journal, number, opening.inner, from)
+        && !has_voted(journal, number, from)
         && hashes == count_blocks(journal, opening.au)
 }
 
@@ -152,7 +152,7 @@ fn count_with(
     ensures { IfOk result (λ r. r ≡ counted journal.now from number hashes.now opening.now) }
 {
     let count = hashes.as_slice().len();
-    if !may_be_counted(journal, from, number, count, opening) {
+    if !may_vote(journal, from, number, count, opening) {
         return Ok(no_reaction(alloc));
     }
     let hashes = hashes.clone()?;
@@ -175,7 +175,7 @@ fn take_vote(
 ) -> Result<Reaction, OutOfMemory>
     ensures { IfOk result (λ r. r ≡ on_vote journal.now from number hashes.now judged) }
 {
-    if !(accepts(judged) && takes_votes(journal, number)) {
+    if !(is_accepted(judged) && is_voting(journal, number)) {
         return Ok(no_reaction(alloc));
     }
     match find_opening(journal, number) {
@@ -186,7 +186,7 @@ fn take_vote(
 
 fn repair_with<L: Ledger>(
     alloc: Global,
-    own: &Own,
+    own: &Station,
     journal: &[Record],
     from: PeerId,
     number: u32,
@@ -198,7 +198,7 @@ fn repair_with<L: Ledger>(
     requires { are_small journal.now ≡ true }
     ensures { IfOk result (λ r. r ≡ repaired own.now journal.now from number block bytes.now opening.now) }
 {
-    if is_restored(alloc, own, number, opening, block, bytes, journal, steps)? {
+    if restores(alloc, own, number, opening, block, bytes, journal, steps)? {
         let bytes = bytes.clone()?;
         let item = Record::Replaced {
             number,
@@ -220,7 +220,7 @@ fn repair_with<L: Ledger>(
 #[tactic(auto, unfolding(lks_law::specs::Reaction::on_repair))]
 fn take_repair<L: Ledger>(
     alloc: Global,
-    own: &Own,
+    own: &Station,
     journal: &[Record],
     from: PeerId,
     number: u32,
@@ -231,7 +231,7 @@ fn take_repair<L: Ledger>(
     requires { are_small journal.now ≡ true }
     ensures { IfOk result (λ r. r ≡ on_repair own.now journal.now from number block bytes.now) }
 {
-    if !awaits_repair(journal, from, number, block) {
+    if !may_repair(journal, from, number, block) {
         return Ok(no_reaction(alloc));
     }
     match find_opening(journal, number) {
@@ -245,7 +245,7 @@ fn take_repair<L: Ledger>(
 /// What a peer adds and sends for a message.
 pub fn hear<L: Ledger>(
     alloc: Global,
-    own: &Own,
+    own: &Station,
     journal: &[Record],
     from: PeerId,
     message: &Message,
@@ -253,7 +253,7 @@ pub fn hear<L: Ledger>(
     steps: &mut Steps<L>,
 ) -> Result<Reaction, OutOfMemory>
     requires small { are_small journal.now ≡ true }
-    requires short { length own.now.proof ≤ 64 }
+    requires short { length own.now.proof ≤ MOST_PROOF_BYTES }
     ensures { IfOk result (λ r. r ≡ on_message own.now journal.now from message.now judged) }
 {
     match message {
@@ -271,6 +271,9 @@ pub fn hear<L: Ledger>(
             block,
             bytes,
         } => take_repair(alloc, own, journal, from, *number, *block, bytes, steps),
-        _ => Ok(no_reaction(alloc)),
+        Message::Poll { .. }
+        | Message::PollProof { .. }
+        | Message::RepairRequest { .. }
+        | Message::Receipt { .. } => Ok(no_reaction(alloc)),
     }
 }

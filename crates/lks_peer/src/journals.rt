@@ -3,11 +3,11 @@
 ghost use Rattle.std.specs.Prelude.{◌≡◌, ◌≤◌, length, option_map, count_by};
 ghost use Rattle.std.specs.List.{list_any};
 ghost use Rattle.lks_peer.specs.Requests.{asked_for};
-ghost use Rattle.lks_law.specs.Journal.{deposit_in, deposit_of, opening_in, opening_of, is_opening, openings, shuts, is_shut, closes, is_closed, is_running, is_voting, outer_in, outer_of, widens, is_widened, is_nominated_by, has_nominated, is_vote_of, has_voted, asks, was_asked, unanswered_after, unanswered, limits_after, opens_running, opens_open, opens_lately};
-ghost use Rattle.lks_law.specs.Polls.{limits_in_force, limits_of, is_invited};
+ghost use Rattle.lks_law.specs.Journal.{deposit_in, deposit_of, opening_in, opening_of, is_opening, openings, shuts, is_shut, closes, is_closed, is_running, is_voting, outer_in, outer_of, widens, is_widened, is_nominated_by, has_nominated, is_vote_of, has_voted, asks, was_asked, unanswered_after, unanswered, numbers_after, opens_running, opens_open, opens_lately};
+ghost use Rattle.lks_law.specs.Polls.{numbers_in_force, limits_in_force, limits_of, is_invited};
 ghost use Rattle.lks_law.specs.Reaction.{is_request, may_repair};
 
-use lks_base::{AuId, Bytes, HashKind, Limits, PeerId, Record, Rules, has_member};
+use lks_base::{AuId, Bytes, HashKind, Limits, Numbers, PeerId, Record, Rules, has_member};
 use std::marker::Model;
 
 /// What a poll keeps from its opening.
@@ -103,7 +103,7 @@ pub fn count_openings(journal: &[Record]) -> usize
 }
 
 #[tactic(auto, unfolding(lks_law::specs::Journal::is_shut))]
-pub fn shut_already(journal: &[Record], n: u32) -> bool
+pub fn is_shut(journal: &[Record], n: u32) -> bool
     ensures { result ≡ is_shut n journal.now }
 {
     journal
@@ -112,24 +112,24 @@ pub fn shut_already(journal: &[Record], n: u32) -> bool
 }
 
 #[tactic(auto, unfolding(lks_law::specs::Journal::is_closed))]
-pub fn closed_already(journal: &[Record], n: u32) -> bool
+pub fn is_closed(journal: &[Record], n: u32) -> bool
     ensures { result ≡ is_closed n journal.now }
 {
     journal.iter().any(|r| matches!(r, Record::Closed { number, .. } if *number == n))
 }
 
 #[tactic(auto, unfolding(lks_law::specs::Journal::is_running))]
-pub fn runs(journal: &[Record], n: u32) -> bool
+pub fn is_running(journal: &[Record], n: u32) -> bool
     ensures { result ≡ is_running n journal.now }
 {
-    find_opening(journal, n).is_some() && !closed_already(journal, n)
+    find_opening(journal, n).is_some() && !is_closed(journal, n)
 }
 
 #[tactic(auto, unfolding(lks_law::specs::Journal::is_voting))]
-pub fn takes_votes(journal: &[Record], n: u32) -> bool
+pub fn is_voting(journal: &[Record], n: u32) -> bool
     ensures { result ≡ is_voting n journal.now }
 {
-    runs(journal, n) && !shut_already(journal, n)
+    is_running(journal, n) && !is_shut(journal, n)
 }
 
 fn as_outer(r: &Record, n: u32) -> Option<&[u16]>
@@ -154,21 +154,21 @@ pub fn find_outer(journal: &[Record], n: u32) -> &[u16]
 }
 
 #[tactic(auto, unfolding(lks_law::specs::Polls::is_invited))]
-pub fn invites(journal: &[Record], n: u32, inner: &[u16], v: PeerId) -> bool
+pub fn is_invited(journal: &[Record], n: u32, inner: &[u16], v: PeerId) -> bool
     ensures { result ≡ is_invited v n inner.now journal.now }
 {
     has_member(inner, v) || has_member(find_outer(journal, n), v)
 }
 
 #[tactic(auto, unfolding(lks_law::specs::Journal::is_widened))]
-pub fn widened_already(journal: &[Record], n: u32) -> bool
+pub fn is_widened(journal: &[Record], n: u32) -> bool
     ensures { result ≡ is_widened n journal.now }
 {
     journal.iter().any(|r| matches!(r, Record::OuterOpened { number, .. } if *number == n))
 }
 
 #[tactic(auto, unfolding(lks_law::specs::Journal::has_nominated))]
-pub fn nominated_already(journal: &[Record], n: u32, v: PeerId) -> bool
+pub fn has_nominated(journal: &[Record], n: u32, v: PeerId) -> bool
     ensures { result ≡ has_nominated n v journal.now }
 {
     journal.iter().any(
@@ -177,7 +177,7 @@ pub fn nominated_already(journal: &[Record], n: u32, v: PeerId) -> bool
 }
 
 #[tactic(auto, unfolding(lks_law::specs::Journal::has_voted))]
-pub fn voted_already(journal: &[Record], n: u32, v: PeerId) -> bool
+pub fn has_voted(journal: &[Record], n: u32, v: PeerId) -> bool
     ensures { result ≡ has_voted n v journal.now }
 {
     journal.iter().any(
@@ -186,7 +186,7 @@ pub fn voted_already(journal: &[Record], n: u32, v: PeerId) -> bool
 }
 
 #[tactic(auto, unfolding(lks_law::specs::Journal::was_asked))]
-pub fn asked_already(journal: &[Record], n: u32, b: u16, v: PeerId) -> bool
+pub fn was_asked(journal: &[Record], n: u32, b: u16, v: PeerId) -> bool
     ensures { result ≡ was_asked n b v journal.now }
 {
     journal.iter().any(|r| {
@@ -209,7 +209,23 @@ fn request_after(before: Option<Request>, r: &Record, n: u32) -> Option<Request>
         }),
         Record::RepairBad { number, .. } if *number == n => None,
         Record::Replaced { number, .. } if *number == n => None,
-        _ => before,
+        Record::Deposit { .. }
+        | Record::PollOpened { .. }
+        | Record::Nominated { .. }
+        | Record::OuterOpened { .. }
+        | Record::VoteIn { .. }
+        | Record::Shut { .. }
+        | Record::Asked { .. }
+        | Record::RepairBad { .. }
+        | Record::Replaced { .. }
+        | Record::Closed { .. }
+        | Record::Overdue { .. }
+        | Record::Joined { .. }
+        | Record::Committed { .. }
+        | Record::Voted { .. }
+        | Record::Served { .. }
+        | Record::Ended { .. }
+        | Record::Tuned { .. } => before,
     }
 }
 
@@ -232,44 +248,71 @@ fn requests(request: Option<Request>, block: u16, voter: PeerId) -> bool
 
 /// Whether a repair of the block by this voter answers the request that the poll waits for.
 #[tactic(auto, unfolding(lks_law::specs::Reaction::may_repair))]
-pub fn awaits_repair(journal: &[Record], from: PeerId, n: u32, block: u16) -> bool
+pub fn may_repair(journal: &[Record], from: PeerId, n: u32, block: u16) -> bool
     ensures { result ≡ may_repair journal.now from n block }
 {
     requests(find_unanswered(journal, n), block, from)
 }
 
-fn tuned(before: Limits, r: &Record) -> Limits
-    ensures { result ≡ limits_after before r.now }
+fn numbers_after(before: Numbers, r: &Record) -> Numbers
+    ensures { result ≡ numbers_after before r.now }
 {
     match r {
         Record::Tuned {
             quorum,
             minority,
-            ..
-        } => Limits {
+            repairs,
+        } => Numbers {
             quorum: *quorum,
             minority: *minority,
+            repairs: *repairs,
         },
-        _ => before,
+        Record::Deposit { .. }
+        | Record::PollOpened { .. }
+        | Record::Nominated { .. }
+        | Record::OuterOpened { .. }
+        | Record::VoteIn { .. }
+        | Record::Shut { .. }
+        | Record::Asked { .. }
+        | Record::RepairBad { .. }
+        | Record::Replaced { .. }
+        | Record::Closed { .. }
+        | Record::Overdue { .. }
+        | Record::Joined { .. }
+        | Record::Committed { .. }
+        | Record::Voted { .. }
+        | Record::Served { .. }
+        | Record::Ended { .. } => before,
     }
 }
 
-#[tactic(auto, unfolding(lks_law::specs::Polls::limits_in_force))]
-pub fn current_limits(rules: &Rules, journal: &[Record]) -> Limits
-    ensures { result ≡ limits_in_force rules.now journal.now }
+#[tactic(auto, unfolding(lks_law::specs::Polls::numbers_in_force))]
+fn numbers_in_force(rules: &Rules, journal: &[Record]) -> Numbers
+    ensures { result ≡ numbers_in_force rules.now journal.now }
 {
-    let mut limits = Limits {
+    let mut numbers = Numbers {
         quorum: rules.quorum,
         minority: rules.minority,
+        repairs: rules.repairs,
     };
     for r in journal {
-        limits = tuned(limits, r);
+        numbers = numbers_after(numbers, r);
     }
-    limits
+    numbers
+}
+
+pub fn limits_in_force(rules: &Rules, journal: &[Record]) -> Limits
+    ensures { result ≡ limits_in_force rules.now journal.now }
+{
+    let numbers = numbers_in_force(rules, journal);
+    Limits {
+        quorum: numbers.quorum,
+        minority: numbers.minority,
+    }
 }
 
 /// The numbers that decide a poll with this opening.
-pub fn poll_limits(rules: &Rules, opening: &Opening<'_>) -> Limits
+pub fn limits_of(rules: &Rules, opening: &Opening<'_>) -> Limits
     ensures { result ≡ limits_of rules.now opening.now }
 {
     opening.limits.unwrap_or(Limits {
@@ -279,27 +322,27 @@ pub fn poll_limits(rules: &Rules, opening: &Opening<'_>) -> Limits
 }
 
 #[tactic(auto, unfolding(lks_law::specs::Journal::opens_running))]
-fn opened_running(journal: &[Record], au: AuId, r: &Record) -> bool
+fn opens_running(journal: &[Record], au: AuId, r: &Record) -> bool
     ensures { result ≡ opens_running au journal.now r.now }
 {
     match r {
-        Record::PollOpened { number, au: a, .. } => *a == au && !closed_already(journal, *number),
+        Record::PollOpened { number, au: a, .. } => *a == au && !is_closed(journal, *number),
         _ => false,
     }
 }
 
-pub fn audits(journal: &[Record], au: AuId) -> bool
+pub fn has_running(journal: &[Record], au: AuId) -> bool
     ensures { result ≡ list_any (opens_running au journal.now) journal.now }
 {
-    journal.iter().any(|r| opened_running(journal, au, r))
+    journal.iter().any(|r| opens_running(journal, au, r))
 }
 
 #[tactic(auto, unfolding(lks_law::specs::Journal::opens_open))]
-fn opened_open(journal: &[Record], r: &Record) -> bool
+fn opens_open(journal: &[Record], r: &Record) -> bool
     ensures { result ≡ opens_open journal.now r.now }
 {
     match r {
-        Record::PollOpened { number, .. } => !closed_already(journal, *number),
+        Record::PollOpened { number, .. } => !is_closed(journal, *number),
         _ => false,
     }
 }
@@ -307,11 +350,11 @@ fn opened_open(journal: &[Record], r: &Record) -> bool
 pub fn count_running(journal: &[Record]) -> usize
     ensures { result ≡ count_by (opens_open journal.now) journal.now }
 {
-    journal.iter().filter(|r| opened_open(journal, r)).count()
+    journal.iter().filter(|r| opens_open(journal, r)).count()
 }
 
 #[tactic(auto, unfolding(lks_law::specs::Journal::opens_lately))]
-fn opened_lately(r: &Record, au: AuId, now: u32, pace: u32) -> bool
+fn opens_lately(r: &Record, au: AuId, now: u32, pace: u32) -> bool
     ensures { result ≡ opens_lately au now pace r.now }
 {
     match r {
@@ -320,8 +363,8 @@ fn opened_lately(r: &Record, au: AuId, now: u32, pace: u32) -> bool
     }
 }
 
-pub fn audited_lately(journal: &[Record], au: AuId, now: u32, pace: u32) -> bool
+pub fn was_opened_lately(journal: &[Record], au: AuId, now: u32, pace: u32) -> bool
     ensures { result ≡ list_any (opens_lately au now pace) journal.now }
 {
-    journal.iter().any(|r| opened_lately(r, au, now, pace))
+    journal.iter().any(|r| opens_lately(r, au, now, pace))
 }

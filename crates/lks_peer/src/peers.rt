@@ -3,6 +3,7 @@
 ghost use Rattle.std.specs.Prelude.{◌≡◌, ◌≤◌, ◌++◌, IfOk, OnOk, OnErr, IsSome, None, true, length, filter, find, option_map, slice_get};
 ghost use Rattle.std.specs.List.{filter_map, range_with_len};
 ghost use Rattle.std.specs.Option.{option_copied};
+ghost use Rattle.lks_base.specs.declared.limits.TheConstants.{MOST_PROOF_BYTES};
 ghost use Rattle.lks_base.specs.Checking.{plan_fault};
 ghost use Rattle.lks_hash.specs.Counting.{Opens};
 ghost use Rattle.lks_law.specs.Due as due;
@@ -14,11 +15,11 @@ ghost use Rattle.lks_law.specs.World.{station_of, is_honest_at, honest_peer};
 ghost use Rattle.lks_peer.specs.Small.{are_small, most_records};
 
 use crate::journals::{
-    count_openings, find_opening, find_unanswered, runs, takes_votes, widened_already,
+    count_openings, find_opening, find_unanswered, is_running, is_voting, is_widened,
 };
 use crate::records::copy_all;
-use crate::stations::Own;
-use crate::steps::{may_be_tallied, react};
+use crate::stations::Station;
+use crate::steps::{may_tally, react};
 use lks_base::{
     Input, OutOfMemory, PeerId, PeerPlan, PeerStep, Plan, Reaction, Record, has_member,
 };
@@ -34,7 +35,7 @@ const MOST_RECORDS: usize = 1_000_000_000;
 #[derive(Drop)]
 pub struct Peer {
     alloc: Global,
-    own: Own,
+    own: Station,
     list: Vec<Record>,
 }
 
@@ -58,7 +59,7 @@ pub fn find_honest(peers: &[PeerPlan], id: PeerId) -> Option<&PeerPlan>
 
 fn step_counted<L: Ledger>(
     alloc: Global,
-    own: &Own,
+    own: &Station,
     journal: &[Record],
     tick: u32,
     input: &Input,
@@ -67,7 +68,7 @@ fn step_counted<L: Ledger>(
     requires opens { Opens blank L.name L.parts }
     requires small { are_small journal.now ≡ true }
     requires few { length journal.now ≤ most_records }
-    requires short { length own.now.proof ≤ 64 }
+    requires short { length own.now.proof ≤ MOST_PROOF_BYTES }
     ensures { IfOk result (λ r. r ≡ reaction own.now journal.now tick input.now) }
 {
     react(
@@ -82,14 +83,14 @@ fn step_counted<L: Ledger>(
 
 fn step_once(
     alloc: Global,
-    own: &Own,
+    own: &Station,
     journal: &[Record],
     tick: u32,
     input: &Input,
 ) -> Result<Reaction, OutOfMemory>
     requires small { are_small journal.now ≡ true }
     requires few { length journal.now ≤ most_records }
-    requires short { length own.now.proof ≤ 64 }
+    requires short { length own.now.proof ≤ MOST_PROOF_BYTES }
     ensures { IfOk result (λ r. r ≡ reaction own.now journal.now tick input.now) }
 {
     step_counted::<Brand>(alloc, own, journal, tick, input, Blank::new(1))
@@ -117,7 +118,7 @@ fn ready_number(journal: &[Record], k: u32) -> Option<u32>
 {
     let mut left = k;
     for n in 0..count_openings(journal) as u32 {
-        if may_be_tallied(journal, n + 1) {
+        if may_tally(journal, n + 1) {
             if left == 0 {
                 return Some(n + 1);
             }
@@ -145,15 +146,15 @@ fn turn_at(id: PeerId, number: u32, asked: bool, voting: bool, widened: bool) ->
 fn turn_of(id: PeerId, journal: &[Record], number: u32) -> Option<PeerStep>
     ensures { result ≡ due.turn_of id journal.now number }
 {
-    if !runs(journal, number) {
+    if !is_running(journal, number) {
         return None;
     }
     turn_at(
         id,
         number,
         find_unanswered(journal, number).is_some(),
-        takes_votes(journal, number),
-        widened_already(journal, number),
+        is_voting(journal, number),
+        is_widened(journal, number),
     )
 }
 
@@ -183,10 +184,10 @@ impl Peer {
         list: Vec<Record>,
     ) -> Result<Peer, OutOfMemory>
         requires small { are_small list.items ≡ true }
-        requires short { length planned.now.proof ≤ 64 }
+        requires short { length planned.now.proof ≤ MOST_PROOF_BYTES }
         ensures { IfOk result (λ peer. peer ≡ record { own = station_of plan.now planned.now; journal = list.items }) }
     {
-        let own = Own::new(alloc, plan, planned)?;
+        let own = Station::new(alloc, plan, planned)?;
         let mut journal = Vec::new(alloc);
         append(&mut journal, list)?;
         Ok(Peer {

@@ -10,8 +10,8 @@ ghost use Rattle.lks_peer.specs.Voters.{voter_in};
 ghost use Rattle.lks_peer.specs.Small.{are_small};
 
 use crate::copies::{copy_of, copy_with};
-use crate::journals::{Opening, asked_already, poll_limits};
-use crate::stations::Own;
+use crate::journals::{Opening, limits_of, was_asked};
+use crate::stations::Station;
 use lks_base::{Blocks, Bytes, Contents, OutOfMemory, PeerId, PollName, Record, has_member};
 use lks_hash::Steps;
 use lks_tally::{At, Ballot, Verdict, Vote, against_of, at_of, verdict_of};
@@ -111,9 +111,9 @@ pub fn outer_votes_of(
 
 /// Whether fewer inner votes came in than the poll's quorum.
 #[tactic(auto, unfolding(lks_law::specs::Reaction::is_inquorate))]
-pub fn lacks_quorum(
+pub fn is_inquorate(
     alloc: Global,
-    own: &Own,
+    own: &Station,
     n: u32,
     opening: &Opening<'_>,
     journal: &[Record],
@@ -121,10 +121,10 @@ pub fn lacks_quorum(
     ensures { IfOk result (λ r. r ≡ is_inquorate own.now n opening.now journal.now) }
 {
     let votes = inner_votes_of(alloc, journal, n, opening.inner)?;
-    Ok(votes.as_slice().len() < poll_limits(&own.rules, opening).quorum as usize)
+    Ok(votes.as_slice().len() < limits_of(&own.rules, opening).quorum as usize)
 }
 
-pub fn ballot(own: &Own, n: u32, opening: &Opening<'_>, count: u16) -> Ballot
+pub fn ballot(own: &Station, n: u32, opening: &Opening<'_>, count: u16) -> Ballot
     ensures { result ≡ ballot_of own.now n opening.now count }
 {
     Ballot {
@@ -141,9 +141,9 @@ pub fn ballot(own: &Own, n: u32, opening: &Opening<'_>, count: u16) -> Ballot
 
 /// The verdict of the poll's inner votes on the peer's copy.
 #[tactic(auto, unfolding(lks_law::specs::Polls::verdict_in), using(crate::proofs::FewBlocks::whole_copy))]
-pub fn judge<L: Ledger>(
+pub fn verdict_in<L: Ledger>(
     alloc: Global,
-    own: &Own,
+    own: &Station,
     n: u32,
     opening: &Opening<'_>,
     journal: &[Record],
@@ -157,7 +157,7 @@ pub fn judge<L: Ledger>(
     verdict_of(
         alloc,
         &ballot(own, n, opening, copy.count()),
-        poll_limits(&own.rules, opening),
+        limits_of(&own.rules, opening),
         &votes,
         &copy,
         steps,
@@ -168,7 +168,7 @@ pub fn judge<L: Ledger>(
 #[tactic(auto, unfolding(lks_law::specs::Polls::candidate), using(crate::proofs::FewBlocks::whole_copy))]
 pub fn find_candidate<L: Ledger>(
     alloc: Global,
-    own: &Own,
+    own: &Station,
     n: u32,
     opening: &Opening<'_>,
     b: u16,
@@ -201,7 +201,7 @@ fn wins(at: At) -> bool
 #[tactic(auto, unfolding(lks_law::specs::Polls::said_at))]
 fn say_at<L: Ledger>(
     alloc: Global,
-    own: &Own,
+    own: &Station,
     n: u32,
     opening: &Opening<'_>,
     blocks: &Blocks,
@@ -216,7 +216,7 @@ fn say_at<L: Ledger>(
     at_of(
         alloc,
         &ballot(own, n, opening, blocks.count()),
-        poll_limits(&own.rules, opening).minority,
+        limits_of(&own.rules, opening).minority,
         &votes,
         blocks,
         b,
@@ -226,9 +226,9 @@ fn say_at<L: Ledger>(
 
 /// Whether they are for the peer's copy at `b` once it has these bytes there.
 #[tactic(auto, unfolding(lks_law::specs::Polls::restores), using(crate::proofs::FewBlocks::whole_copy_with))]
-pub fn is_restored<L: Ledger>(
+pub fn restores<L: Ledger>(
     alloc: Global,
-    own: &Own,
+    own: &Station,
     n: u32,
     opening: &Opening<'_>,
     b: u16,
@@ -250,5 +250,5 @@ fn first_unasked(journal: &[Record], n: u32, b: u16, voters: &[u16]) -> Option<P
     voters
         .iter()
         .copied()
-        .find(|v| !asked_already(journal, n, b, *v))
+        .find(|v| !was_asked(journal, n, b, *v))
 }

@@ -13,7 +13,7 @@ ghost use Rattle.lks_refs.specs.Lists.{Lists};
 use crate::copies::copy_of;
 use crate::journals::{Opening, find_opening};
 use crate::polls::{ballot, inner_votes_of, outer_votes_of};
-use crate::stations::Own;
+use crate::stations::Station;
 use lks_base::{Blocks, Contents, Ids, OutOfMemory, Outcome, PeerId, Record, Seq};
 use lks_draw::Draws;
 use lks_hash::Steps;
@@ -33,7 +33,7 @@ const FRIENDS: u8 = 4;
 /// refused memory.
 fn pick(
     alloc: Global,
-    own: &Own,
+    own: &Station,
     label: u8,
     number: u32,
     list: &[PeerId],
@@ -62,7 +62,7 @@ fn last_block(copy: &Blocks) -> u16
 #[tactic(auto, unfolding(lks_law::specs::References::dissenters), using(crate::proofs::FewBlocks::whole_copy))]
 fn find_dissenters<L: Ledger>(
     alloc: Global,
-    own: &Own,
+    own: &Station,
     n: u32,
     opening: &Opening<'_>,
     journal: &[Record],
@@ -87,7 +87,7 @@ fn find_dissenters<L: Ledger>(
 #[tactic(auto, unfolding(lks_law::specs::References::joiners), using(crate::proofs::FewBlocks::whole_copy))]
 fn find_joiners<L: Ledger>(
     alloc: Global,
-    own: &Own,
+    own: &Station,
     n: u32,
     opening: &Opening<'_>,
     journal: &[Record],
@@ -109,7 +109,7 @@ fn find_joiners<L: Ledger>(
 }
 
 #[tactic(auto, unfolding(lks_law::specs::References::picked_friends))]
-fn pick_friends(alloc: Global, own: &Own, number: u32) -> Result<Vec<PeerId>, OutOfMemory>
+fn pick_friends(alloc: Global, own: &Station, number: u32) -> Result<Vec<PeerId>, OutOfMemory>
     ensures { IfOk result (λ v. v.items ≡ picked_friends own.now number) }
 {
     pick(
@@ -125,7 +125,7 @@ fn pick_friends(alloc: Global, own: &Own, number: u32) -> Result<Vec<PeerId>, Ou
 /// What an agreed poll makes of the reference list.
 fn change_list<L: Ledger>(
     alloc: Global,
-    own: &Own,
+    own: &Station,
     journal: &[Record],
     references: &mut References,
     number: u32,
@@ -162,7 +162,7 @@ fn as_agreed(r: &Record) -> Option<u32>
 #[tactic(auto, unfolding(lks_law::specs::References::list_with))]
 fn follow<L: Ledger>(
     alloc: Global,
-    own: &Own,
+    own: &Station,
     before: &[Record],
     references: &mut References,
     r: &Record,
@@ -183,7 +183,7 @@ fn follow<L: Ledger>(
 #[tactic(auto, unfolding(lks_law::specs::References::reference_list), using(crate::proofs::Sound::small_front))]
 fn find_references<L: Ledger>(
     alloc: Global,
-    own: &Own,
+    own: &Station,
     journal: &[Record],
     steps: &mut Steps<L>,
 ) -> Result<References, OutOfMemory>
@@ -201,7 +201,7 @@ fn find_references<L: Ledger>(
 #[tactic(auto, unfolding(lks_law::specs::References::inner_circle))]
 pub fn sample_inner<L: Ledger>(
     alloc: Global,
-    own: &Own,
+    own: &Station,
     number: u32,
     journal: &[Record],
     steps: &mut Steps<L>,
@@ -258,7 +258,7 @@ fn nominations_of(alloc: Global, journal: &[Record], n: u32) -> Result<Vec<Ids>,
 #[tactic(auto, unfolding(lks_law::specs::References::outer_circle))]
 pub fn sample_outer(
     alloc: Global,
-    own: &Own,
+    own: &Station,
     number: u32,
     opening: &Opening<'_>,
     journal: &[Record],

@@ -1,12 +1,13 @@
 //! Reminders of a poll, and requests that are given up.
 
 ghost use Rattle.std.specs.Prelude.{◌≡◌, ◌≤◌, true, IfOk, IfSome, option_map};
+ghost use Rattle.lks_base.specs.declared.limits.TheConstants.{LAST_BLOCK};
 ghost use Rattle.lks_law.specs.Reaction.{silent, reminded, asked_again, on_nudge, given_up, on_give_up};
 ghost use Rattle.lks_peer.specs.Requests.{asked_for};
 ghost use Rattle.lks_peer.specs.Small.{are_small};
 
 use crate::journals::{
-    Opening, Request, find_opening, find_outer, find_unanswered, takes_votes, voted_already,
+    Opening, Request, find_opening, find_outer, find_unanswered, has_voted, is_voting,
 };
 use crate::letters::{invite, write};
 use crate::reactions::{adding, no_reaction, no_sends, sending, telling};
@@ -25,7 +26,7 @@ fn find_silent(
 {
     let mut peers = opening.inner.to_vec(alloc)?;
     peers.extend_from_slice(find_outer(journal, number))?;
-    peers.retain(|v| !voted_already(journal, number, *v));
+    peers.retain(|v| !has_voted(journal, number, *v));
     Ok(peers)
 }
 
@@ -42,7 +43,7 @@ fn remind(
 }
 
 fn ask_again(alloc: Global, number: u32, request: Option<Request>) -> Result<Reaction, OutOfMemory>
-    requires { IfSome request (λ r. r.block ≤ 511) }
+    requires { IfSome request (λ r. r.block ≤ LAST_BLOCK) }
     ensures { IfOk result (λ r. r ≡ asked_again number (option_map asked_for request)) }
 {
     match request {
@@ -60,7 +61,7 @@ pub fn nudge(alloc: Global, journal: &[Record], number: u32) -> Result<Reaction,
     requires { are_small journal.now ≡ true }
     ensures { IfOk result (λ r. r ≡ on_nudge journal.now number) }
 {
-    if !takes_votes(journal, number) {
+    if !is_voting(journal, number) {
         return ask_again(alloc, number, find_unanswered(journal, number));
     }
     match find_opening(journal, number) {

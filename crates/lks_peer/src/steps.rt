@@ -1,6 +1,7 @@
 //! What a peer adds to its journal and sends, one function for each step of its own.
 
 ghost use Rattle.std.specs.Prelude.{◌≡◌, ◌≤◌, ◌<◌, true, IfOk, length};
+ghost use Rattle.lks_base.specs.declared.limits.TheConstants.{MOST_BLOCKS, MOST_PROOF_BYTES};
 ghost use Rattle.lks_law.specs.Polls.{verdict_in};
 ghost use Rattle.lks_law.specs.Reaction.{may_open, opened, on_open, widened, on_widen, shut, shut_inquorate, on_shut, may_tally, closed, asked, tallied, on_tally, reaction};
 ghost use Rattle.lks_peer.specs.Small.{are_small, most_records};
@@ -8,15 +9,15 @@ ghost use Rattle.lks_peer.specs.Small.{are_small, most_records};
 use crate::audits::check_aus;
 use crate::deliveries::hear;
 use crate::journals::{
-    Opening, audited_lately, audits, count_openings, count_running, current_limits, find_deposit,
-    find_opening, find_unanswered, runs, shut_already, takes_votes, widened_already,
+    Opening, count_openings, count_running, find_deposit, find_opening, find_unanswered,
+    has_running, is_running, is_shut, is_voting, is_widened, limits_in_force, was_opened_lately,
 };
 use crate::letters::{give_receipts, invite, write};
-use crate::polls::{find_candidate, judge, lacks_quorum};
+use crate::polls::{find_candidate, is_inquorate, verdict_in};
 use crate::reactions::{adding, no_reaction, no_sends};
 use crate::references::{sample_inner, sample_outer};
 use crate::reminders::{give_up, nudge};
-use crate::stations::Own;
+use crate::stations::Station;
 use lks_base::{AuId, Input, Message, OutOfMemory, Outcome, PeerId, Reaction, Record, Seq};
 use lks_hash::{Steps, nonce_of};
 use lks_tally::Verdict;
@@ -27,18 +28,18 @@ use std::sync::ledger::Ledger;
 const MOST_POLLS: usize = 8;
 
 #[tactic(auto, unfolding(lks_law::specs::Reaction::may_open))]
-fn may_be_opened(own: &Own, journal: &[Record], tick: u32, au: AuId) -> bool
+fn may_open(own: &Station, journal: &[Record], tick: u32, au: AuId) -> bool
     ensures { result ≡ may_open own.now journal.now tick au }
 {
     find_deposit(journal, au).is_some()
-        && !audits(journal, au)
+        && !has_running(journal, au)
         && count_running(journal) < MOST_POLLS
-        && !audited_lately(journal, au, tick, own.rules.pace)
+        && !was_opened_lately(journal, au, tick, own.rules.pace)
 }
 
 fn open_as<L: Ledger>(
     alloc: Global,
-    own: &Own,
+    own: &Station,
     journal: &[Record],
     tick: u32,
     au: AuId,
@@ -56,7 +57,7 @@ fn open_as<L: Ledger>(
         nonce: nonce_of(&own.seed, number),
         inner,
         tick,
-        limits: Some(current_limits(&own.rules, journal)),
+        limits: Some(limits_in_force(&own.rules, journal)),
         kind: own.hash,
     };
     adding(alloc, item, sends)
@@ -65,7 +66,7 @@ fn open_as<L: Ledger>(
 #[tactic(auto, unfolding(lks_law::specs::Reaction::on_open))]
 fn open_poll<L: Ledger>(
     alloc: Global,
-    own: &Own,
+    own: &Station,
     journal: &[Record],
     tick: u32,
     au: AuId,
@@ -75,7 +76,7 @@ fn open_poll<L: Ledger>(
     requires few { length journal.now ≤ most_records }
     ensures { IfOk result (λ r. r ≡ on_open own.now journal.now tick au) }
 {
-    if !may_be_opened(own, journal, tick, au) {
+    if !may_open(own, journal, tick, au) {
         return Ok(no_reaction(alloc));
     }
     let number = count_openings(journal) as u32 + 1;
@@ -84,7 +85,7 @@ fn open_poll<L: Ledger>(
 
 fn widen_with(
     alloc: Global,
-    own: &Own,
+    own: &Station,
     journal: &[Record],
     number: u32,
     opening: &Opening<'_>,
@@ -99,13 +100,13 @@ fn widen_with(
 #[tactic(auto, unfolding(lks_law::specs::Reaction::on_widen))]
 fn widen_poll(
     alloc: Global,
-    own: &Own,
+    own: &Station,
     journal: &[Record],
     number: u32,
 ) -> Result<Reaction, OutOfMemory>
     ensures { IfOk result (λ r. r ≡ on_widen own.now journal.now number) }
 {
-    if !(takes_votes(journal, number) && !widened_already(journal, number)) {
+    if !(is_voting(journal, number) && !is_widened(journal, number)) {
         return Ok(no_reaction(alloc));
     }
     match find_opening(journal, number) {
@@ -157,7 +158,7 @@ fn close_without_quorum(
 
 fn shut_with(
     alloc: Global,
-    own: &Own,
+    own: &Station,
     journal: &[Record],
     tick: u32,
     number: u32,
@@ -165,7 +166,7 @@ fn shut_with(
 ) -> Result<Reaction, OutOfMemory>
     ensures { IfOk result (λ r. r ≡ shut own.now journal.now tick number opening.now) }
 {
-    if lacks_quorum(alloc, own, number, opening, journal)? {
+    if is_inquorate(alloc, own, number, opening, journal)? {
         close_without_quorum(alloc, journal, tick, number)
     } else {
         adding(alloc, Record::Shut { number }, no_sends(alloc))
@@ -175,14 +176,14 @@ fn shut_with(
 #[tactic(auto, unfolding(lks_law::specs::Reaction::on_shut))]
 fn shut_poll(
     alloc: Global,
-    own: &Own,
+    own: &Station,
     journal: &[Record],
     tick: u32,
     number: u32,
 ) -> Result<Reaction, OutOfMemory>
     ensures { IfOk result (λ r. r ≡ on_shut own.now journal.now tick number) }
 {
-    if !takes_votes(journal, number) {
+    if !is_voting(journal, number) {
         return Ok(no_reaction(alloc));
     }
     match find_opening(journal, number) {
@@ -192,11 +193,11 @@ fn shut_poll(
 }
 
 #[tactic(auto, unfolding(lks_law::specs::Reaction::may_tally))]
-pub fn may_be_tallied(journal: &[Record], number: u32) -> bool
+pub fn may_tally(journal: &[Record], number: u32) -> bool
     ensures { result ≡ may_tally number journal.now }
 {
-    runs(journal, number)
-        && shut_already(journal, number)
+    is_running(journal, number)
+        && is_shut(journal, number)
         && find_unanswered(journal, number).is_none()
 }
 
@@ -208,7 +209,7 @@ fn ask(
     block: u16,
     voter: Option<PeerId>,
 ) -> Result<Reaction, OutOfMemory>
-    requires { block < 512 }
+    requires { block < MOST_BLOCKS }
     ensures { IfOk result (λ r. r ≡ asked journal.now tick number block voter) }
 {
     match voter {
@@ -229,7 +230,7 @@ fn ask(
 
 fn tally_with<L: Ledger>(
     alloc: Global,
-    own: &Own,
+    own: &Station,
     journal: &[Record],
     tick: u32,
     number: u32,
@@ -239,7 +240,7 @@ fn tally_with<L: Ledger>(
     requires { are_small journal.now ≡ true }
     ensures { IfOk result (λ r. r ≡ tallied own.now journal.now tick number opening.now (verdict_in own.now number opening.now journal.now)) }
 {
-    match judge(alloc, own, number, opening, journal, steps)? {
+    match verdict_in(alloc, own, number, opening, journal, steps)? {
         Verdict::Inquorate => Ok(no_reaction(alloc)),
         Verdict::Agreed => close(alloc, journal, tick, number, Outcome::Agreed),
         Verdict::Split { block } => close(alloc, journal, tick, number, Outcome::Split { block }),
@@ -253,7 +254,7 @@ fn tally_with<L: Ledger>(
 #[tactic(auto, unfolding(lks_law::specs::Reaction::on_tally))]
 fn tally_poll<L: Ledger>(
     alloc: Global,
-    own: &Own,
+    own: &Station,
     journal: &[Record],
     tick: u32,
     number: u32,
@@ -262,7 +263,7 @@ fn tally_poll<L: Ledger>(
     requires { are_small journal.now ≡ true }
     ensures { IfOk result (λ r. r ≡ on_tally own.now journal.now tick number) }
 {
-    if !may_be_tallied(journal, number) {
+    if !may_tally(journal, number) {
         return Ok(no_reaction(alloc));
     }
     match find_opening(journal, number) {
@@ -275,7 +276,7 @@ fn tally_poll<L: Ledger>(
 #[tactic(auto, unfolding(lks_law::specs::Reaction::reaction))]
 pub fn react<L: Ledger>(
     alloc: Global,
-    own: &Own,
+    own: &Station,
     journal: &[Record],
     tick: u32,
     input: &Input,
@@ -283,7 +284,7 @@ pub fn react<L: Ledger>(
 ) -> Result<Reaction, OutOfMemory>
     requires small { are_small journal.now ≡ true }
     requires few { length journal.now ≤ most_records }
-    requires short { length own.now.proof ≤ 64 }
+    requires short { length own.now.proof ≤ MOST_PROOF_BYTES }
     ensures { IfOk result (λ r. r ≡ reaction own.now journal.now tick input.now) }
 {
     match input {
@@ -293,12 +294,12 @@ pub fn react<L: Ledger>(
         Input::Tally { number } => tally_poll(alloc, own, journal, tick, *number, steps),
         Input::Nudge { number } => nudge(alloc, journal, *number),
         Input::GiveUp { number } => give_up(alloc, journal, *number),
+        Input::Work { .. } | Input::Expire { .. } | Input::Tune { .. } => Ok(no_reaction(alloc)),
         Input::Check => check_aus(alloc, own, journal, tick),
         Input::Got {
             from,
             message,
             judged,
         } => hear(alloc, own, journal, *from, message, *judged, steps),
-        _ => Ok(no_reaction(alloc)),
     }
 }

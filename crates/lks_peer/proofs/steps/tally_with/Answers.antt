@@ -4,5 +4,5 @@ use Rattle.lks_peer.proofs.steps.tally_with.Goals as goal
 
 pub ask-requires : goal.ask-requires
 ask-requires g c =
-    subst (DecidesBelow 512) (sym c.in_ok-judge.ensures ∙ c.in-Loss.is)
+    subst (DecidesBelow 512) (sym c.in_ok-verdict_in.ensures ∙ c.in-Loss.is)
     (judged_below c.args.own.now c.args.number c.args.opening.now c.args.journal.now c.requires)

@@ -1,0 +1,159 @@
+-- Journals that were begun before numbers could be tuned: which of their records lack numbers, and what these keep.
+use Rattle.std.proofs.Common.{◌≡◌, ◌+◌, ◌∙◌, inl, inr, ap, sym, subst, ℕ, Bool, true, false, cond, List, [], ◌∷◌, ◌++◌, length, refl}
+use Rattle.std.specs.Prelude.{Option, Some, None, map, not, ◌&&◌}
+use Rattle.std.specs.List.{filter_map, cons_option}
+use Rattle.lks_base.specs.declared.messages.Message.{Message}
+use Rattle.lks_base.specs.declared.messages.Message.TheVariants as message
+use Rattle.lks_base.specs.declared.names.Judged.{Judged}
+use Rattle.lks_base.specs.declared.plans.AuPlan.{AuPlan}
+use Rattle.lks_base.specs.declared.reactions.Input.{Input}
+use Rattle.lks_base.specs.declared.reactions.Input.TheVariants as input
+use Rattle.lks_base.specs.declared.reactions.Reaction.{Reaction}
+use Rattle.lks_base.specs.declared.records.Record.{Record}
+use Rattle.lks_base.specs.declared.records.Record.TheVariants as records
+use Rattle.lks_hash.specs.Hashes.{nonce_from}
+use Rattle.lks_law.specs.Facts.{AddsFor, limits_left, unnumbered}
+use Rattle.lks_law.specs.Journal.{Opening, Request, opening_of, openings, is_voting, is_widened, unanswered}
+use Rattle.lks_law.specs.Polls.{Station, limits_in_force, verdict_in, candidate, restores}
+use Rattle.lks_law.specs.Reaction.{nothing, for_opening, may_open, opened, on_open, widened, on_widen, is_inquorate, shut_inquorate, shut, on_shut, may_tally, closed, asked, tallied, on_tally, reminded, asked_again, on_nudge, given_up, on_give_up, must_note, overdue_in, on_check, may_prove, proved, on_challenge, may_nominate, nominated, on_nominate, is_accepted, may_vote, counted, on_vote, may_repair, repaired, on_repair, on_message, reaction}
+use Rattle.lks_law.specs.References.{inner_circle}
+use Rattle.lks_law.proofs.Kept.{Kept}
+use Rattle.lks_law.proofs.Openings.{kept_opened, kept_on_open, free_of}
+use Rattle.lks_law.proofs.Rows.{KeptBy, kept_nothing}
+use Rattle.lks_law.proofs.Samples.{Adds, inner_sample, open_adds}
+use Rattle.lks_refs.specs.Lists.{IsReferenceList}
+use Rattle.lks_tally.specs.declared.ballots.Verdict.{Verdict}
+use Rattle.lks_tally.specs.declared.ballots.Verdict.TheVariants as verdict
+
+-- none of the records has numbers to lack
+abbrev pub Same : Reaction → Type 0
+Same r = map unnumbered r.records ≡ r.records
+
+if_same : (b : Bool) (r s : Reaction) → Same r → Same s → Same (cond b r s)
+if_same true r s first second = first
+if_same false r s first second = second
+
+opening_same : (o : Option Opening) (f : Opening → Reaction) → ((x : Opening) → Same (f x)) → Same (for_opening o f)
+opening_same None f same = refl
+opening_same (Some x) f same = same x
+
+module _ (own : Station) (js : List Record) where
+  widen_same : (n : ℕ) → Same (on_widen own js n)
+  unfolding on_widen
+  widen_same n = if_same (is_voting n js && not (is_widened n js)) _ nothing (opening_same (opening_of n js) (widened own js n) (λ o. refl)) refl
+
+  shut_same : (tick n : ℕ) → Same (on_shut own js tick n)
+  unfolding on_shut
+  shut_same tick n =
+      if_same (is_voting n js) _ nothing
+      (opening_same (opening_of n js) (shut own js tick n) (λ o. if_same (is_inquorate own n o js) (shut_inquorate js tick n) _ refl refl)) refl
+
+  tallied_same : (tick n : ℕ) (o : Opening) (v : Verdict) → Same (tallied own js tick n o v)
+  unfolding closed
+  tallied_same tick n o verdict.Inquorate = refl
+  tallied_same tick n o verdict.Agreed = refl
+  tallied_same tick n o (verdict.Split b) = refl
+  tallied_same tick n o (verdict.Loss b) = by_candidate (candidate own n o b js)
+    where
+      by_candidate : (v : Option ℕ) → Same (asked js tick n b v)
+      by_candidate None = refl
+      by_candidate (Some v) = refl
+
+  tally_same : (tick n : ℕ) → Same (on_tally own js tick n)
+  unfolding on_tally
+  tally_same tick n =
+      if_same (may_tally n js) _ nothing
+      (opening_same (opening_of n js) (λ o. tallied own js tick n o (verdict_in own n o js)) (λ o. tallied_same tick n o (verdict_in own n o js))) refl
+
+  request_same : (n : ℕ) (r : Option Request) → Same (asked_again n r) × Same (given_up n r)
+  request_same n None = (refl, refl)
+  request_same n (Some r) = (refl, refl)
+
+  nudge_same : (n : ℕ) → Same (on_nudge js n)
+  unfolding on_nudge
+  nudge_same n = if_same (is_voting n js) _ (asked_again n (unanswered n js)) (opening_same (opening_of n js) (reminded js n) (λ o. refl)) (request_same n (unanswered n js)).0
+
+  give_up_same : (n : ℕ) → Same (on_give_up js n)
+  unfolding on_give_up
+  give_up_same n = (request_same n (unanswered n js)).1
+
+  noted_same : (tick : ℕ) (aus : List AuPlan) → map unnumbered (filter_map (overdue_in own js tick) aus) ≡ filter_map (overdue_in own js tick) aus
+  noted_same tick [] = refl
+  noted_same tick (au ∷ aus) = first (must_note own js tick au.id) (noted_same tick aus)
+    where
+      first : (b : Bool) → map unnumbered (filter_map (overdue_in own js tick) aus) ≡ filter_map (overdue_in own js tick) aus
+          → map unnumbered (cons_option (cond b (Some (records.Overdue au.id tick)) None) (filter_map (overdue_in own js tick) aus)) ≡ cons_option (cond b (Some (records.Overdue au.id tick)) None) (filter_map (overdue_in own js tick) aus)
+      first true rest = ap (λ (rs : List Record). records.Overdue au.id tick ∷ rs) rest
+      first false rest = rest
+
+  message_same : (from : ℕ) (m : Message) (judged : Judged) → Same (on_message own js from m judged)
+  unfolding on_challenge on_nominate on_vote on_repair
+  message_same from (message.PollChallenge n agrees) judged =
+      if_same (agrees && is_voting n js) _ nothing (opening_same (opening_of n js) (proved own js from n) (λ o. if_same (may_prove js from n o) _ nothing refl refl)) refl
+  message_same from (message.Nominate n nominees) judged =
+      if_same (is_voting n js && not (is_widened n js)) _ nothing
+      (opening_same (opening_of n js) (nominated js from n nominees) (λ o. if_same (may_nominate js from n o) _ nothing refl refl)) refl
+  message_same from (message.Vote n hashes proof) judged =
+      if_same (is_accepted judged && is_voting n js) _ nothing
+      (opening_same (opening_of n js) (counted js from n hashes) (λ o. if_same (may_vote js from n (length hashes) o) _ nothing refl refl)) refl
+  message_same from (message.Repair n b bytes) judged =
+      if_same (may_repair js from n b) _ nothing
+      (opening_same (opening_of n js) (repaired own js from n b bytes) (λ o. if_same (restores own n o b bytes js) _ _ refl refl)) refl
+  message_same from m judged = refl
+
+  -- what is added for anything but an opening is what the rules say
+  pub records_are : (tick : ℕ) (i : Input) (added : List Record) → Same (reaction own js tick i) → AddsFor own js (record { tick = tick; input = i }) added
+      → added ≡ (reaction own js tick i).records
+  records_are tick i added same (inl is) = is
+  records_are tick i added same (inr lacks) = lacks.1 ∙ same
+
+  -- an opening may lack its numbers, which keeps all the same
+  opens_kept : (tick au : ℕ) (added : List Record) → AddsFor own js (record { tick = tick; input = input.OpenPoll au }) added → Kept own js → Kept own (js ++ added)
+  unfolding reaction on_open
+  opens_kept tick au added (inl is) kept = subst (λ (rs : List Record). Kept own (js ++ rs)) (sym is) (kept_on_open own js tick au kept)
+  opens_kept tick au added (inr lacks) kept = subst (λ (rs : List Record). Kept own (js ++ rs)) (sym lacks.1) (by_test (may_open own js tick au) refl)
+    where
+      by_test : (b : Bool) → may_open own js tick au ≡ b → Kept own (js ++ map unnumbered (cond b (opened own js tick au (openings js + 1)) nothing).records)
+      by_test true may =
+          kept_opened own js (openings js + 1) tick
+          (record { au = au; nonce = nonce_from own.seed (openings js + 1); inner = inner_circle own (openings js + 1) js; limits = limits_left own.hash (Some (limits_in_force own.rules js)); kind = own.hash })
+          kept refl (free_of own js tick au may)
+      by_test false may = kept_nothing own js kept
+
+  opens_add : (tick au : ℕ) (added : List Record) → IsReferenceList own.id own.refs → AddsFor own js (record { tick = tick; input = input.OpenPoll au }) added → Adds own js added
+  unfolding reaction on_open
+  opens_add tick au added listed (inl is) = subst (Adds own js) (sym is) (open_adds own js tick au listed)
+  opens_add tick au added listed (inr lacks) = subst (Adds own js) (sym lacks.1) (by_test (may_open own js tick au))
+    where
+      by_test : (b : Bool) → Adds own js (map unnumbered (cond b (opened own js tick au (openings js + 1)) nothing).records)
+      by_test true = (inner_sample own (openings js + 1) js listed, tt)
+      by_test false = tt
+
+-- each input but an opening
+abbrev IsOther : Input → Type 0
+IsOther (input.OpenPoll au) = ⊥
+IsOther i = Unit {0}
+
+other_same : (own : Station) (js : List Record) (tick : ℕ) (i : Input) → IsOther i → Same (reaction own js tick i)
+unfolding reaction on_check
+other_same own js tick (input.OpenPoll au) other = absurd other
+other_same own js tick (input.Widen n) other = widen_same own js n
+other_same own js tick (input.Shut n) other = shut_same own js tick n
+other_same own js tick (input.Tally n) other = tally_same own js tick n
+other_same own js tick (input.Nudge n) other = nudge_same own js n
+other_same own js tick (input.GiveUp n) other = give_up_same own js n
+other_same own js tick input.Check other = noted_same own js tick own.aus
+other_same own js tick (input.Got from m judged) other = message_same own js from m judged
+other_same own js tick i other = refl
+
+-- whatever is added, with its numbers or without, keeps what the rules keep, and its circles are samples
+module _ (own : Station) (js : List Record) where
+  pub adds_kept : (tick : ℕ) (i : Input) (added : List Record) → KeptBy own js (reaction own js tick i) → Kept own js
+      → AddsFor own js (record { tick = tick; input = i }) added → Kept own (js ++ added)
+  adds_kept tick (input.OpenPoll au) added by kept adds = opens_kept own js tick au added adds kept
+  adds_kept tick i added by kept adds = subst (λ (rs : List Record). Kept own (js ++ rs)) (sym (records_are own js tick i added (other_same own js tick i tt) adds)) by
+
+  pub adds_circles : (tick : ℕ) (i : Input) (added : List Record) → Adds own js (reaction own js tick i).records → IsReferenceList own.id own.refs
+      → AddsFor own js (record { tick = tick; input = i }) added → Adds own js added
+  adds_circles tick (input.OpenPoll au) added by listed adds = opens_add own js tick au added listed adds
+  adds_circles tick i added by listed adds = subst (Adds own js) (sym (records_are own js tick i added (other_same own js tick i tt) adds)) by
