@@ -1,2 +1,3 @@
 mod Begun
 mod Numbered
+pub mod Told

@@ -24,6 +24,7 @@ step_actor to (step.Check peer) = peer
 step_actor to (step.Tune peer quorum minority repairs) = peer
 step_actor to (step.Deliver envelope judged) = to
 
+-- whose step an event is: 0 where it is no peer's step
 abbrev pub event_actor : ℕ → Event → ℕ
 event_actor to (happened.Step s) = step_actor to s
 event_actor to (happened.Cut s kept) = step_actor to s
@@ -44,6 +45,7 @@ own_notes peer entry = if actor entry == peer then entry.notes else []
 unfoldable pub notes_of : ℕ → List Entry → List Note
 notes_of peer entries = flat_map (own_notes peer) entries
 
+-- a note that a block of this AU was replaced
 unfoldable pub replaces : ℕ → Note → Bool
 replaces au (noted.Replaced number a block size) = a == au
 replaces au _ = false
@@ -52,20 +54,25 @@ replaces au _ = false
 unfoldable pub version : ℕ → List Note → ℕ
 version au notes = count_by (replaces au) notes
 
+-- a note of a vote in this poll, of a voter in its inner circle
 unfoldable pub is_inner_vote : ℕ → Note → Bool
 is_inner_vote number (noted.VoteIn n voter inner) = n == number && inner
 is_inner_vote number _ = false
 
+-- a note of a vote in this poll, of another voter
 unfoldable pub is_outer_vote : ℕ → Note → Bool
 is_outer_vote number (noted.VoteIn n voter inner) = n == number && not inner
 is_outer_vote number _ = false
 
+-- how many votes of its inner circle a poll had
 unfoldable pub inner_votes : ℕ → List Note → ℕ
 inner_votes number notes = count_by (is_inner_vote number) notes
 
+-- how many votes of other voters a poll had
 unfoldable pub outer_votes : ℕ → List Note → ℕ
 outer_votes number notes = count_by (is_outer_vote number) notes
 
+-- how this poll ended, where the note says so
 unfoldable pub outcome_in : ℕ → Note → Option Outcome
 outcome_in number (noted.Closed n outcome) = if n == number then Some outcome else None
 outcome_in number _ = None
@@ -74,11 +81,16 @@ outcome_in number _ = None
 unfoldable pub outcome_of : ℕ → List Note → Option Outcome
 outcome_of number notes = slice_get (filter_map (outcome_in number) notes) 0
 
+-- by how many ticks the entry moves the clock on
 unfoldable pub ticks_in : Entry → ℕ
 ticks_in entry = ticks_of entry.event where
   ticks_of : Event → ℕ
+  ticks_of (happened.Step s) = 0
+  ticks_of (happened.Cut s kept) = 0
   ticks_of (happened.Tick by) = by
-  ticks_of _ = 0
+  ticks_of (happened.Lose envelope) = 0
+  ticks_of (happened.Forge sender receiver bytes) = 0
+  ticks_of (happened.Crash peer) = 0
 
 -- the tick before the entry at this place
 abbrev pub tick_at : ℕ → List Entry → ℕ

@@ -40,6 +40,7 @@ step_words from to (step.Tune peer quorum minority repairs) =
 step_words from to (step.Deliver envelope judged) =
     spaced (codes "deliver" ∷ decimal envelope ∷ decimal from ∷ decimal to ∷ []) ++ judged_words judged
 
+-- an event; one that the power cut says whether the journal has it
 unfoldable pub event_words : ℕ → ℕ → Event → List ℕ
 event_words from to (happened.Step s) = step_words from to s
 event_words from to (happened.Cut s true) = codes "cut kept " ++ step_words from to s
@@ -50,6 +51,7 @@ event_words from to (happened.Forge sender receiver bytes) =
     spaced (codes "forge" ∷ decimal sender ∷ decimal receiver ∷ decimal (length bytes) ∷ [])
 event_words from to (happened.Crash peer) = spaced (codes "crash" ∷ decimal peer ∷ [])
 
+-- how a poll ended, with the block that it is about
 unfoldable pub outcome_words : Outcome → List ℕ
 outcome_words closing.Agreed = codes "agreed"
 outcome_words closing.Inquorate = codes "inquorate"
@@ -61,19 +63,7 @@ unfoldable pub grade_word : Bool → List ℕ
 grade_word true = codes "low"
 grade_word false = codes "high"
 
--- a note on the peer's part in another peer's poll
-unfoldable pub session_words : Note → List ℕ
-session_words (noted.Joined poll au low) =
-    spaced (codes "joined" ∷ decimal poll.poller ∷ decimal poll.number ∷ decimal au ∷ grade_word low ∷ [])
-session_words (noted.Committed poll version) =
-    spaced (codes "committed" ∷ decimal poll.poller ∷ decimal poll.number ∷ decimal version ∷ [])
-session_words (noted.Voted poll) = spaced (codes "voted" ∷ decimal poll.poller ∷ decimal poll.number ∷ [])
-session_words (noted.Served poll block) =
-    spaced (codes "served" ∷ decimal poll.poller ∷ decimal poll.number ∷ decimal block ∷ [])
-session_words (noted.Ended poll) = spaced (codes "ended" ∷ decimal poll.poller ∷ decimal poll.number ∷ [])
-session_words _ = []
-
--- a note
+-- a note; one on the peer's part in another peer's poll names that poll by its poller and its number
 unfoldable pub note_words : Note → List ℕ
 note_words (noted.Opened number au) = spaced (codes "opened" ∷ decimal number ∷ decimal au ∷ [])
 note_words (noted.Nominated number voter) = spaced (codes "nominated" ∷ decimal number ∷ decimal voter ∷ [])
@@ -88,9 +78,16 @@ note_words (noted.Replaced number au block size) =
     spaced (codes "replaced" ∷ decimal number ∷ decimal au ∷ decimal block ∷ decimal size ∷ [])
 note_words (noted.Closed number outcome) = spaced (codes "closed" ∷ decimal number ∷ outcome_words outcome ∷ [])
 note_words (noted.Overdue au) = spaced (codes "overdue" ∷ decimal au ∷ [])
+note_words (noted.Joined poll au low) =
+    spaced (codes "joined" ∷ decimal poll.poller ∷ decimal poll.number ∷ decimal au ∷ grade_word low ∷ [])
+note_words (noted.Committed poll version) =
+    spaced (codes "committed" ∷ decimal poll.poller ∷ decimal poll.number ∷ decimal version ∷ [])
+note_words (noted.Voted poll) = spaced (codes "voted" ∷ decimal poll.poller ∷ decimal poll.number ∷ [])
+note_words (noted.Served poll block) =
+    spaced (codes "served" ∷ decimal poll.poller ∷ decimal poll.number ∷ decimal block ∷ [])
+note_words (noted.Ended poll) = spaced (codes "ended" ∷ decimal poll.poller ∷ decimal poll.number ∷ [])
 note_words (noted.Tuned quorum minority repairs) =
     spaced (codes "tuned" ∷ decimal quorum ∷ decimal minority ∷ decimal repairs ∷ [])
-note_words note = session_words note
 
 -- the notes of an entry, or a hyphen for none
 unfoldable pub notes_words : List Note → List ℕ

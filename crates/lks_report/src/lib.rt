@@ -1,11 +1,14 @@
-//! The report of a run: bytes that are a function of its plan and its entries.
+//! The report of a run: bytes that are a function of its plan and its entries. It tells of each alarm of a history, and
+//! of no other: `every_alarm_is_told`.
 #![tactic(auto)]
 
+mod laws;
 mod lines;
 mod scans;
 mod text;
 mod words;
 
+pub use laws::every_alarm_is_told;
 pub use scans::has_alarm;
 pub use text::report;
 

@@ -190,7 +190,20 @@ fn put_alarm(out: &mut String, peer: PeerId, tick: u128, note: &Note) -> Result<
     match *note {
         Note::Closed { number, outcome } => put_closing_alarm(out, peer, tick, number, outcome),
         Note::Overdue { au } => writeln!(out, "alarm {peer} {tick} overdue {au}"),
-        _ => Ok(()),
+        Note::Opened { .. }
+        | Note::Nominated { .. }
+        | Note::Outer { .. }
+        | Note::VoteIn { .. }
+        | Note::Shut { .. }
+        | Note::Asked { .. }
+        | Note::RepairBad { .. }
+        | Note::Replaced { .. }
+        | Note::Joined { .. }
+        | Note::Committed { .. }
+        | Note::Voted { .. }
+        | Note::Served { .. }
+        | Note::Ended { .. }
+        | Note::Tuned { .. } => Ok(()),
     }
 }
 

@@ -1,7 +1,7 @@
 //! What the lines below the entries count and look up.
 ghost use Rattle.std.specs.Prelude.{◌≡◌, ◌++◌, IfOk, OnOk};
 ghost use Rattle.lks_report.specs.Scans.{step_actor, actor, own_notes, notes_of, replaces, version, is_inner_vote, is_outer_vote, inner_votes, outer_votes, outcome_in, outcome_of, ticks_in};
-ghost use Rattle.lks_report.specs.Alarms.{is_alarm, is_alarming, is_alarmed};
+ghost use Rattle.lks_report.specs.Alarms.{is_alarming_end, is_alarm, is_alarming, is_alarmed};
 
 use lks_base::{AuId, Entry, Event, Note, Outcome, PeerId, PeerStep};
 use std::alloc::{AllocError, Global};
@@ -32,7 +32,7 @@ pub(crate) fn actor(entry: &Entry) -> PeerId
 {
     match &entry.event {
         Event::Step(step) | Event::Cut { step, .. } => step_actor(step, entry.to),
-        _ => 0,
+        Event::Tick { .. } | Event::Lose { .. } | Event::Forge { .. } | Event::Crash { .. } => 0,
     }
 }
 
@@ -140,7 +140,21 @@ pub(crate) fn ticks_in(entry: &Entry) -> u32
 {
     match entry.event {
         Event::Tick { by } => by,
-        _ => 0,
+        Event::Step(_)
+        | Event::Cut { .. }
+        | Event::Lose { .. }
+        | Event::Forge { .. }
+        | Event::Crash { .. } => 0,
+    }
+}
+
+#[tactic(auto, unfolding(crate::specs::Alarms::is_alarming_end))]
+fn is_alarming_end(outcome: Outcome) -> bool
+    ensures { result ≡ is_alarming_end outcome }
+{
+    match outcome {
+        Outcome::Agreed | Outcome::Inquorate => false,
+        Outcome::Split { .. } | Outcome::NoSupplier { .. } => true,
     }
 }
 
@@ -149,11 +163,22 @@ fn is_alarm(note: &Note) -> bool
     ensures { result ≡ is_alarm note.now }
 {
     match *note {
-        Note::Closed { outcome, .. } => {
-            matches!(outcome, Outcome::Split { .. } | Outcome::NoSupplier { .. })
-        }
+        Note::Closed { outcome, .. } => is_alarming_end(outcome),
         Note::Overdue { .. } => true,
-        _ => false,
+        Note::Opened { .. }
+        | Note::Nominated { .. }
+        | Note::Outer { .. }
+        | Note::VoteIn { .. }
+        | Note::Shut { .. }
+        | Note::Asked { .. }
+        | Note::RepairBad { .. }
+        | Note::Replaced { .. }
+        | Note::Joined { .. }
+        | Note::Committed { .. }
+        | Note::Voted { .. }
+        | Note::Served { .. }
+        | Note::Ended { .. }
+        | Note::Tuned { .. } => false,
     }
 }
 

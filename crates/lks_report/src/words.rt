@@ -1,8 +1,8 @@
 //! The words of events and notes.
 ghost use Rattle.std.specs.Prelude.{◌≡◌, ◌++◌, OnOk, string_bytes};
-ghost use Rattle.lks_report.specs.Words.{judged_words, step_words, event_words, outcome_words, grade_word, session_words, note_words, notes_words};
+ghost use Rattle.lks_report.specs.Words.{judged_words, step_words, event_words, outcome_words, grade_word, note_words, notes_words};
 
-use lks_base::{Entry, Event, Judged, Note, Outcome, PeerStep};
+use lks_base::{AuId, Entry, Event, Judged, Note, Outcome, PeerStep, PollName};
 use std::alloc::AllocError;
 
 #[tactic(auto, unfolding(crate::specs::Words::judged_words))]
@@ -89,25 +89,38 @@ fn grade_text(low: bool) -> &'static str
     if low { "low" } else { "high" }
 }
 
-#[tactic(auto, unfolding(crate::specs::Words::session_words))]
-fn put_session_note(out: &mut String, note: &Note) -> Result<(), AllocError>
-    ensures { OnOk result (string_bytes out.new ≡ string_bytes out.old ++ session_words note.now) }
+#[tactic(auto, unfolding(crate::specs::Words::note_words))]
+fn put_closed(out: &mut String, number: u32, outcome: Outcome) -> Result<(), AllocError>
+    ensures { OnOk result
+        (string_bytes out.new ≡ string_bytes out.old ++ note_words (Note.Closed number outcome)) }
 {
-    match *note {
-        Note::Joined { poll, au, low } => {
-            let grade = grade_text(low);
-            write!(out, "joined {} {} {au} {grade}", poll.poller, poll.number)
-        }
-        Note::Committed { poll, version } => {
-            write!(out, "committed {} {} {version}", poll.poller, poll.number)
-        }
-        Note::Voted { poll } => write!(out, "voted {} {}", poll.poller, poll.number),
-        Note::Served { poll, block } => {
-            write!(out, "served {} {} {block}", poll.poller, poll.number)
-        }
-        Note::Ended { poll } => write!(out, "ended {} {}", poll.poller, poll.number),
-        _ => Ok(()),
-    }
+    write!(out, "closed {number} ")?;
+    put_outcome(out, outcome)
+}
+
+#[tactic(auto, unfolding(crate::specs::Words::note_words))]
+fn put_joined(out: &mut String, poll: PollName, au: AuId, low: bool) -> Result<(), AllocError>
+    ensures { OnOk result
+        (string_bytes out.new ≡ string_bytes out.old ++ note_words (Note.Joined poll au low)) }
+{
+    let grade = grade_text(low);
+    write!(out, "joined {} {} {au} {grade}", poll.poller, poll.number)
+}
+
+#[tactic(auto, unfolding(crate::specs::Words::note_words))]
+fn put_committed(out: &mut String, poll: PollName, version: u32) -> Result<(), AllocError>
+    ensures { OnOk result
+        (string_bytes out.new ≡ string_bytes out.old ++ note_words (Note.Committed poll version)) }
+{
+    write!(out, "committed {} {} {version}", poll.poller, poll.number)
+}
+
+#[tactic(auto, unfolding(crate::specs::Words::note_words))]
+fn put_served(out: &mut String, poll: PollName, block: u16) -> Result<(), AllocError>
+    ensures { OnOk result
+        (string_bytes out.new ≡ string_bytes out.old ++ note_words (Note.Served poll block)) }
+{
+    write!(out, "served {} {} {block}", poll.poller, poll.number)
 }
 
 #[tactic(auto, unfolding(crate::specs::Words::note_words))]
@@ -136,17 +149,18 @@ fn put_note(out: &mut String, note: &Note) -> Result<(), AllocError>
             block,
             length,
         } => write!(out, "replaced {number} {au} {block} {length}"),
-        Note::Closed { number, outcome } => {
-            write!(out, "closed {number} ")?;
-            put_outcome(out, outcome)
-        }
+        Note::Closed { number, outcome } => put_closed(out, number, outcome),
         Note::Overdue { au } => write!(out, "overdue {au}"),
+        Note::Joined { poll, au, low } => put_joined(out, poll, au, low),
+        Note::Committed { poll, version } => put_committed(out, poll, version),
+        Note::Voted { poll } => write!(out, "voted {} {}", poll.poller, poll.number),
+        Note::Served { poll, block } => put_served(out, poll, block),
+        Note::Ended { poll } => write!(out, "ended {} {}", poll.poller, poll.number),
         Note::Tuned {
             quorum,
             minority,
             repairs,
         } => write!(out, "tuned {quorum} {minority} {repairs}"),
-        _ => put_session_note(out, note),
     }
 }
 

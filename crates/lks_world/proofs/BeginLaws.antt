@@ -4,6 +4,7 @@ use Rattle.std.specs.Prelude.{Option, Some, None, not, filter, slice_get, map, o
 use Rattle.std.specs.Option.{option_to_list}
 use Rattle.std.proofs.lemmas.List.{length-map, length-drop, map-append}
 use Rattle.std.proofs.lemmas.Option.{slice_get-get_or, slice_get-map}
+use Rattle.lks_disk.specs.Face.{Face}
 use Rattle.lks_base.proofs.PlanBounds.{found_peer}
 use Rattle.lks_base.specs.Checking.{plan_fault}
 use Rattle.lks_base.specs.declared.plans.PeerPlan.{PeerPlan}
@@ -14,21 +15,20 @@ use Rattle.lks_host.specs.declared.faults.HostFault.TheVariants as host
 use Rattle.lks_host.specs.declared.hosts.Host.{Host}
 use Rattle.lks_law.specs.World.{Standing, is_honest, honest_peer, standing_of}
 use Rattle.lks_world.proofs.CountLaws.{uncounted, are_counted_then}
-use Rattle.lks_world.specs.Blame.{blamed}
 use Rattle.lks_world.specs.Counts.{AreCounted, honest_ids}
 use Rattle.lks_world.specs.Held.{IsFresh, AreFresh}
-use Rattle.lks_world.specs.Hosts.{disk_in, disks_of, peer_in, peers_of}
+use Rattle.lks_world.specs.Hosts.{disk_in, disks_of, peer_in, peers_of, blamed}
 use Rattle.lks_world.specs.Begun.{HasBegun, HaveBegun, IsCreated}
 use Rattle.lks_world.specs.Disks.{count_honest}
 use Rattle.lks_world.specs.declared.faults.WorldFault.{WorldFault}
 use Rattle.lks_world.specs.declared.faults.WorldFault.TheVariants.{Disk}
 
 -- the first of fresh disks is fresh, and so are the others
-module _ {D : Type 0} (seen : D → List ℕ) (may_leave : D → List ℕ → Type 0) (fused : D → Bool) (disks : List D) (d : D) (rest : List D) (is : disks ≡ option_to_list (Some d) ++ rest) (fresh : AreFresh seen may_leave fused disks) where
-  pub fresh_first : IsFresh seen may_leave fused d
+module _ {D : Type 0} (f : Face D) (disks : List D) (d : D) (rest : List D) (is : disks ≡ option_to_list (Some d) ++ rest) (fresh : AreFresh f disks) where
+  pub fresh_first : IsFresh f d
   fresh_first = fresh 0 d (ap (λ (ds : List D). slice_get ds 0) is)
 
-  pub fresh_rest : AreFresh seen may_leave fused rest
+  pub fresh_rest : AreFresh f rest
   fresh_rest place disk at = fresh (suc place) disk (ap (λ (ds : List D). slice_get ds (suc place)) is ∙ at)
 
 some_is : {X : Type 0} {x y : X} → Some x ≡ Some y → x ≡ y
@@ -46,11 +46,16 @@ module _ {D : Type 0} (d e : D) (rest : List D) where
   later_in faults le (z ∷ zs) zero x y at also = let same = ap faults (some_is (sym at ∙ also)) in omega (arith, same)
   later_in faults le (z ∷ zs) (suc place) x y at also = later_in faults le zs place x y at also
 
-  pub one_changed : (faults : D → ℕ) (ids : List ℕ) (front : List D) (id : ℕ) (fault : Option WorldFault) → slice_get ids (length front) ≡ Some id → faults d ≤ faults e
-      → ((k : ℕ) → fault ≡ Some (Disk k) → (id ≡ k) × Rose (faults d) (faults e)) → AreCounted faults ids (front ++ d ∷ rest) (front ++ e ∷ rest) fault
-  one_changed faults ids front id fault named le cause = record {
+  same_fuses : (f : Face D) → f.fused e ≡ f.fused d → (front : List D) → map f.fused (front ++ e ∷ rest) ≡ map f.fused (front ++ d ∷ rest)
+  same_fuses f same [] = ap (λ b. b ∷ map f.fused rest) same
+  same_fuses f same (z ∷ zs) = ap (λ bs. f.fused z ∷ bs) (same_fuses f same zs)
+
+  pub one_changed : (f : Face D) (ids : List ℕ) (front : List D) (id : ℕ) (fault : Option WorldFault) → slice_get ids (length front) ≡ Some id → f.fused e ≡ f.fused d → f.faults d ≤ f.faults e
+      → ((k : ℕ) → fault ≡ Some (Disk k) → (id ≡ k) × Rose (f.faults d) (f.faults e)) → AreCounted f ids (front ++ d ∷ rest) (front ++ e ∷ rest) fault
+  one_changed f ids front id fault named fuse le cause = record {
     count = length-append front (e ∷ rest) ∙ sym (length-append front (d ∷ rest));
-    later = later_in faults le front;
+    fuses = same_fuses f fuse front;
+    later = later_in f.faults le front;
     cause = λ k is. record {
       place = length front;
       disk = d;
@@ -76,45 +81,45 @@ pub never_cut : (fault : HostFault) (fused : Bool) → fused ≡ false → (faul
 never_cut fault fused unfused cut is = let set = cut is in absurd cc
 
 -- the first disk changed, in its host or back among the others
-pub changed_to : {D : Type 0} (faults : D → ℕ) (ids : List ℕ) (hosts : List (Host D)) (id : ℕ) (disks after rest : List D) (d e : D) (fault : Option WorldFault) → slice_get ids (length hosts) ≡ Some id
-    → disks ≡ option_to_list (Some d) ++ rest → after ≡ disks_of hosts ++ e ∷ rest → faults d ≤ faults e
-    → ((k : ℕ) → fault ≡ Some (Disk k) → (id ≡ k) × Rose (faults d) (faults e)) → AreCounted faults ids (disks_of hosts ++ disks) after fault
-changed_to faults ids hosts id disks after rest d e fault named is made le cause =
-    subst (λ ds. AreCounted faults ids (disks_of hosts ++ ds) after fault) (sym is)
-    (subst (λ ds. AreCounted faults ids (disks_of hosts ++ d ∷ rest) ds fault) (sym made)
-    (one_changed d e rest faults ids (disks_of hosts) id fault (ap (slice_get ids) (length-map hosts disk_in) ∙ named) le cause))
+pub changed_to : {D : Type 0} (f : Face D) (ids : List ℕ) (hosts : List (Host D)) (id : ℕ) (disks after rest : List D) (d e : D) (fault : Option WorldFault) → slice_get ids (length hosts) ≡ Some id
+    → disks ≡ option_to_list (Some d) ++ rest → after ≡ disks_of hosts ++ e ∷ rest → f.fused e ≡ f.fused d → f.faults d ≤ f.faults e
+    → ((k : ℕ) → fault ≡ Some (Disk k) → (id ≡ k) × Rose (f.faults d) (f.faults e)) → AreCounted f ids (disks_of hosts ++ disks) after fault
+changed_to f ids hosts id disks after rest d e fault named is made fuse le cause =
+    subst (λ ds. AreCounted f ids (disks_of hosts ++ ds) after fault) (sym is)
+    (subst (λ ds. AreCounted f ids (disks_of hosts ++ d ∷ rest) ds fault) (sym made)
+    (one_changed d e rest f ids (disks_of hosts) id fault (ap (slice_get ids) (length-map hosts disk_in) ∙ named) fuse le cause))
 
 -- Hosts for the peers of a plan, one after another.
 
-fresh_later : {D : Type 0} (seen : D → List ℕ) (may_leave : D → List ℕ → Type 0) (fused : D → Bool) (disks rest : List D) → rest ≡ drop 1 disks → AreFresh seen may_leave fused disks → AreFresh seen may_leave fused rest
-fresh_later seen may_leave fused [] rest is fresh place disk at = let none = ap (λ ds. slice_get ds place) is in absurd cc
-fresh_later seen may_leave fused (d ∷ ds) rest is fresh place disk at = fresh (suc place) disk (sym (ap (λ xs. slice_get xs place) is) ∙ at)
+fresh_later : {D : Type 0} (f : Face D) (disks rest : List D) → rest ≡ drop 1 disks → AreFresh f disks → AreFresh f rest
+fresh_later f [] rest is fresh place disk at = let none = ap (λ ds. slice_get ds place) is in absurd cc
+fresh_later f (d ∷ ds) rest is fresh place disk at = fresh (suc place) disk (sym (ap (λ xs. slice_get xs place) is) ∙ at)
 
-begun_more : {D : Type 0} (seen : D → List ℕ) (may_leave : D → List ℕ → Type 0) (fused : D → Bool) (hosts : List (Host D)) (h : Host D) → HaveBegun seen may_leave fused hosts → HasBegun seen may_leave fused h → HaveBegun seen may_leave fused (hosts ++ h ∷ [])
-begun_more seen may_leave fused [] h have has zero k at = let same : h ≡ k = cc in subst (HasBegun seen may_leave fused) same has
-begun_more seen may_leave fused [] h have has (suc place) k at = absurd cc
-begun_more seen may_leave fused (x ∷ xs) h have has zero k at = have 0 k at
-begun_more seen may_leave fused (x ∷ xs) h have has (suc place) k at = begun_more seen may_leave fused xs h (λ i y is. have (suc i) y is) has place k at
+begun_more : {D : Type 0} (f : Face D) (hosts : List (Host D)) (h : Host D) → HaveBegun f hosts → HasBegun f h → HaveBegun f (hosts ++ h ∷ [])
+begun_more f [] h have has zero k at = let same : h ≡ k = cc in subst (HasBegun f) same has
+begun_more f [] h have has (suc place) k at = absurd cc
+begun_more f (x ∷ xs) h have has zero k at = have 0 k at
+begun_more f (x ∷ xs) h have has (suc place) k at = begun_more f xs h (λ i y is. have (suc i) y is) has place k at
 
 honest_front : (p : PeerPlan) (ps : List PeerPlan) → p.corrupt ≡ false → filter is_honest (p ∷ ps) ≡ p ∷ filter is_honest ps
 honest_front p ps e = ap (λ b. cond (not b) (p ∷ filter is_honest ps) (filter is_honest ps)) e
 
 -- so far these hosts were made, and these disks are left for the peers that are left
-pub record AreMade {D : Type 0} (seen : D → List ℕ) (may_leave : D → List ℕ → Type 0) (fused : D → Bool) (faults : D → ℕ) (plan : Plan) (first : List D) (hosts : List (Host D)) (disks : List D) (left : List PeerPlan) : Type 0 where
+pub record AreMade {D : Type 0} (f : Face D) (plan : Plan) (first : List D) (hosts : List (Host D)) (disks : List D) (left : List PeerPlan) : Type 0 where
   pub peers : peers_of hosts ++ map (standing_of plan) (filter is_honest left) ≡ map (standing_of plan) (filter is_honest plan.peers)
-  pub begun : HaveBegun seen may_leave fused hosts
-  pub fresh : AreFresh seen may_leave fused disks
+  pub begun : HaveBegun f hosts
+  pub fresh : AreFresh f disks
   pub enough : length disks ≡ count_honest left
-  pub counted : AreCounted faults (honest_ids plan.peers) first (disks_of hosts ++ disks) None
+  pub counted : AreCounted f (honest_ids plan.peers) first (disks_of hosts ++ disks) None
 
-module _ {D : Type 0} (seen : D → List ℕ) (may_leave : D → List ℕ → Type 0) (fused : D → Bool) (faults : D → ℕ) (plan : Plan) where
-  pub made_start : (disks : List D) (hosts : List (Host D)) → hosts ≡ [] → AreFresh seen may_leave fused disks → length disks ≡ count_honest plan.peers → AreMade seen may_leave fused faults plan disks hosts disks plan.peers
+module _ {D : Type 0} (f : Face D) (plan : Plan) where
+  pub made_start : (disks : List D) (hosts : List (Host D)) → hosts ≡ [] → AreFresh f disks → length disks ≡ count_honest plan.peers → AreMade f plan disks hosts disks plan.peers
   made_start disks hosts none fresh enough =
-      subst (λ (hs : List (Host D)). AreMade seen may_leave fused faults plan disks hs disks plan.peers) (sym none)
-      (record { peers = refl; begun = λ place h at. absurd cc; fresh = fresh; enough = enough; counted = uncounted faults (honest_ids plan.peers) disks })
+      subst (λ (hs : List (Host D)). AreMade f plan disks hs disks plan.peers) (sym none)
+      (record { peers = refl; begun = λ place h at. absurd cc; fresh = fresh; enough = enough; counted = uncounted f (honest_ids plan.peers) disks })
 
   -- a corrupt peer has no host
-  pub made_past : (first : List D) (hosts : List (Host D)) (disks : List D) (p : PeerPlan) (left : List PeerPlan) → p.corrupt ≡ true → AreMade seen may_leave fused faults plan first hosts disks (p ∷ left) → AreMade seen may_leave fused faults plan first hosts disks left
+  pub made_past : (first : List D) (hosts : List (Host D)) (disks : List D) (p : PeerPlan) (left : List PeerPlan) → p.corrupt ≡ true → AreMade f plan first hosts disks (p ∷ left) → AreMade f plan first hosts disks left
   made_past first hosts disks p left corrupt made =
       let none : filter is_honest (p ∷ left) ≡ filter is_honest left = ap (λ b. cond (not b) (p ∷ filter is_honest left) (filter is_honest left)) corrupt in
       record {
@@ -125,7 +130,7 @@ module _ {D : Type 0} (seen : D → List ℕ) (may_leave : D → List ℕ → Ty
         counted = made.counted;
       }
 
-  module _ (first : List D) (hosts : List (Host D)) (disks : List D) (p : PeerPlan) (left : List PeerPlan) (honest : p.corrupt ≡ false) (made : AreMade seen may_leave fused faults plan first hosts disks (p ∷ left)) where
+  module _ (first : List D) (hosts : List (Host D)) (disks : List D) (p : PeerPlan) (left : List PeerPlan) (honest : p.corrupt ≡ false) (made : AreMade f plan first hosts disks (p ∷ left)) where
     peers_split : peers_of hosts ++ standing_of plan p ∷ map (standing_of plan) (filter is_honest left) ≡ map (standing_of plan) (filter is_honest plan.peers)
     peers_split = ap (λ ps. peers_of hosts ++ map (standing_of plan) ps) (sym (honest_front p left honest)) ∙ made.peers
 
@@ -144,9 +149,9 @@ module _ {D : Type 0} (seen : D → List ℕ) (may_leave : D → List ℕ → Ty
         same_ids (q ∷ qs) = ap (λ ns. q.id ∷ ns) (same_ids qs)
 
     -- one host more
-    pub made_more : (hosts_after : List (Host D)) (disks_after : List D) → honest_peer p.id plan ≡ Some p → IsCreated seen may_leave fused plan p.id hosts hosts_after → disks_after ≡ drop 1 disks
-        → ((ids : List ℕ) → slice_get ids (length hosts) ≡ Some p.id → AreCounted faults ids (disks_of hosts ++ disks) (disks_of hosts_after ++ disks_after) None)
-        → AreMade seen may_leave fused faults plan first hosts_after disks_after left
+    pub made_more : (hosts_after : List (Host D)) (disks_after : List D) → honest_peer p.id plan ≡ Some p → IsCreated f plan p.id hosts hosts_after → disks_after ≡ drop 1 disks
+        → ((ids : List ℕ) → slice_get ids (length hosts) ≡ Some p.id → AreCounted f ids (disks_of hosts ++ disks) (disks_of hosts_after ++ disks_after) None)
+        → AreMade f plan first hosts_after disks_after left
     made_more hosts_after disks_after found created rest counted =
         let peer : created.host.peer ≡ standing_of plan p = some_is (sym created.peer ∙ ap (option_map (standing_of plan)) found) in
         record {
@@ -156,10 +161,10 @@ module _ {D : Type 0} (seen : D → List ℕ) (may_leave : D → List ℕ → Ty
               ∙ append_assoc (peers_of hosts) (created.host.peer ∷ []) (map (standing_of plan) (filter is_honest left))
               ∙ ap (λ s. peers_of hosts ++ s ∷ map (standing_of plan) (filter is_honest left)) peer
               ∙ peers_split;
-          begun = subst (HaveBegun seen may_leave fused) (sym created.more) (begun_more seen may_leave fused hosts created.host made.begun created.begun);
-          fresh = fresh_later seen may_leave fused disks disks_after rest made.fresh;
+          begun = subst (HaveBegun f) (sym created.more) (begun_more f hosts created.host made.begun created.begun);
+          fresh = fresh_later f disks disks_after rest made.fresh;
           enough = let less = ap length rest in let had = made.enough ∙ ap length (honest_front p left honest) in omega (arith, less, had, length-drop 1 disks);
-          counted = are_counted_then faults (honest_ids plan.peers) first (disks_of hosts ++ disks) (disks_of hosts_after ++ disks_after) None made.counted (counted (honest_ids plan.peers) comes_next);
+          counted = are_counted_then f (honest_ids plan.peers) first (disks_of hosts ++ disks) (disks_of hosts_after ++ disks_after) None made.counted (counted (honest_ids plan.peers) comes_next);
         }
 
 -- the peer at a place is the one that its number finds

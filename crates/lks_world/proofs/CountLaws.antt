@@ -2,6 +2,7 @@
 use Rattle.std.proofs.Common.{◌≡◌, ◌≤◌, ◌∙◌, inl, inr, ap, sym, ℕ, zero, suc, List, [], ◌∷◌, length, refl, arith}
 use Rattle.std.specs.Prelude.{Option, Some, None, slice_get}
 use Rattle.lks_disk.specs.Counts.{Rose}
+use Rattle.lks_disk.specs.Face.{Face}
 use Rattle.lks_world.specs.Counts.{AreCounted}
 use Rattle.lks_world.specs.declared.faults.WorldFault.{WorldFault}
 use Rattle.lks_world.specs.declared.faults.WorldFault.TheVariants.{Disk}
@@ -19,20 +20,22 @@ there_too (x ∷ xs) [] same place y at = absurd (omega (arith, same))
 there_too (x ∷ xs) (y ∷ ys) same zero z at = (y, refl)
 there_too (x ∷ xs) (y ∷ ys) same (suc place) z at = there_too xs ys (omega (arith, same)) place z at
 
-module _ {D : Type 0} (faults : D → ℕ) (ids : List ℕ) where
-  pub untouched : (disks : List D) (fault : Option WorldFault) → ((id : ℕ) → fault ≡ Some (Disk id) → ⊥) → AreCounted faults ids disks disks fault
+module _ {D : Type 0} (f : Face D) (ids : List ℕ) where
+  pub untouched : (disks : List D) (fault : Option WorldFault) → ((id : ℕ) → fault ≡ Some (Disk id) → ⊥) → AreCounted f ids disks disks fault
   untouched disks fault none = record {
     count = refl;
-    later = λ place d e at also. let same = ap faults (some_is (sym at ∙ also)) in omega (arith, same);
+    fuses = refl;
+    later = λ place d e at also. let same = ap f.faults (some_is (sym at ∙ also)) in omega (arith, same);
     cause = λ id is. absurd (none id is);
   }
 
-  pub uncounted : (disks : List D) → AreCounted faults ids disks disks None
+  pub uncounted : (disks : List D) → AreCounted f ids disks disks None
   uncounted disks = untouched disks None (λ id is. absurd cc)
 
-  pub are_counted_then : (xs ys zs : List D) (fault : Option WorldFault) → AreCounted faults ids xs ys None → AreCounted faults ids ys zs fault → AreCounted faults ids xs zs fault
+  pub are_counted_then : (xs ys zs : List D) (fault : Option WorldFault) → AreCounted f ids xs ys None → AreCounted f ids ys zs fault → AreCounted f ids xs zs fault
   are_counted_then xs ys zs fault first next = record {
     count = next.count ∙ first.count;
+    fuses = next.fuses ∙ first.fuses;
     later = λ place d e at then.
         let mid = there_too xs ys first.count place d at in
         let low = first.later place d mid.0 at mid.1 in

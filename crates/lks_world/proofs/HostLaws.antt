@@ -1,16 +1,17 @@
 -- Hosts go on one at a time.
-use Rattle.std.proofs.Common.{◌≡◌, ◌≤◌, ◌<◌, ◌∙◌, ◌⊎◌, inl, inr, sym, ap, subst, ℕ, zero, suc, Bool, List, [], ◌∷◌, length, get_or, drop, refl, arith}
-use Rattle.std.specs.Prelude.{Option, Some, slice_get, slice_set, option_map, Result, Ok, Err, OnOk, IsErrOf}
+use Rattle.std.proofs.Common.{◌≡◌, ◌≤◌, ◌<◌, ◌∙◌, ◌⊎◌, inl, inr, sym, ap, subst, ℕ, zero, suc, List, [], ◌∷◌, length, get_or, drop, refl, arith}
+use Rattle.std.specs.Prelude.{Option, Some, map, slice_get, slice_set, option_map, Result, Ok, Err, OnOk, IsErrOf}
 use Rattle.std.proofs.lemmas.Option.{slice_get-get_or, slice_get-map}
 use Rattle.std.specs.Option.{option_map_or}
 use Rattle.std.proofs.Math.Seq.{drop-length}
+use Rattle.lks_disk.specs.Face.{Face}
 use Rattle.lks_base.specs.declared.records.Record.{Record}
 use Rattle.lks_disk.specs.Counts.{Rose}
 use Rattle.lks_host.specs.Hosted.{StandsFor}
 use Rattle.lks_host.specs.declared.hosts.Host.{Host}
 use Rattle.lks_law.specs.Batches.{with_batch, journal_at}
 use Rattle.lks_law.specs.World.{Standing, World}
-use Rattle.lks_world.specs.Hosts.{peer_in, peers_of, id_in, ids_of, disk_in, GoesOn, HaveGoneOn, Counted}
+use Rattle.lks_world.specs.Hosts.{peer_in, peers_of, id_in, ids_of, disk_in, disks_of, GoesOn, HaveGoneOn, Counted}
 use Rattle.lks_world.specs.declared.faults.WorldFault.{WorldFault}
 use Rattle.lks_world.specs.declared.faults.WorldFault.TheVariants.{Disk}
 
@@ -22,43 +23,43 @@ set_where (z ∷ zs) zero (suc j) y x is = inl is
 set_where (z ∷ zs) (suc i) zero y x is = inl is
 set_where (z ∷ zs) (suc i) (suc j) y x is = elim (set_where zs i j y x is) [ inl same ↦ inl same | inr here ↦ inr (ap suc here.0, here.1) ]
 
-module _ {D : Type 0} (seen : D → List ℕ) (may_leave : D → List ℕ → Type 0) (fused : D → Bool) where
+module _ {D : Type 0} (f : Face D) where
   nothing_more : (batches : List (List Record)) (js : List Record) → with_batch batches (drop (length js) js) ≡ batches
   nothing_more batches js = ap (with_batch batches) (drop-length js)
 
-  same_host : (h : Host D) → GoesOn seen may_leave fused h h
+  same_host : (h : Host D) → GoesOn f h h
   same_host h = record {
     whole = λ e. e;
     room = omega arith;
     unfused = refl;
-    stands = λ batches stood. subst (StandsFor seen may_leave h) (sym (nothing_more batches h.peer.journal)) stood;
+    stands = λ batches stood. subst (StandsFor f h) (sym (nothing_more batches h.peer.journal)) stood;
   }
 
   -- nobody did anything
-  pub stayed : (hosts : List (Host D)) → HaveGoneOn seen may_leave fused hosts hosts
+  pub stayed : (hosts : List (Host D)) → HaveGoneOn f hosts hosts
   stayed hosts place k at = record { host = k; there = at; on = same_host k }
 
   -- one did
-  pub one_went_on : (hosts : List (Host D)) (i : ℕ) (h k : Host D) → slice_get hosts i ≡ Some h → GoesOn seen may_leave fused h k → HaveGoneOn seen may_leave fused hosts (slice_set hosts i k)
+  pub one_went_on : (hosts : List (Host D)) (i : ℕ) (h k : Host D) → slice_get hosts i ≡ Some h → GoesOn f h k → HaveGoneOn f hosts (slice_set hosts i k)
   one_went_on hosts i h k there on place x at = elim (set_where hosts i place k x at) [
     | inl same ↦ record { host = x; there = same; on = same_host x }
     | inr here ↦ record {
       host = h;
       there = ap (slice_get hosts) (sym here.0) ∙ there;
-      on = subst (GoesOn seen may_leave fused h) here.1 on;
+      on = subst (GoesOn f h) here.1 on;
     }
   ]
 
-module _ {D : Type 0} (faults : D → ℕ) where
-  same_count : (hosts : List (Host D)) (place : ℕ) (h k : Host D) → slice_get hosts place ≡ Some h → slice_get hosts place ≡ Some k → faults (disk_in h) ≤ faults (disk_in k)
-  same_count hosts place h k at also = let same : h ≡ k = some_is (sym at ∙ also) in let e = ap (λ (x : Host D). faults (disk_in x)) same in omega (arith, e)
+module _ {D : Type 0} (f : Face D) where
+  same_count : (hosts : List (Host D)) (place : ℕ) (h k : Host D) → slice_get hosts place ≡ Some h → slice_get hosts place ≡ Some k → f.faults (disk_in h) ≤ f.faults (disk_in k)
+  same_count hosts place h k at also = let same : h ≡ k = some_is (sym at ∙ also) in let e = ap (λ (x : Host D). f.faults (disk_in x)) same in omega (arith, e)
     where
       some_is : {X : Type 0} {x y : X} → Some x ≡ Some y → x ≡ y
       some_is e = cc
 
   -- no call was made
-  pub counted_same : {T : Type 0} (hosts : List (Host D)) (result : Result T WorldFault) → ((id : ℕ) → IsErrOf result (Disk id) → ⊥) → Counted faults hosts hosts result
-  counted_same hosts result none = record { ids = refl; later = same_count hosts; cause = λ id is. absurd (none id is) }
+  pub counted_same : {T : Type 0} (hosts : List (Host D)) (result : Result T WorldFault) → ((id : ℕ) → IsErrOf result (Disk id) → ⊥) → Counted f hosts hosts result
+  counted_same hosts result none = record { ids = refl; fuses = refl; later = same_count hosts; cause = λ id is. absurd (none id is) }
 
   set-there : {X : Type 0} (xs : List X) (i : ℕ) (y x : X) → slice_get xs i ≡ Some x → slice_get (slice_set xs i y) i ≡ Some y
   set-there [] i y x is = absurd cc
@@ -70,18 +71,24 @@ module _ {D : Type 0} (faults : D → ℕ) where
   set-same_id (x ∷ xs) zero h k at same = let first : x ≡ h = cc in ap (λ n. n ∷ ids_of xs) (same ∙ ap id_in (sym first))
   set-same_id (x ∷ xs) (suc i) h k at same = ap (λ ns. id_in x ∷ ns) (set-same_id xs i h k at same)
 
+  set-same_fuse : (hosts : List (Host D)) (i : ℕ) (h k : Host D) → slice_get hosts i ≡ Some h → f.fused (disk_in k) ≡ f.fused (disk_in h) → map f.fused (disks_of (slice_set hosts i k)) ≡ map f.fused (disks_of hosts)
+  set-same_fuse [] i h k at same = refl
+  set-same_fuse (x ∷ xs) zero h k at same = let first : x ≡ h = cc in ap (λ b. b ∷ map f.fused (disks_of xs)) (same ∙ ap (λ (y : Host D). f.fused (disk_in y)) (sym first))
+  set-same_fuse (x ∷ xs) (suc i) h k at same = ap (λ bs. f.fused (disk_in x) ∷ bs) (set-same_fuse xs i h k at same)
+
   -- one host made its calls
-  pub counted_one : {T : Type 0} (hosts : List (Host D)) (i : ℕ) (h k : Host D) (result : Result T WorldFault) → slice_get hosts i ≡ Some h → id_in k ≡ id_in h
-      → faults (disk_in h) ≤ faults (disk_in k) → ((id : ℕ) → IsErrOf result (Disk id) → (id_in h ≡ id) × Rose (faults (disk_in h)) (faults (disk_in k)))
-      → Counted faults hosts (slice_set hosts i k) result
-  counted_one hosts i h k result there same later cause = record {
+  pub counted_one : {T : Type 0} (hosts : List (Host D)) (i : ℕ) (h k : Host D) (result : Result T WorldFault) → slice_get hosts i ≡ Some h → id_in k ≡ id_in h → f.fused (disk_in k) ≡ f.fused (disk_in h)
+      → f.faults (disk_in h) ≤ f.faults (disk_in k) → ((id : ℕ) → IsErrOf result (Disk id) → (id_in h ≡ id) × Rose (f.faults (disk_in h)) (f.faults (disk_in k)))
+      → Counted f hosts (slice_set hosts i k) result
+  counted_one hosts i h k result there same fuse later cause = record {
     ids = set-same_id hosts i h k there same;
+    fuses = set-same_fuse hosts i h k there fuse;
     later = λ place x y before after. elim (set_where hosts i place k y after) [
       | inl stays ↦ same_count hosts place x y before stays
       | inr here ↦
           let is : h ≡ x = some_is (sym there ∙ ap (slice_get hosts) here.0 ∙ before) in
-          let first = ap (λ (z : Host D). faults (disk_in z)) is in
-          let last = ap (λ (z : Host D). faults (disk_in z)) here.1 in
+          let first = ap (λ (z : Host D). f.faults (disk_in z)) is in
+          let last = ap (λ (z : Host D). f.faults (disk_in z)) here.1 in
           omega (arith, later, first, last)
     ];
     cause = λ id is. record { place = i; host = h; now = k; there = there; stays = set-there hosts i k h there; named = (cause id is).0; rose = (cause id is).1 };
@@ -116,9 +123,10 @@ one_id xs ys ids place h k at also =
     cc
 
 -- calls after calls
-pub counted_then : {D S T : Type 0} (faults : D → ℕ) (xs ys zs : List (Host D)) (before : Result S WorldFault) (result : Result T WorldFault) → Counted faults xs ys before → Counted faults ys zs result → Counted faults xs zs result
-counted_then faults xs ys zs before result first next = record {
+pub counted_then : {D S T : Type 0} (f : Face D) (xs ys zs : List (Host D)) (before : Result S WorldFault) (result : Result T WorldFault) → Counted f xs ys before → Counted f ys zs result → Counted f xs zs result
+counted_then f xs ys zs before result first next = record {
   ids = next.ids ∙ first.ids;
+  fuses = next.fuses ∙ first.fuses;
   later = λ place h k at then.
       let mid = between xs ys first.ids place h at in
       let low = first.later place h mid.0 at mid.1 in
@@ -139,8 +147,8 @@ counted_then faults xs ys zs before result first next = record {
       };
 }
 
-pub counted_start : {D : Type 0} (faults : D → ℕ) (hosts : List (Host D)) → Counted {T = Unit {0}} faults hosts hosts (Ok tt)
-counted_start faults hosts = counted_same faults {T = Unit {0}} hosts (Ok tt) (λ id is. cc)
+pub counted_start : {D : Type 0} (f : Face D) (hosts : List (Host D)) → Counted {T = Unit {0}} f hosts hosts (Ok tt)
+counted_start f hosts = counted_same f {T = Unit {0}} hosts (Ok tt) (λ id is. cc)
 
 -- the journal of a host's peer is that of its place in a world
 pub journal_there : {D : Type 0} (w : World) (hosts : List (Host D)) (place : ℕ) (h : Host D) → peers_of hosts ≡ w.peers → slice_get hosts place ≡ Some h → journal_at place w ≡ h.peer.journal

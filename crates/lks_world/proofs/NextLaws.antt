@@ -1,156 +1,129 @@
 -- What comes next in the world of a state.
-use Rattle.std.proofs.Common.{◌≡◌, ◌<◌, ◌∙◌, ap, sym, ℕ, Bool, true, false, List, [], ◌∷◌, ◌++◌, length, refl, arith}
+use Rattle.std.proofs.Common.{◌≡◌, ◌<◌, ◌∙◌, ap, sym, subst, ℕ, true, false, List, [], ◌∷◌, length, refl, arith}
 use Rattle.std.specs.Prelude.{Option, Some, None, slice_get, option_map, nat_lt, if◌then◌else◌}
-use Rattle.std.specs.List.{flat_map}
 use Rattle.std.specs.Option.{option_map_or}
+use Rattle.lks_disk.specs.Face.{Face}
+use Rattle.lks_base.specs.declared.events.Due.{Due}
+use Rattle.lks_base.specs.declared.events.Due.TheVariants.{Delivery}
 use Rattle.lks_base.specs.declared.events.Event.{Event}
 use Rattle.lks_base.specs.declared.events.Event.TheVariants.{Step, Lose}
 use Rattle.lks_base.specs.declared.events.PeerStep.{PeerStep}
 use Rattle.lks_base.specs.declared.events.PeerStep.TheVariants.{Deliver}
 use Rattle.lks_base.specs.declared.names.Judged.{Judged}
 use Rattle.lks_base.specs.declared.plans.Plan.{Plan}
-use Rattle.lks_law.proofs.Histories.{waiting_stands}
-use Rattle.lks_law.specs.Due.{pending as waiting, ready, ready_at, turns, turns_at, judgement, first_work, first_of, first_delivery, first_loss, next_to_settle, next_to_deliver, next_to_lose, next_to_finish}
+use Rattle.lks_effort.specs.declared.questions.Question.{Question}
+use Rattle.lks_law.proofs.Happening.{delivery_may, deliver_may, settle_may, finish_may, lose_may}
+use Rattle.lks_law.specs.Due.{ready, turns, first_due, first_own, first_waiting, next_to_settle, next_to_deliver, next_to_lose, next_to_finish}
+use Rattle.lks_law.specs.Histories.{MayStep, MayHappen, WasSent}
+use Rattle.lks_law.specs.Questions.{Verdicts, judged, question_at, questions, delivery_of, event_of}
 use Rattle.lks_law.specs.World.{World, world}
-use Rattle.lks_world.specs.Follows.{kept, lost, delivered_again}
+use Rattle.lks_world.specs.Follows.{kept, next_event, lost, delivered_again}
 use Rattle.lks_world.specs.Hosts.{peers_of}
+use Rattle.lks_world.specs.declared.settling.Course.{Course}
+use Rattle.lks_world.specs.declared.settling.Course.TheVariants.{Settling, Delivering, Finishing}
 use Rattle.lks_world.specs.declared.states.State.{State}
-use Rattle.lks_world.specs.States.{world_in, events_in, IsStateOf, Becomes}
+use Rattle.lks_world.specs.States.{world_in, events_in, IsStateOf, Becomes, next_of, own_steps}
 
--- what is next by the list of the envelopes that wait
+first_is : (waiting : List ℕ) (steps : List PeerStep) (i : ℕ) → slice_get waiting 0 ≡ Some i → Some (Delivery i) ≡ first_due waiting steps
+first_is [] steps i e = absurd cc
+first_is (j ∷ js) steps i e = let same : j ≡ i = cc in ap (λ k. Some (Delivery k)) (sym same)
 
-by_first : (w : World) (is : List ℕ) (envelope : ℕ) → slice_get is 0 ≡ Some envelope → first_delivery w is ≡ Some (Step (Deliver envelope (judgement w envelope)))
-by_first w [] envelope e = absurd cc
-by_first w (i ∷ is) envelope e = let same : i ≡ envelope = cc in ap (λ j. Some (Step (Deliver j (judgement w j)))) same
+own_is : (waiting : List ℕ) (steps : List PeerStep) → slice_get waiting 0 ≡ None → first_own steps ≡ first_due waiting steps
+own_is [] steps e = refl
+own_is (j ∷ js) steps e = absurd cc
 
-by_none : (w : World) (is : List ℕ) → slice_get is 0 ≡ None → first_delivery w is ≡ None
-by_none w [] e = refl
-by_none w (i ∷ is) e = absurd cc
+waiting_is : (waiting : List ℕ) (i : ℕ) → slice_get waiting 0 ≡ Some i → Some i ≡ first_waiting waiting
+waiting_is [] i e = absurd cc
+waiting_is (j ∷ js) i e = let same : j ≡ i = cc in ap Some (sym same)
 
-first_lost : (is : List ℕ) (envelope : ℕ) → slice_get is 0 ≡ Some envelope → first_loss is ≡ Some (Lose envelope)
-first_lost [] envelope e = absurd cc
-first_lost (i ∷ is) envelope e = let same : i ≡ envelope = cc in ap (λ j. Some (Lose j)) same
+none_waits : (waiting : List ℕ) → slice_get waiting 0 ≡ None → None ≡ first_waiting waiting
+none_waits [] e = refl
+none_waits (j ∷ js) e = absurd cc
 
-none_lost : (is : List ℕ) → slice_get is 0 ≡ None → first_loss is ≡ None
-none_lost [] e = refl
-none_lost (i ∷ is) e = absurd cc
+module _ {D : Type 0} (f : Face D) (plan : Plan) (s : State D) (is : IsStateOf f plan s) where
+  course_is : (course : Course) → first_due s.pending.items (own_steps course (peers_of s.hosts.items)) ≡ next_of course plan (events_in s)
+  unfolding next_to_settle next_to_deliver next_to_finish ready turns
+  course_is Settling = λ i. first_due (is.pending i) (own_steps Settling (is.world i).peers)
+  course_is Delivering = λ i. first_due (is.pending i) []
+  course_is Finishing = λ i. first_due (is.pending i) (own_steps Finishing (is.world i).peers)
 
--- a delivery that is next is also what is next while a world settles, and without one it is the first ready work
+  pub delivers_first : (course : Course) (i : ℕ) → slice_get s.pending.items 0 ≡ Some i → Some (Delivery i) ≡ next_of course plan (events_in s)
+  delivers_first course i first = first_is s.pending.items (own_steps course (peers_of s.hosts.items)) i first ∙ course_is course
 
-first_also : (w : World) (is : List ℕ) (work : List PeerStep) (e : Event) → Some e ≡ first_delivery w is → Some e ≡ first_of w is work
-first_also w [] work e next = absurd cc
-first_also w (i ∷ is) work e next = next
+  pub own_first : (course : Course) → slice_get s.pending.items 0 ≡ None → first_own (own_steps course (peers_of s.hosts.items)) ≡ next_of course plan (events_in s)
+  own_first course none = own_is s.pending.items (own_steps course (peers_of s.hosts.items)) none ∙ course_is course
 
-work_else : (w : World) (is : List ℕ) (work : List PeerStep) → None ≡ first_delivery w is → first_work work ≡ first_of w is work
-work_else w [] work none = refl
-work_else w (i ∷ is) work none = absurd cc
+  -- what comes next on a course may happen
 
-pub due_first : (plan : Plan) (history : List Event) (e : Event) → Some e ≡ next_to_deliver plan history → Some e ≡ next_to_settle plan history
-unfolding next_to_deliver next_to_settle
-due_first plan history e next = first_also (world plan history) (waiting plan history) (ready (world plan history)) e next
+  course_may : (verdict : Verdicts) (course : Course) (d : Due) → next_of course plan (events_in s) ≡ Some d → MayHappen plan (world plan (events_in s)) (event_of verdict plan (events_in s) d)
+  course_may verdict Settling d next = settle_may verdict plan (events_in s) d next
+  course_may verdict Delivering d next = deliver_may verdict plan (events_in s) d next
+  course_may verdict Finishing d next = finish_may verdict plan (events_in s) d next
 
-due_later : (plan : Plan) (history : List Event) → None ≡ next_to_deliver plan history → first_work (ready (world plan history)) ≡ next_to_settle plan history
-unfolding next_to_deliver next_to_settle
-due_later plan history none = work_else (world plan history) (waiting plan history) (ready (world plan history)) none
+  pub next_may : (verdict : Verdicts) (course : Course) (d : Due) (p : PeerStep) → Some d ≡ next_of course plan (events_in s) → Step p ≡ event_of verdict plan (events_in s) d → MayStep plan (world_in s) p
+  next_may verdict course d p next made =
+      subst (λ w. MayHappen plan w (Step p)) (sym is.world)
+      (subst (MayHappen plan (world plan (events_in s))) (sym made) (course_may verdict course d (sym next)))
 
--- what is next while a world settles is also what is next until it is finished, and without it that is the first turn
+  pub next_is : (verdict : Verdicts) (course : Course) (d : Due) (p : PeerStep) → Some d ≡ next_of course plan (events_in s) → Step p ≡ event_of verdict plan (events_in s) d → Some (Step p) ≡ next_event verdict (next_of course) plan (events_in s)
+  next_is verdict course d p next made = ap Some made ∙ ap (option_map (event_of verdict plan (events_in s))) next
 
-work_also : (work turns : List PeerStep) (e : Event) → Some e ≡ first_work work → Some e ≡ first_work (work ++ turns)
-work_also [] turns e next = absurd cc
-work_also (x ∷ xs) turns e next = next
+  pub none_is : (verdict : Verdicts) (course : Course) → None ≡ next_of course plan (events_in s) → None ≡ next_event verdict (next_of course) plan (events_in s)
+  none_is verdict course none = ap (option_map (event_of verdict plan (events_in s))) none
 
-turn_else : (work turns : List PeerStep) → None ≡ first_work work → first_work turns ≡ first_work (work ++ turns)
-turn_else [] turns none = refl
-turn_else (x ∷ xs) turns none = absurd cc
+  -- a delivery is judged by the question that it puts
+  pub is_delivery : (verdict : Verdicts) (i : ℕ) (q : Option Question) (j : Judged) → q ≡ question_at (world_in s) i → ((before : List Question) → j ≡ judged verdict before q)
+      → Step (Deliver i j) ≡ delivery_of verdict plan (events_in s) i
+  is_delivery verdict i q j asked says =
+      ap (λ x. Step (Deliver i x)) (says (questions plan (events_in s)) ∙ ap (judged verdict (questions plan (events_in s))) (asked ∙ ap (λ w. question_at w i) is.world))
 
-first_settled : (w : World) (is : List ℕ) (work turns : List PeerStep) (e : Event) → Some e ≡ first_of w is work → Some e ≡ first_of w is (work ++ turns)
-first_settled w [] work turns e next = work_also work turns e next
-first_settled w (i ∷ is) work turns e next = next
-
-turn_settled : (w : World) (is : List ℕ) (work turns : List PeerStep) → None ≡ first_of w is work → first_work turns ≡ first_of w is (work ++ turns)
-turn_settled w [] work turns none = turn_else work turns none
-turn_settled w (i ∷ is) work turns none = absurd cc
-
-pub finish_first : (plan : Plan) (history : List Event) (e : Event) → Some e ≡ next_to_settle plan history → Some e ≡ next_to_finish plan history
-unfolding next_to_settle next_to_finish
-finish_first plan history e next =
-    let w = world plan history in first_settled w (waiting plan history) (ready w) (turns w) e next
-
-finish_later : (plan : Plan) (history : List Event) → None ≡ next_to_settle plan history → first_work (turns (world plan history)) ≡ next_to_finish plan history
-unfolding next_to_settle next_to_finish
-finish_later plan history none =
-    let w = world plan history in turn_settled w (waiting plan history) (ready w) (turns w) none
-
-waiting_first : (plan : Plan) (history : List Event) (i : ℕ) → slice_get (waiting plan history) 0 ≡ Some i → i < length (world plan history).bag
-waiting_first plan history i first = by_list (waiting plan history) refl first
-  where
-    by_list : (is : List ℕ) → waiting plan history ≡ is → slice_get is 0 ≡ Some i → i < length (world plan history).bag
-    by_list [] e first = absurd cc
-    by_list (j ∷ js) e first = let same : j ≡ i = cc in waiting_stands plan history i js (e ∙ ap (λ k. k ∷ js) same)
-
-module _ {D : Type 0} (seen : D → List ℕ) (may_leave : D → List ℕ → Type 0) (fused : D → Bool) where
-  lose_next : (plan : Plan) (s : State D) → IsStateOf seen may_leave fused plan s → first_loss s.pending.items ≡ next_to_lose plan (events_in s)
-  unfolding next_to_lose
-  lose_next plan s is = ap first_loss is.pending
-
-  pub delivers_first : (plan : Plan) (s : State D) (envelope : ℕ) (judged : Judged) → IsStateOf seen may_leave fused plan s → slice_get s.pending.items 0 ≡ Some envelope → judged ≡ judgement (world_in s) envelope → Some (Step (Deliver envelope judged)) ≡ next_to_deliver plan (events_in s)
-  unfolding next_to_deliver
-  delivers_first plan s envelope judged is first same =
-      ap (λ j. Some (Step (Deliver envelope j))) same
-      ∙ sym (by_first (world_in s) s.pending.items envelope first)
-      ∙ (λ i. first_delivery (is.world i) (is.pending i))
-
-  pub delivers_none : (plan : Plan) (s : State D) → IsStateOf seen may_leave fused plan s → slice_get s.pending.items 0 ≡ None → None ≡ next_to_deliver plan (events_in s)
-  unfolding next_to_deliver
-  delivers_none plan s is none = sym (by_none (world_in s) s.pending.items none) ∙ (λ i. first_delivery (is.world i) (is.pending i))
-
-  pub ready_next : (plan : Plan) (s : State D) (o : Option PeerStep) → IsStateOf seen may_leave fused plan s → None ≡ next_to_deliver plan (events_in s) → option_map Step o ≡ first_work (flat_map ready_at (peers_of s.hosts.items)) → option_map Step o ≡ next_to_settle plan (events_in s)
-  unfolding ready
-  ready_next plan s o is none first =
-      first ∙ ap (λ (w : World). first_work (flat_map ready_at w.peers)) is.world ∙ due_later plan (events_in s) none
-
-  pub turn_next : (plan : Plan) (s : State D) (o : Option PeerStep) → IsStateOf seen may_leave fused plan s → None ≡ next_to_settle plan (events_in s) → option_map Step o ≡ first_work (flat_map turns_at (peers_of s.hosts.items)) → option_map Step o ≡ next_to_finish plan (events_in s)
-  unfolding turns
-  turn_next plan s o is none first =
-      first ∙ ap (λ (w : World). first_work (flat_map turns_at w.peers)) is.world ∙ finish_later plan (events_in s) none
-
-  -- an envelope that waits first stands in the bag
-  pub first_stands : (plan : Plan) (s : State D) (envelope : ℕ) → IsStateOf seen may_leave fused plan s → slice_get s.pending.items 0 ≡ Some envelope → envelope < length s.bag.items
-  first_stands plan s envelope is first =
-      let stands = waiting_first plan (events_in s) envelope (ap (λ (is : List ℕ). slice_get is 0) (sym is.pending) ∙ first) in
+  pub sent_may : (verdict : Verdicts) (i : ℕ) (p : PeerStep) → i < length s.bag.items → Step p ≡ delivery_of verdict plan (events_in s) i → MayStep plan (world_in s) p
+  sent_may verdict i p sent made =
       let size = ap (λ (w : World). length w.bag) is.world in
-      omega (arith, stands, size)
+      subst (λ w. MayHappen plan w (Step p)) (sym is.world)
+      (subst (MayHappen plan (world plan (events_in s))) (sym made) (delivery_may verdict plan (events_in s) i (omega (arith, sent, size))))
 
   -- what is lost, and what is delivered again
 
-  pub is_lost : (plan : Plan) (s t : State D) (envelope : ℕ) → IsStateOf seen may_leave fused plan s → slice_get s.pending.items 0 ≡ Some envelope → Becomes seen may_leave fused plan (kept (events_in s) (Lose envelope)) t → Becomes seen may_leave fused plan (lost plan (events_in s)) t
-  unfolding lost
-  is_lost plan s t envelope is first b =
-      let next = sym (first_lost s.pending.items envelope first) ∙ lose_next plan s is in
-      record { state = b.state; events = b.events ∙ ap (λ o. option_map_or (kept (events_in s)) o (events_in s)) next }
+  pub first_sent : (i : ℕ) → slice_get s.pending.items 0 ≡ Some i → WasSent (world_in s) i
+  unfolding next_to_lose
+  first_sent i first =
+      let size = ap (λ (w : World). length w.bag) is.world in
+      let sent = lose_may verdict_any plan (events_in s) i (sym (waiting_is s.pending.items i first ∙ ap first_waiting is.pending)) in
+      omega (arith, sent, size)
+    where
+      verdict_any : Verdicts
+      verdict_any before q = true
 
-  pub nothing_lost : (plan : Plan) (s : State D) → IsStateOf seen may_leave fused plan s → slice_get s.pending.items 0 ≡ None → Becomes seen may_leave fused plan (lost plan (events_in s)) s
-  unfolding lost
-  nothing_lost plan s is none =
-      let next = sym (none_lost s.pending.items none) ∙ lose_next plan s is in
-      record { state = is; events = ap (λ o. option_map_or (kept (events_in s)) o (events_in s)) next }
+  pub is_lost : (t : State D) (i : ℕ) → slice_get s.pending.items 0 ≡ Some i → Becomes f plan (kept (events_in s) (Lose i)) t → Becomes f plan (lost plan (events_in s)) t
+  unfolding lost next_to_lose
+  is_lost t i first b =
+      let next = waiting_is s.pending.items i first ∙ ap first_waiting is.pending in
+      record { state = b.state; events = b.events ∙ ap (λ o. option_map_or (λ k. kept (events_in s) (Lose k)) o (events_in s)) next }
 
-  abbrev again_in : ℕ → List Event → World → List Event
-  again_in i history w = if nat_lt i (length w.bag) then kept history (Step (Deliver i (judgement w i))) else history
+  pub nothing_lost : slice_get s.pending.items 0 ≡ None → Becomes f plan (lost plan (events_in s)) s
+  unfolding lost next_to_lose
+  nothing_lost none =
+      let next = none_waits s.pending.items none ∙ ap first_waiting is.pending in
+      record { state = is; events = ap (λ o. option_map_or (λ k. kept (events_in s) (Lose k)) o (events_in s)) next }
 
-  again_is : (plan : Plan) (s : State D) (i : ℕ) → IsStateOf seen may_leave fused plan s → again_in i (events_in s) (world_in s) ≡ delivered_again i plan (events_in s)
+  abbrev again_in : Verdicts → ℕ → World → List Event
+  again_in verdict i w = if nat_lt i (length w.bag) then kept (events_in s) (delivery_of verdict plan (events_in s) i) else events_in s
+
+  again_is : (verdict : Verdicts) (i : ℕ) → again_in verdict i (world_in s) ≡ delivered_again verdict i plan (events_in s)
   unfolding delivered_again
-  again_is plan s i is = ap (again_in i (events_in s)) is.world
+  again_is verdict i = ap (again_in verdict i) is.world
 
-  pub is_again : (plan : Plan) (s t : State D) (i : ℕ) (judged : Judged) → IsStateOf seen may_leave fused plan s → nat_lt i (length s.bag.items) ≡ true → judged ≡ judgement (world_in s) i → Becomes seen may_leave fused plan (kept (events_in s) (Step (Deliver i judged))) t → Becomes seen may_leave fused plan (delivered_again i plan (events_in s)) t
-  is_again plan s t i judged is stands same b =
-      let here : kept (events_in s) (Step (Deliver i judged)) ≡ again_in i (events_in s) (world_in s) =
-      ap (λ j. kept (events_in s) (Step (Deliver i j))) same
-      ∙ ap (λ c. if c then kept (events_in s) (Step (Deliver i (judgement (world_in s) i))) else events_in s) (sym stands) in
-      record { state = b.state; events = b.events ∙ here ∙ again_is plan s i is }
+  pub is_again : (verdict : Verdicts) (t : State D) (i : ℕ) (p : PeerStep) → nat_lt i (length s.bag.items) ≡ true → Step p ≡ delivery_of verdict plan (events_in s) i → Becomes f plan (kept (events_in s) (Step p)) t
+      → Becomes f plan (delivered_again verdict i plan (events_in s)) t
+  is_again verdict t i p stands made b =
+      let here : kept (events_in s) (Step p) ≡ again_in verdict i (world_in s) =
+      ap (kept (events_in s)) made
+      ∙ ap (λ c. if c then kept (events_in s) (delivery_of verdict plan (events_in s) i) else events_in s) (sym stands) in
+      record { state = b.state; events = b.events ∙ here ∙ again_is verdict i }
 
-  pub never_sent : (plan : Plan) (s : State D) (i : ℕ) → IsStateOf seen may_leave fused plan s → nat_lt i (length s.bag.items) ≡ false → Becomes seen may_leave fused plan (delivered_again i plan (events_in s)) s
-  never_sent plan s i is beyond =
-      let here : events_in s ≡ again_in i (events_in s) (world_in s) =
-      ap (λ c. if c then kept (events_in s) (Step (Deliver i (judgement (world_in s) i))) else events_in s) (sym beyond) in
-      record { state = is; events = here ∙ again_is plan s i is }
+  pub never_sent : (verdict : Verdicts) (i : ℕ) → nat_lt i (length s.bag.items) ≡ false → Becomes f plan (delivered_again verdict i plan (events_in s)) s
+  never_sent verdict i beyond =
+      let here : events_in s ≡ again_in verdict i (world_in s) =
+      ap (λ c. if c then kept (events_in s) (delivery_of verdict plan (events_in s) i) else events_in s) (sym beyond) in
+      record { state = is; events = here ∙ again_is verdict i }

@@ -8,8 +8,7 @@ use Rattle.std.proofs.lemmas.Option.{slice_get-get_or}
 use Rattle.lks_base.specs.declared.records.Record.{Record}
 use Rattle.lks_host.specs.declared.hosts.Host.{Host}
 use Rattle.lks_law.specs.World.{Standing, peer_at, with_records}
-use Rattle.lks_world.specs.Hosts.{peer_in, peers_of}
-use Rattle.lks_world.specs.Places.{with_added, StandsAt}
+use Rattle.lks_world.specs.Hosts.{peer_in, peers_of, with_added, StandsAt}
 
 set-parts : {X : Type 0} (xs : List X) (i : ℕ) (y : X) → i < length xs → slice_set xs i y ≡ take i xs ++ y ∷ drop (i + 1) xs
 set-parts xs i y within =

@@ -3,6 +3,7 @@ use Rattle.std.proofs.Common.{◌≡◌, ◌≤◌, ◌+◌, ◌∙◌, ap, sym,
 use Rattle.std.specs.Prelude.{Option, Some, None, map, filter, slice_get, option_map, Result, Ok, Err, IsErrOf}
 use Rattle.std.proofs.lemmas.List.{length-map}
 use Rattle.std.proofs.lemmas.Option.{slice_get-map}
+use Rattle.lks_disk.specs.Face.{Face}
 use Rattle.lks_base.specs.declared.plans.PeerPlan.{PeerPlan}
 use Rattle.lks_base.specs.declared.plans.Plan.{Plan}
 use Rattle.lks_host.specs.declared.hosts.Host.{Host}
@@ -22,12 +23,12 @@ some_is : {X : Type 0} {x y : X} → Some x ≡ Some y → x ≡ y
 some_is e = cc
 
 -- the disks of honest peers are fresh where all are
-pub fresh_honest : {D : Type 0} (seen : D → List ℕ) (may_leave : D → List ℕ → Type 0) (fused : D → Bool) (peers : List PeerPlan) (disks : List D) → AreFresh seen may_leave fused disks → AreFresh seen may_leave fused (honest_disks peers disks)
-fresh_honest seen may_leave fused [] disks fresh place d at = absurd cc
-fresh_honest seen may_leave fused (p ∷ ps) [] fresh place d at = absurd cc
-fresh_honest seen may_leave fused (p ∷ ps) (x ∷ xs) fresh place d at = by_peer p.corrupt place at (fresh_honest seen may_leave fused ps xs (λ i e is. fresh (suc i) e is))
+pub fresh_honest : {D : Type 0} (f : Face D) (peers : List PeerPlan) (disks : List D) → AreFresh f disks → AreFresh f (honest_disks peers disks)
+fresh_honest f [] disks fresh place d at = absurd cc
+fresh_honest f (p ∷ ps) [] fresh place d at = absurd cc
+fresh_honest f (p ∷ ps) (x ∷ xs) fresh place d at = by_peer p.corrupt place at (fresh_honest f ps xs (λ i e is. fresh (suc i) e is))
   where
-    by_peer : (b : Bool) (place : ℕ) → slice_get (cond b (honest_disks ps xs) (x ∷ honest_disks ps xs)) place ≡ Some d → AreFresh seen may_leave fused (honest_disks ps xs) → IsFresh seen may_leave fused d
+    by_peer : (b : Bool) (place : ℕ) → slice_get (cond b (honest_disks ps xs) (x ∷ honest_disks ps xs)) place ≡ Some d → AreFresh f (honest_disks ps xs) → IsFresh f d
     by_peer true place at later = later place d at
     by_peer false zero at later = fresh 0 d at
     by_peer false (suc place) at later = later place d at
@@ -54,15 +55,16 @@ blames id (Ok x) is = absurd cc
 blames id (Err fault) is = ap Err (some_is is)
 
 -- what happened to the hosts happened to their disks
-pub disks_counted : {D T : Type 0} (faults : D → ℕ) (hosts after : List (Host D)) (result : Result T WorldFault) → Counted faults hosts after result → AreCounted faults (ids_of hosts) (disks_of hosts) (disks_of after) (fault_in result)
-disks_counted faults hosts after result counted = record {
+pub disks_counted : {D T : Type 0} (f : Face D) (hosts after : List (Host D)) (result : Result T WorldFault) → Counted f hosts after result → AreCounted f (ids_of hosts) (disks_of hosts) (disks_of after) (fault_in result)
+disks_counted f hosts after result counted = record {
   count = length-map after disk_in ∙ sym (length-map after id_in) ∙ ap length counted.ids ∙ length-map hosts id_in ∙ sym (length-map hosts disk_in);
+  fuses = counted.fuses;
   later = λ place d e at also.
       let old = disk_of hosts place d at in
       let new = disk_of after place e also in
       let le = counted.later place old.host new.host old.there new.there in
-      let low = ap faults old.is in
-      let high = ap faults new.is in
+      let low = ap f.faults old.is in
+      let high = ap f.faults new.is in
       omega (arith, le, low, high);
   cause = λ id is.
       let rose = counted.cause id (blames id result is) in
@@ -77,9 +79,9 @@ disks_counted faults hosts after result counted = record {
       };
 }
 
-module _ {D : Type 0} (faults : D → ℕ) (peers : List PeerPlan) where
-  pub serves : (honest honest_after corrupt rest : List D) (fault : Option WorldFault) → length honest ≡ count_honest peers → length corrupt ≡ count_corrupt peers → AreCounted faults (honest_ids peers) honest honest_after fault
-      → ServesHonest faults peers (served peers honest corrupt ++ rest) (served peers honest_after corrupt ++ rest) fault
+module _ {D : Type 0} (f : Face D) (peers : List PeerPlan) where
+  pub serves : (honest honest_after corrupt rest : List D) (fault : Option WorldFault) → length honest ≡ count_honest peers → length corrupt ≡ count_corrupt peers → AreCounted f (honest_ids peers) honest honest_after fault
+      → ServesHonest f peers (served peers honest corrupt ++ rest) (served peers honest_after corrupt ++ rest) fault
   serves honest honest_after corrupt rest fault enough others counted =
       let still = counted.count ∙ enough in
       record {
@@ -89,51 +91,51 @@ module _ {D : Type 0} (faults : D → ℕ) (peers : List PeerPlan) where
         corrupt = corrupt_back peers honest_after corrupt rest still others ∙ sym (corrupt_back peers honest corrupt rest enough others);
         rest = rest_back peers honest_after corrupt rest still others ∙ sym (rest_back peers honest corrupt rest enough others);
         honest =
-            subst (λ ds. AreCounted faults (honest_ids peers) ds (honest_disks peers (served peers honest_after corrupt ++ rest)) fault) (sym (honest_back peers honest corrupt rest enough others))
-            (subst (λ ds. AreCounted faults (honest_ids peers) honest ds fault) (sym (honest_back peers honest_after corrupt rest still others)) counted);
+            subst (λ ds. AreCounted f (honest_ids peers) ds (honest_disks peers (served peers honest_after corrupt ++ rest)) fault) (sym (honest_back peers honest corrupt rest enough others))
+            (subst (λ ds. AreCounted f (honest_ids peers) honest ds fault) (sym (honest_back peers honest_after corrupt rest still others)) counted);
       }
 
   -- from disks that were handed in
-  pub serves_first : (disks honest_after : List D) (fault : Option WorldFault) → length peers ≤ length disks → AreCounted faults (honest_ids peers) (honest_disks peers disks) honest_after fault
-      → ServesHonest faults peers disks (served peers honest_after (corrupt_disks peers disks) ++ drop (length peers) disks) fault
+  pub serves_first : (disks honest_after : List D) (fault : Option WorldFault) → length peers ≤ length disks → AreCounted f (honest_ids peers) (honest_disks peers disks) honest_after fault
+      → ServesHonest f peers disks (served peers honest_after (corrupt_disks peers disks) ++ drop (length peers) disks) fault
   serves_first disks honest_after fault enough counted =
-      subst (λ ds. ServesHonest faults peers ds (served peers honest_after (corrupt_disks peers disks) ++ drop (length peers) disks) fault) (split_joined peers disks enough)
+      subst (λ ds. ServesHonest f peers ds (served peers honest_after (corrupt_disks peers disks) ++ drop (length peers) disks) fault) (split_joined peers disks enough)
       (serves (honest_disks peers disks) honest_after (corrupt_disks peers disks) (drop (length peers) disks) fault (honest_length peers disks enough) (corrupt_length peers disks enough) counted)
 
   -- calls after calls
-  pub serves_then : (xs ys zs : List D) (fault : Option WorldFault) → ServesHonest faults peers xs ys None → ServesHonest faults peers ys zs fault → ServesHonest faults peers xs zs fault
+  pub serves_then : (xs ys zs : List D) (fault : Option WorldFault) → ServesHonest f peers xs ys None → ServesHonest f peers ys zs fault → ServesHonest f peers xs zs fault
   serves_then xs ys zs fault first next = record {
     count = next.count ∙ first.count;
     corrupt = next.corrupt ∙ first.corrupt;
     rest = next.rest ∙ first.rest;
-    honest = are_counted_then faults (honest_ids peers) (honest_disks peers xs) (honest_disks peers ys) (honest_disks peers zs) fault first.honest next.honest;
+    honest = are_counted_then f (honest_ids peers) (honest_disks peers xs) (honest_disks peers ys) (honest_disks peers zs) fault first.honest next.honest;
   }
 
   -- no call
-  pub serves_none : (disks : List D) (fault : Option WorldFault) → ((id : ℕ) → fault ≡ Some (Disk id) → ⊥) → ServesHonest faults peers disks disks fault
-  serves_none disks fault none = record { count = refl; corrupt = refl; rest = refl; honest = untouched faults (honest_ids peers) (honest_disks peers disks) fault none }
+  pub serves_none : (disks : List D) (fault : Option WorldFault) → ((id : ℕ) → fault ≡ Some (Disk id) → ⊥) → ServesHonest f peers disks disks fault
+  serves_none disks fault none = record { count = refl; corrupt = refl; rest = refl; honest = untouched f (honest_ids peers) (honest_disks peers disks) fault none }
 
 -- the disks hold what their hosts stand for
-pub disks_hold : {D : Type 0} (seen : D → List ℕ) (may_leave : D → List ℕ → Type 0) (fused : D → Bool) (plan : Plan) (s : State D) (corrupt rest : List D) → IsStateOf seen may_leave fused plan s → ids_of s.hosts.items ≡ honest_ids plan.peers → length corrupt ≡ count_corrupt plan.peers
-    → HaveBatches seen may_leave plan (events_in s) (served plan.peers (disks_of s.hosts.items) corrupt ++ rest)
-disks_hold {D = D} seen may_leave fused plan s corrupt rest is ids others place disk at =
+pub disks_hold : {D : Type 0} (f : Face D) (plan : Plan) (s : State D) (corrupt rest : List D) → IsStateOf f plan s → ids_of s.hosts.items ≡ honest_ids plan.peers → length corrupt ≡ count_corrupt plan.peers
+    → HaveBatches f plan (events_in s) (served plan.peers (disks_of s.hosts.items) corrupt ++ rest)
+disks_hold {D = D} f plan s corrupt rest is ids others place disk at =
     let back = honest_back plan.peers (disks_of s.hosts.items) corrupt rest (hosts_enough plan.peers s.hosts.items ids) others in
     let there : option_map disk_in (slice_get s.hosts.items place) ≡ Some disk = sym (slice_get-map disk_in s.hosts.items place) ∙ ap (λ ds. slice_get ds place) (sym back) ∙ at in
     by_host (slice_get s.hosts.items place) refl there
   where
-    by_host : (o : Option (Host D)) → slice_get s.hosts.items place ≡ o → option_map disk_in o ≡ Some disk → HoldsBatches seen may_leave plan (events_in s) place disk
+    by_host : (o : Option (Host D)) → slice_get s.hosts.items place ≡ o → option_map disk_in o ≡ Some disk → HoldsBatches f plan (events_in s) place disk
     by_host None e there = absurd cc
     by_host (Some h) e there =
         let host = is.hosts place h e in
         let same : disk_in h ≡ disk = some_is there in
-        subst (HoldsBatches seen may_leave plan (events_in s) place) same (record { holds = host.stands.disk.holds; durable = host.stands.disk.durable })
+        subst (HoldsBatches f plan (events_in s) place) same (record { holds = host.stands.disk.holds; durable = host.stands.disk.durable })
 
 -- one step of a script
-pub serves_step : {D T : Type 0} (faults : D → ℕ) (peers : List PeerPlan) (hosts after : List (Host D)) (corrupt rest : List D) (result : Result T WorldFault) → ids_of hosts ≡ honest_ids peers → length corrupt ≡ count_corrupt peers → Counted faults hosts after result
-    → ServesHonest faults peers (served peers (disks_of hosts) corrupt ++ rest) (served peers (disks_of after) corrupt ++ rest) (fault_in result)
-serves_step faults peers hosts after corrupt rest result ids others counted =
-    serves faults peers (disks_of hosts) (disks_of after) corrupt rest (fault_in result) (hosts_enough peers hosts ids) others
-    (subst (λ ns. AreCounted faults ns (disks_of hosts) (disks_of after) (fault_in result)) ids (disks_counted faults hosts after result counted))
+pub serves_step : {D T : Type 0} (f : Face D) (peers : List PeerPlan) (hosts after : List (Host D)) (corrupt rest : List D) (result : Result T WorldFault) → ids_of hosts ≡ honest_ids peers → length corrupt ≡ count_corrupt peers → Counted f hosts after result
+    → ServesHonest f peers (served peers (disks_of hosts) corrupt ++ rest) (served peers (disks_of after) corrupt ++ rest) (fault_in result)
+serves_step f peers hosts after corrupt rest result ids others counted =
+    serves f peers (disks_of hosts) (disks_of after) corrupt rest (fault_in result) (hosts_enough peers hosts ids) others
+    (subst (λ ns. AreCounted f ns (disks_of hosts) (disks_of after) (fault_in result)) ids (disks_counted f hosts after result counted))
 
 -- hosts of a plan's honest peers have their numbers
 pub ids_begun : {D : Type 0} (plan : Plan) (hosts : List (Host D)) → peers_of hosts ≡ map (standing_of plan) (filter is_honest plan.peers) → ids_of hosts ≡ honest_ids plan.peers

@@ -1,16 +1,18 @@
 -- The state is that of the kept events after each event.
-use Rattle.std.proofs.Common.{◌≡◌, ◌+◌, ◌≤◌, ◌<◌, ◌==◌, ◌∙◌, ap, sym, subst, ℕ, Bool, true, false, List, [], ◌∷◌, ◌++◌, length, drop, refl, arith, length-append}
+use Rattle.std.proofs.Common.{◌≡◌, ◌+◌, ◌≤◌, ◌<◌, ◌==◌, ◌∙◌, ap, sym, subst, ℕ, true, false, List, [], ◌∷◌, ◌++◌, length, drop, refl, arith, length-append}
 use Rattle.std.specs.Prelude.{Some, slice_get, not, filter, map}
 use Rattle.lks_world.proofs.HostLaws.{stayed, journal_there}
 use Rattle.lks_world.specs.Hosts.{HaveGoneOn, IsHostAt}
 use Rattle.std.specs.List.{range_with_len}
 use Rattle.std.proofs.lemmas.Bool.Decides.{nat_tests}
 use Rattle.std.proofs.lemmas.List.{length-map, map-append, append-nil}
+use Rattle.lks_disk.specs.Face.{Face}
 use Rattle.lks_base.specs.declared.entries.Entry.{Entry}
 use Rattle.lks_base.specs.declared.events.Event.{Event}
 use Rattle.lks_base.specs.declared.events.Event.TheVariants.{Step, Tick, Lose, Forge}
 use Rattle.lks_base.specs.declared.events.PeerStep.{PeerStep}
 use Rattle.lks_base.specs.declared.events.PeerStep.TheVariants.{Deliver}
+use Rattle.lks_base.specs.declared.limits.TheConstants.{MOST_EVENTS, MOST_TICKS}
 use Rattle.lks_base.specs.declared.plans.Plan.{Plan}
 use Rattle.lks_host.specs.Hosted.{StandsFor}
 use Rattle.lks_host.specs.declared.hosts.Host.{Host}
@@ -19,9 +21,11 @@ use Rattle.lks_law.proofs.Histories.{world_more, entries_more, entry_event, pend
 use Rattle.lks_law.specs.Batches.{with_batch, journal_at, batches_at}
 use Rattle.lks_law.specs.Due.{takes_out, is_pending, pending}
 use Rattle.lks_law.specs.Entries.{entry_of, entries}
+use Rattle.lks_law.proofs.Happening.{history_more}
+use Rattle.lks_law.specs.Histories.{IsHistory, MayStep, MayForge, MayHappen}
 use Rattle.lks_law.specs.World.{World, world, happens, after_step, sent, effect_of, deed_of, sent_by, actor_of}
 use Rattle.lks_world.specs.declared.states.State.{State}
-use Rattle.lks_world.specs.States.{left_after, world_in, sends_in, events_in, IsStateOf, Becomes, DeliversBelow}
+use Rattle.lks_world.specs.States.{left_after, world_in, sends_in, events_in, IsStateOf, Becomes}
 
 left_by : (p : PeerStep) (waiting : List ℕ) → left_after p waiting ≡ filter (λ i. not (takes_out i (Step p))) waiting
 left_by (Deliver envelope judged) waiting = refl
@@ -30,9 +34,9 @@ left_by p waiting = sym (pass_true waiting)
 not_same : (i e n : ℕ) → e < n → n ≤ i → (i == e) ≡ false
 not_same i e n lt le = grind (arith, nat_tests)
 
-untouched_by : (p : PeerStep) (n : ℕ) → DeliversBelow n p → (i : ℕ) → n ≤ i → takes_out i (Step p) ≡ false
-untouched_by (Deliver envelope judged) n known i le = not_same i envelope n known le
-untouched_by p n known i le = refl
+untouched_by : (plan : Plan) (w : World) (p : PeerStep) → MayStep plan w p → (i : ℕ) → length w.bag ≤ i → takes_out i (Step p) ≡ false
+untouched_by plan w (Deliver envelope judged) may i le = not_same i envelope (length w.bag) may.0 le
+untouched_by plan w p may i le = refl
 
 grown_by : (w : World) (p : PeerStep) → length (happens w (Step p)).bag ≡ length w.bag + sends_in w p
 unfolding happens after_step sends_in
@@ -64,7 +68,7 @@ unchanged : (w : World) (envelope : ℕ) → happens w (Lose envelope) ≡ w
 unfolding happens
 unchanged w envelope = refl
 
-module _ {D : Type 0} (seen : D → List ℕ) (may_leave : D → List ℕ → Type 0) (fused : D → Bool) where
+module _ {D : Type 0} (f : Face D) where
   -- an event that put k envelopes into the bag
   record Happened (s t : State D) (e : Event) (k : ℕ) : Type 0 where
     world : world_in t ≡ happens (world_in s) e
@@ -72,8 +76,8 @@ module _ {D : Type 0} (seen : D → List ℕ) (may_leave : D → List ℕ → Ty
     pending : t.pending.items ≡ filter (λ i. not (takes_out i e)) s.pending.items ++ range_with_len (length s.bag.items) k
     grown : length t.bag.items ≡ length s.bag.items + k
     untouched : (i : ℕ) → length s.bag.items ≤ i → takes_out i e ≡ false
-    clock : t.tick ≤ s.tick + 1000000
-    on : HaveGoneOn seen may_leave fused s.hosts.items t.hosts.items
+    clock : t.tick ≤ s.tick + MOST_TICKS
+    on : HaveGoneOn f s.hosts.items t.hosts.items
 
   more_events : (s t : State D) (e : Event) → t.history.items ≡ s.history.items ++ entry_of (world_in s) e ∷ [] → events_in t ≡ events_in s ++ e ∷ []
   more_events s t e history =
@@ -83,8 +87,8 @@ module _ {D : Type 0} (seen : D → List ℕ) (may_leave : D → List ℕ → Ty
   one_more : (s t : State D) (e : Event) → t.history.items ≡ s.history.items ++ entry_of (world_in s) e ∷ [] → length t.history.items ≡ length s.history.items + 1
   one_more s t e history = ap length history ∙ length-append s.history.items (entry_of (world_in s) e ∷ [])
 
-  host_after : (plan : Plan) (s t : State D) (e : Event) {k : ℕ} → IsStateOf seen may_leave fused plan s → Happened s t e k → events_in t ≡ events_in s ++ e ∷ [] → world_in t ≡ world plan (events_in s ++ e ∷ [])
-      → (place : ℕ) (k : Host D) → slice_get t.hosts.items place ≡ Some k → IsHostAt seen may_leave fused (batches_at place plan (events_in t)) (length t.history.items) k
+  host_after : (plan : Plan) (s t : State D) (e : Event) {k : ℕ} → IsStateOf f plan s → Happened s t e k → events_in t ≡ events_in s ++ e ∷ [] → world_in t ≡ world plan (events_in s ++ e ∷ [])
+      → (place : ℕ) (k : Host D) → slice_get t.hosts.items place ≡ Some k → IsHostAt f (batches_at place plan (events_in t)) (length t.history.items) k
   host_after plan s t e is happened events worlds place k at =
       let went = happened.on place k at in
       let before = is.hosts place went.host went.there in
@@ -96,14 +100,14 @@ module _ {D : Type 0} (seen : D → List ℕ) (may_leave : D → List ℕ → Ty
       ∙ sym (batches_more place plan (events_in s) e) ∙ ap (batches_at place plan) (sym events) in
       let one = one_more s t e happened.history in
       record {
-        stands = subst (StandsFor seen may_leave k) batches (went.on.stands (batches_at place plan (events_in s)) before.stands);
+        stands = subst (StandsFor f k) batches (went.on.stands (batches_at place plan (events_in s)) before.stands);
         whole = went.on.whole before.whole;
         room = omega (arith, went.on.room, before.room, one);
         unfused = went.on.unfused ∙ before.unfused;
       }
 
-  kept : (plan : Plan) (s t : State D) (e : Event) (k : ℕ) → IsStateOf seen may_leave fused plan s → Happened s t e k → IsStateOf seen may_leave fused plan t
-  kept plan s t e k is h =
+  kept : (plan : Plan) (s t : State D) (e : Event) (k : ℕ) → IsStateOf f plan s → length (events_in s) < MOST_EVENTS → MayHappen plan (world_in s) e → Happened s t e k → IsStateOf f plan t
+  kept plan s t e k is room may h =
       let events = more_events s t e h.history in
       let one = one_more s t e h.history in
       let size : length s.bag.items ≡ length (world plan (events_in s)).bag = ap (λ (w : World). length w.bag) is.world in
@@ -112,7 +116,9 @@ module _ {D : Type 0} (seen : D → List ℕ) (may_leave : D → List ℕ → Ty
       sym (ap (λ (w : World). length w.bag) worlds) ∙ h.grown ∙ ap (λ n. n + k) size in
       let fresh : (i : ℕ) → length (world plan (events_in s)).bag ≤ i → is_pending (events_in s) i ≡ true = λ i le. is.fresh i (omega (arith, size)) in
       let untouched : (i : ℕ) → length (world plan (events_in s)).bag ≤ i → takes_out i e ≡ false = λ i le. h.untouched i (omega (arith, size)) in
+      let here = subst (λ w. MayHappen plan w e) is.world may in
       record {
+        happened = subst (IsHistory plan) (sym events) (history_more plan (events_in s) e is.happened room here);
         world = worlds ∙ ap (world plan) (sym events);
         entries =
             h.history ∙ ap (λ es. es ++ entry_of (world_in s) e ∷ []) is.entries ∙ ap (λ w. entries plan (events_in s) ++ entry_of w e ∷ []) is.world
@@ -128,27 +134,27 @@ module _ {D : Type 0} (seen : D → List ℕ) (may_leave : D → List ℕ → Ty
             ∙ fresh_more (events_in s) e (length s.bag.items) (length t.bag.items) (omega (arith, h.grown)) is.fresh h.untouched i le;
       }
 
-  became : (plan : Plan) (s t : State D) (e : Event) (k : ℕ) → IsStateOf seen may_leave fused plan s → Happened s t e k → Becomes seen may_leave fused plan (events_in s ++ e ∷ []) t
-  became plan s t e k is h = record { state = kept plan s t e k is h; events = more_events s t e h.history }
+  became : (plan : Plan) (s t : State D) (e : Event) (k : ℕ) → IsStateOf f plan s → length (events_in s) < MOST_EVENTS → MayHappen plan (world_in s) e → Happened s t e k → Becomes f plan (events_in s ++ e ∷ []) t
+  became plan s t e k is room may h = record { state = kept plan s t e k is room may h; events = more_events s t e h.history }
 
-  same_hosts : (s t : State D) → t.hosts.items ≡ s.hosts.items → HaveGoneOn seen may_leave fused s.hosts.items t.hosts.items
-  same_hosts s t hosts = subst (HaveGoneOn seen may_leave fused s.hosts.items) (sym hosts) (stayed seen may_leave fused s.hosts.items)
+  same_hosts : (s t : State D) → t.hosts.items ≡ s.hosts.items → HaveGoneOn f s.hosts.items t.hosts.items
+  same_hosts s t hosts = subst (HaveGoneOn f s.hosts.items) (sym hosts) (stayed f s.hosts.items)
 
-  pub became_step : (plan : Plan) (s t : State D) (p : PeerStep) → IsStateOf seen may_leave fused plan s → DeliversBelow (length s.bag.items) p → world_in t ≡ happens (world_in s) (Step p) → t.history.items ≡ s.history.items ++ entry_of (world_in s) (Step p) ∷ [] → t.pending.items ≡ left_after p s.pending.items ++ range_with_len (length s.bag.items) (sends_in (world_in s) p) → HaveGoneOn seen may_leave fused s.hosts.items t.hosts.items → Becomes seen may_leave fused plan (events_in s ++ Step p ∷ []) t
-  became_step plan s t p is known world history pending on =
-      became plan s t (Step p) (sends_in (world_in s) p) is (record {
+  pub became_step : (plan : Plan) (s t : State D) (p : PeerStep) → IsStateOf f plan s → length (events_in s) < MOST_EVENTS → MayStep plan (world_in s) p → world_in t ≡ happens (world_in s) (Step p) → t.history.items ≡ s.history.items ++ entry_of (world_in s) (Step p) ∷ [] → t.pending.items ≡ left_after p s.pending.items ++ range_with_len (length s.bag.items) (sends_in (world_in s) p) → HaveGoneOn f s.hosts.items t.hosts.items → Becomes f plan (events_in s ++ Step p ∷ []) t
+  became_step plan s t p is room may world history pending on =
+      became plan s t (Step p) (sends_in (world_in s) p) is room may (record {
         world = world;
         history = history;
         pending = pending ∙ ap (λ is. is ++ range_with_len (length s.bag.items) (sends_in (world_in s) p)) (left_by p s.pending.items);
         grown = ap (λ (w : World). length w.bag) world ∙ grown_by (world_in s) p;
-        untouched = untouched_by p (length s.bag.items) known;
+        untouched = untouched_by plan (world_in s) p may;
         clock = let same = ap (λ (w : World). w.tick) world ∙ same_tick (world_in s) p in omega (arith, same);
         on = on;
       })
 
-  pub became_forge : (plan : Plan) (s t : State D) (from to : ℕ) (bytes : List ℕ) → IsStateOf seen may_leave fused plan s → world_in t ≡ happens (world_in s) (Forge from to bytes) → t.history.items ≡ s.history.items ++ entry_of (world_in s) (Forge from to bytes) ∷ [] → t.pending.items ≡ s.pending.items ++ length s.bag.items ∷ [] → t.hosts.items ≡ s.hosts.items → Becomes seen may_leave fused plan (events_in s ++ Forge from to bytes ∷ []) t
-  became_forge plan s t from to bytes is world history pending hosts =
-      became plan s t (Forge from to bytes) 1 is (record {
+  pub became_forge : (plan : Plan) (s t : State D) (from to : ℕ) (bytes : List ℕ) → IsStateOf f plan s → length (events_in s) < MOST_EVENTS → MayForge plan from to bytes → world_in t ≡ happens (world_in s) (Forge from to bytes) → t.history.items ≡ s.history.items ++ entry_of (world_in s) (Forge from to bytes) ∷ [] → t.pending.items ≡ s.pending.items ++ length s.bag.items ∷ [] → t.hosts.items ≡ s.hosts.items → Becomes f plan (events_in s ++ Forge from to bytes ∷ []) t
+  became_forge plan s t from to bytes is room may world history pending hosts =
+      became plan s t (Forge from to bytes) 1 is room may (record {
         world = world;
         history = history;
         pending = pending ∙ ap (λ is. is ++ length s.bag.items ∷ []) (sym (pass_true s.pending.items));
@@ -158,9 +164,9 @@ module _ {D : Type 0} (seen : D → List ℕ) (may_leave : D → List ℕ → Ty
         on = same_hosts s t hosts;
       })
 
-  pub became_tick : (plan : Plan) (s t : State D) (by : ℕ) → IsStateOf seen may_leave fused plan s → by ≤ 1000000 → world_in t ≡ happens (world_in s) (Tick by) → t.history.items ≡ s.history.items ++ entry_of (world_in s) (Tick by) ∷ [] → t.pending.items ≡ s.pending.items → t.hosts.items ≡ s.hosts.items → Becomes seen may_leave fused plan (events_in s ++ Tick by ∷ []) t
-  became_tick plan s t by is few world history pending hosts =
-      became plan s t (Tick by) 0 is (record {
+  pub became_tick : (plan : Plan) (s t : State D) (by : ℕ) → IsStateOf f plan s → length (events_in s) < MOST_EVENTS → 1 ≤ by → by ≤ MOST_TICKS → world_in t ≡ happens (world_in s) (Tick by) → t.history.items ≡ s.history.items ++ entry_of (world_in s) (Tick by) ∷ [] → t.pending.items ≡ s.pending.items → t.hosts.items ≡ s.hosts.items → Becomes f plan (events_in s ++ Tick by ∷ []) t
+  became_tick plan s t by is room some few world history pending hosts =
+      became plan s t (Tick by) 0 is room (some, few) (record {
         world = world;
         history = history;
         pending = pending ∙ sym (pass_true s.pending.items) ∙ sym (append-nil (filter (λ i. true) s.pending.items));
@@ -170,10 +176,10 @@ module _ {D : Type 0} (seen : D → List ℕ) (may_leave : D → List ℕ → Ty
         on = same_hosts s t hosts;
       })
 
-  pub became_lose : (plan : Plan) (s t : State D) (envelope : ℕ) → IsStateOf seen may_leave fused plan s → envelope < length s.bag.items → world_in t ≡ happens (world_in s) (Lose envelope) → t.history.items ≡ s.history.items ++ entry_of (world_in s) (Lose envelope) ∷ [] → t.pending.items ≡ filter (λ i. not (i == envelope)) s.pending.items → t.hosts.items ≡ s.hosts.items → Becomes seen may_leave fused plan (events_in s ++ Lose envelope ∷ []) t
-  became_lose plan s t envelope is stands world history pending hosts =
+  pub became_lose : (plan : Plan) (s t : State D) (envelope : ℕ) → IsStateOf f plan s → length (events_in s) < MOST_EVENTS → envelope < length s.bag.items → world_in t ≡ happens (world_in s) (Lose envelope) → t.history.items ≡ s.history.items ++ entry_of (world_in s) (Lose envelope) ∷ [] → t.pending.items ≡ filter (λ i. not (i == envelope)) s.pending.items → t.hosts.items ≡ s.hosts.items → Becomes f plan (events_in s ++ Lose envelope ∷ []) t
+  became_lose plan s t envelope is room stands world history pending hosts =
       let same = world ∙ unchanged (world_in s) envelope in
-      became plan s t (Lose envelope) 0 is (record {
+      became plan s t (Lose envelope) 0 is room stands (record {
         world = world;
         history = history;
         pending = pending ∙ sym (append-nil (filter (λ i. not (i == envelope)) s.pending.items));

@@ -2,6 +2,7 @@
 use Rattle.std.specs.Prelude.{◌≡◌, ◌≤◌, ℕ, Option, Some, None, List, length, drop, map, filter, slice_get, Result, Ok, Err}
 use Rattle.lks_base.specs.declared.plans.PeerPlan.{PeerPlan}
 use Rattle.lks_disk.specs.Counts.{Rose}
+use Rattle.lks_disk.specs.Face.{Face}
 use Rattle.lks_law.specs.World.{is_honest}
 use Rattle.lks_world.specs.Disks.{honest_disks, corrupt_disks}
 use Rattle.lks_world.specs.declared.faults.WorldFault.{WorldFault}
@@ -22,18 +23,19 @@ pub record HasRisen {D : Type 0} (faults : D → ℕ) (ids : List ℕ) (before a
   pub stays : slice_get after place ≡ Some now
   pub rose : Rose (faults disk) (faults now)
 
--- no count falls, and a disk is blamed only where its count rose
-pub record AreCounted {D : Type 0} (faults : D → ℕ) (ids : List ℕ) (before after : List D) (fault : Option WorldFault) : Type 0 where
+-- no fuse is set or ended, no count falls, and a disk is blamed only where its count rose
+pub record AreCounted {D : Type 0} (f : Face D) (ids : List ℕ) (before after : List D) (fault : Option WorldFault) : Type 0 where
   pub count : length after ≡ length before
-  pub later : (place : ℕ) (d e : D) → slice_get before place ≡ Some d → slice_get after place ≡ Some e → faults d ≤ faults e
-  pub cause : (id : ℕ) → fault ≡ Some (Disk id) → HasRisen faults ids before after id
+  pub fuses : map f.fused after ≡ map f.fused before
+  pub later : (place : ℕ) (d e : D) → slice_get before place ≡ Some d → slice_get after place ≡ Some e → f.faults d ≤ f.faults e
+  pub cause : (id : ℕ) → fault ≡ Some (Disk id) → HasRisen f.faults ids before after id
 
 abbrev pub honest_ids : List PeerPlan → List ℕ
 honest_ids peers = map (λ p. p.id) (filter is_honest peers)
 
 -- the same of the disks that serve honest peers, and no call was made on any other
-pub record ServesHonest {D : Type 0} (faults : D → ℕ) (peers : List PeerPlan) (before after : List D) (fault : Option WorldFault) : Type 0 where
+pub record ServesHonest {D : Type 0} (f : Face D) (peers : List PeerPlan) (before after : List D) (fault : Option WorldFault) : Type 0 where
   pub count : length after ≡ length before
   pub corrupt : corrupt_disks peers after ≡ corrupt_disks peers before
   pub rest : drop (length peers) after ≡ drop (length peers) before
-  pub honest : AreCounted faults (honest_ids peers) (honest_disks peers before) (honest_disks peers after) fault
+  pub honest : AreCounted f (honest_ids peers) (honest_disks peers before) (honest_disks peers after) fault

@@ -1,13 +1,9 @@
 pub mod Begun
-pub mod Blame
+pub mod Bytes
 pub mod Counts
-pub mod Courses
 pub mod Disks
 pub mod Follows
 pub mod Held
 pub mod Hosts
-pub mod Made
-pub mod Places
-pub mod Seen
 pub mod States
 pub mod Worlds

@@ -1,22 +1,41 @@
 -- The state of a world, and the history that it stands for.
-use Rattle.std.specs.Prelude.{◌≡◌, ◌≤◌, ◌<◌, ◌==◌, ◌*◌, ℕ, Bool, true, not, filter, map, Some, List, length, slice_get, Result, Ok, Err}
+use Rattle.std.specs.Prelude.{◌≡◌, ◌≤◌, ◌==◌, ◌*◌, ◌++◌, ℕ, true, not, filter, map, Option, Some, List, [], length, slice_get, Result, Ok, Err}
+use Rattle.std.specs.List.{flat_map}
+use Rattle.lks_disk.specs.Face.{Face}
+use Rattle.lks_base.specs.declared.entries.Entry.{Entry}
+use Rattle.lks_base.specs.declared.events.Due.{Due}
 use Rattle.lks_base.specs.declared.events.Event.{Event}
 use Rattle.lks_base.specs.declared.events.PeerStep.{PeerStep}
-use Rattle.lks_base.specs.declared.events.PeerStep.TheVariants.{Deliver}
+use Rattle.lks_base.specs.declared.events.PeerStep.TheVariants.{OpenPoll, Widen, Shut, Tally, Nudge, GiveUp, Work, Expire, Check, Tune, Deliver}
+use Rattle.lks_base.specs.declared.limits.TheConstants.{MOST_TICKS}
 use Rattle.lks_base.specs.declared.plans.Plan.{Plan}
 use Rattle.lks_host.specs.declared.hosts.Host.{Host}
 use Rattle.lks_law.specs.Batches.{batches_at}
-use Rattle.lks_law.specs.Due.{is_pending, pending}
+use Rattle.lks_law.specs.Due.{is_pending, pending, ready_at, turns_at, next_to_settle, next_to_deliver, next_to_finish}
 use Rattle.lks_law.specs.Entries.{entries}
-use Rattle.lks_law.specs.World.{World, world, effect_of, deed_of}
+use Rattle.lks_law.specs.Histories.{IsHistory}
+use Rattle.lks_law.specs.World.{World, Standing, world, effect_of, deed_of}
 use Rattle.lks_world.specs.Hosts.{peers_of, disks_of, IsHostAt}
 use Rattle.lks_world.specs.declared.faults.WorldFault.{WorldFault}
+use Rattle.lks_world.specs.declared.settling.Course.{Course}
+use Rattle.lks_world.specs.declared.settling.Course.TheVariants.{Settling, Delivering, Finishing}
+use Rattle.lks_world.specs.declared.settling.Part.{Part}
+use Rattle.lks_world.specs.declared.settling.Part.TheVariants.{Ready, Turns}
 use Rattle.lks_world.specs.declared.states.State.{State}
 
 -- the envelopes that still wait after a step: all but the one that it delivers
 abbrev pub left_after : PeerStep → List ℕ → List ℕ
+left_after (OpenPoll peer au) waiting = waiting
+left_after (Widen peer number) waiting = waiting
+left_after (Shut peer number) waiting = waiting
+left_after (Tally peer number) waiting = waiting
+left_after (Nudge peer number) waiting = waiting
+left_after (GiveUp peer number) waiting = waiting
+left_after (Work peer poll) waiting = waiting
+left_after (Expire peer poll) waiting = waiting
+left_after (Check peer) waiting = waiting
+left_after (Tune peer quorum minority repairs) waiting = waiting
 left_after (Deliver envelope judged) waiting = filter (λ i. not (i == envelope)) waiting
-left_after _ waiting = waiting
 
 abbrev pub world_in : {D : Type 0} → State D → World
 world_in s = record { peers = peers_of s.hosts.items; bag = s.bag.items; tick = s.tick }
@@ -25,29 +44,53 @@ world_in s = record { peers = peers_of s.hosts.items; bag = s.bag.items; tick = 
 unfoldable pub sends_in : World → PeerStep → ℕ
 sends_in w s = length (effect_of w.tick w.peers (deed_of w.bag s)).sends
 
+abbrev pub events_of : List Entry → List Event
+events_of history = map (λ e. e.event) history
+
 -- the events that were kept
 abbrev pub events_in : {D : Type 0} → State D → List Event
-events_in s = map (λ e. e.event) s.history.items
+events_in s = events_of s.history.items
 
--- the state is that of the plan's world after these events, each of which named envelopes that stood in the bag, and each
--- honest peer's disk holds the batches of these events; the clock moved by at most 1,000,000 at each
-pub record IsStateOf {D : Type 0} (seen : D → List ℕ) (may_leave : D → List ℕ → Type 0) (fused : D → Bool) (plan : Plan) (s : State D) : Type 0 where
+-- the events are a history of the plan, the state is that of its world, and each honest peer's disk holds the batches of
+-- these events; the clock moved by at most 1,000,000 at each
+pub record IsStateOf {D : Type 0} (f : Face D) (plan : Plan) (s : State D) : Type 0 where
+  pub happened : IsHistory plan (events_in s)
   pub world : world_in s ≡ world plan (events_in s)
   pub entries : s.history.items ≡ entries plan (events_in s)
   pub pending : s.pending.items ≡ pending plan (events_in s)
-  pub clock : s.tick ≤ 1000000 * length s.history.items
+  pub clock : s.tick ≤ MOST_TICKS * length s.history.items
   pub fresh : (i : ℕ) → length s.bag.items ≤ i → is_pending (events_in s) i ≡ true
-  pub hosts : (place : ℕ) (h : Host D) → slice_get s.hosts.items place ≡ Some h → IsHostAt seen may_leave fused (batches_at place plan (events_in s)) (length s.history.items) h
-
--- a delivery is of an envelope among the first n
-abbrev pub DeliversBelow : ℕ → PeerStep → Type 0
-DeliversBelow n (Deliver envelope judged) = envelope < n
-DeliversBelow n _ = Unit {0}
+  pub hosts : (place : ℕ) (h : Host D) → slice_get s.hosts.items place ≡ Some h → IsHostAt f (batches_at place plan (events_in s)) (length s.history.items) h
 
 -- the state is that of the plan's world after this history
-pub record Becomes {D : Type 0} (seen : D → List ℕ) (may_leave : D → List ℕ → Type 0) (fused : D → Bool) (plan : Plan) (history : List Event) (s : State D) : Type 0 where
-  pub state : IsStateOf seen may_leave fused plan s
+pub record Becomes {D : Type 0} (f : Face D) (plan : Plan) (history : List Event) (s : State D) : Type 0 where
+  pub state : IsStateOf f plan s
   pub events : events_in s ≡ history
+
+-- a history that goes on from an earlier one, with an entry for each event
+pub record Extends (plan : Plan) (before after : List Entry) : Type 0 where
+  pub more : List Event
+  pub events : events_of after ≡ events_of before ++ more
+  pub happened : IsHistory plan (events_of after)
+  pub entries : after ≡ entries plan (events_of after)
+
+-- the steps of a peer that are due together
+
+abbrev pub steps_of : Part → Standing → List PeerStep
+steps_of Ready = ready_at
+steps_of Turns = turns_at
+
+-- what comes next on each course, and the steps of their own that peers take on it
+
+abbrev pub next_of : Course → Plan → List Event → Option Due
+next_of Settling = next_to_settle
+next_of Delivering = next_to_deliver
+next_of Finishing = next_to_finish
+
+abbrev pub own_steps : Course → List Standing → List PeerStep
+own_steps Settling peers = flat_map ready_at peers
+own_steps Delivering peers = []
+own_steps Finishing peers = flat_map ready_at peers ++ flat_map turns_at peers
 
 -- the disks of the honest peers once a world was to begin: its hosts', or those that were given back
 abbrev pub disks_after : {D : Type 0} → Result (State D) WorldFault → List D → List D

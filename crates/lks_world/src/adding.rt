@@ -1,28 +1,27 @@
 //! One event more, unless the history is full.
 
-ghost use Rattle.std.specs.Prelude.{◌≡◌, ◌≤◌, ◌<◌, ◌-◌, OnOk, length};
+ghost use Rattle.std.specs.Prelude.{◌≡◌, ◌≤◌, ◌<◌, ◌-◌, ℕ, true, OnOk, length, get_or};
+ghost use Rattle.lks_base.specs.Checking.{has_corrupt, has_peer};
 ghost use Rattle.lks_base.specs.declared.events.Event.TheVariants as events;
+ghost use Rattle.lks_base.specs.declared.limits.TheConstants.{MOST_FORGED_BYTES, MOST_TICKS};
 ghost use Rattle.lks_base.specs.declared.plans.Plan.{Plan};
-ghost use Rattle.lks_world.specs.Follows.{most_events, kept};
+ghost use Rattle.lks_law.specs.Histories.{MayStep, WasSent};
+ghost use Rattle.lks_world.specs.Follows.{kept};
 ghost use Rattle.lks_world.specs.Hosts.{Counted};
-ghost use Rattle.lks_world.specs.States.{IsStateOf, Becomes, DeliversBelow, events_in};
+ghost use Rattle.lks_world.specs.States.{IsStateOf, Becomes, Extends, events_in, world_in};
 
 use crate::faults::WorldFault;
 use crate::other_events::{forge, lose, tick};
 use crate::states::{State, step};
-use lks_base::{Bytes, OutOfMemory, PeerId, PeerStep};
+use lks_base::{Bytes, MOST_EVENTS, OutOfMemory, PeerId, PeerStep};
 use lks_disk::CrashDisk;
 use std::alloc::Global;
 
-/// The most events of a history.
-pub const MOST_EVENTS: usize = 4096;
-
 /// How many events the history has room for.
-#[tactic(auto, unfolding(crate::specs::Follows::most_events))]
 pub fn room<D: CrashDisk>(state: &State<D>) -> usize
-    ensures { result ≡ most_events - length state.now.history.items }
+    ensures { result ≡ MOST_EVENTS - length state.now.history.items }
 {
-    MOST_EVENTS.saturating_sub(state.history.as_slice().len())
+    (MOST_EVENTS as usize).saturating_sub(state.history.as_slice().len())
 }
 
 /// One step of a peer.
@@ -31,16 +30,23 @@ pub fn add_step<D: CrashDisk>(
     state: &mut State<D>,
     s: PeerStep,
 ) -> Result<(), WorldFault>
-    requires { (plan : Plan) × IsStateOf D.seen D.may_leave D.fused plan state.old }
-    ensures becomes { (plan : Plan) → IsStateOf D.seen D.may_leave D.fused plan state.old → DeliversBelow (length state.old.bag.items) s →
-        OnOk result (Becomes D.seen D.may_leave D.fused plan (kept (events_in state.old) (events.Step s)) state.new) }
-    ensures counted { Counted D.faults state.old.hosts.items state.new.hosts.items result }
+    requires { (plan : Plan) × IsStateOf D.face plan state.old }
+    ensures becomes { (plan : Plan) → IsStateOf D.face plan state.old → MayStep plan (world_in state.old) s →
+        OnOk result (Becomes D.face plan (kept (events_in state.old) (events.Step s)) state.new) }
+    ensures extends { (plan : Plan) → IsStateOf D.face plan state.old → MayStep plan (world_in state.old) s →
+        Extends plan state.old.history.items state.new.history.items }
+    ensures counted { Counted D.face state.old.hosts.items state.new.hosts.items result }
 {
     if room(state) > 0 {
         step(alloc, state, s)?;
     }
     Ok(())
 }
+
+// Contracts see bytes as numbers: each is below 256.
+fn are_bytes(bytes: &[u8])
+    ensures { (i : ℕ) → get_or bytes.now i 0 < 256 }
+{}
 
 /// A forgery.
 pub fn add_forgery<D: CrashDisk>(
@@ -49,10 +55,13 @@ pub fn add_forgery<D: CrashDisk>(
     to: PeerId,
     bytes: Bytes,
 ) -> Result<(), OutOfMemory>
-    ensures becomes { (plan : Plan) → IsStateOf D.seen D.may_leave D.fused plan state.old →
-        OnOk result (Becomes D.seen D.may_leave D.fused plan (kept (events_in state.old) (events.Forge from to bytes)) state.new) }
+    ensures becomes { (plan : Plan) → IsStateOf D.face plan state.old → has_corrupt plan.peers from ≡ true → has_peer plan.peers to ≡ true → length bytes ≤ MOST_FORGED_BYTES →
+        OnOk result (Becomes D.face plan (kept (events_in state.old) (events.Forge from to bytes)) state.new) }
+    ensures extends { (plan : Plan) → IsStateOf D.face plan state.old → has_corrupt plan.peers from ≡ true → has_peer plan.peers to ≡ true → length bytes ≤ MOST_FORGED_BYTES →
+        Extends plan state.old.history.items state.new.history.items }
     ensures hosts { state.new.hosts.items ≡ state.old.hosts.items }
 {
+    are_bytes(bytes.as_slice());
     if room(state) > 0 {
         forge(state, from, to, bytes)?;
     }
@@ -61,10 +70,12 @@ pub fn add_forgery<D: CrashDisk>(
 
 /// So many ticks of the clock. In a history with room they fit.
 pub fn add_ticks<D: CrashDisk>(state: &mut State<D>, by: u32) -> Result<(), OutOfMemory>
-    requires few { by ≤ 1000000 }
-    requires state { (plan : Plan) × IsStateOf D.seen D.may_leave D.fused plan state.old }
-    ensures becomes { (plan : Plan) → IsStateOf D.seen D.may_leave D.fused plan state.old →
-        OnOk result (Becomes D.seen D.may_leave D.fused plan (kept (events_in state.old) (events.Tick by)) state.new) }
+    requires some { 1 ≤ by }
+    requires few { by ≤ MOST_TICKS }
+    requires state { (plan : Plan) × IsStateOf D.face plan state.old }
+    ensures becomes { (plan : Plan) → IsStateOf D.face plan state.old →
+        OnOk result (Becomes D.face plan (kept (events_in state.old) (events.Tick by)) state.new) }
+    ensures extends { (plan : Plan) → IsStateOf D.face plan state.old → Extends plan state.old.history.items state.new.history.items }
     ensures hosts { state.new.hosts.items ≡ state.old.hosts.items }
 {
     if room(state) > 0 {
@@ -75,8 +86,10 @@ pub fn add_ticks<D: CrashDisk>(state: &mut State<D>, by: u32) -> Result<(), OutO
 
 /// The loss of an envelope that stands in the bag.
 pub fn add_loss<D: CrashDisk>(state: &mut State<D>, envelope: u32) -> Result<(), OutOfMemory>
-    ensures becomes { (plan : Plan) → IsStateOf D.seen D.may_leave D.fused plan state.old → envelope < length state.old.bag.items →
-        OnOk result (Becomes D.seen D.may_leave D.fused plan (kept (events_in state.old) (events.Lose envelope)) state.new) }
+    ensures becomes { (plan : Plan) → IsStateOf D.face plan state.old → WasSent (world_in state.old) envelope →
+        OnOk result (Becomes D.face plan (kept (events_in state.old) (events.Lose envelope)) state.new) }
+    ensures extends { (plan : Plan) → IsStateOf D.face plan state.old → WasSent (world_in state.old) envelope →
+        Extends plan state.old.history.items state.new.history.items }
     ensures hosts { state.new.hosts.items ≡ state.old.hosts.items }
 {
     if room(state) > 0 {

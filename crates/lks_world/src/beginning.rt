@@ -13,9 +13,8 @@ ghost use Rattle.lks_world.specs.Held.{IsFresh, AreFresh};
 ghost use Rattle.lks_world.specs.Hosts.{peers_of, disks_of};
 ghost use Rattle.lks_world.specs.States.{disks_after, IsStateOf};
 
-use crate::blaming::blame;
 use crate::disks::{put, put_first};
-use crate::faults::WorldFault;
+use crate::faults::{WorldFault, blame};
 use crate::states::State;
 use lks_base::{PeerId, Plan};
 use lks_disk::CrashDisk;
@@ -43,11 +42,12 @@ fn create_host<D: CrashDisk>(
 ) -> Result<Host<D>, (D, WorldFault)>
     requires good { plan_fault plan.now ≡ None }
     requires honest { IsSome (honest_peer id plan.now) }
-    requires fresh { IsFresh D.seen D.may_leave D.fused disk }
+    requires fresh { IsFresh D.face disk }
     ensures peer { IfOk result (λ host. option_map (standing_of plan.now) (honest_peer id plan.now) ≡ Some host.peer) }
-    ensures begun { IfOk result (λ host. HasBegun D.seen D.may_leave D.fused host) }
-    ensures later { D.faults disk ≤ D.faults (disk_hosted result) }
-    ensures cause { (k : ℕ) → IsErrOf (answer_of result) (WorldFault.Disk k) → (id ≡ k) × Rose (D.faults disk) (D.faults (disk_hosted result)) }
+    ensures begun { IfOk result (λ host. HasBegun D.face host) }
+    ensures fuse { D.face.fused (disk_hosted result) ≡ D.face.fused disk }
+    ensures later { D.face.faults disk ≤ D.face.faults (disk_hosted result) }
+    ensures cause { (k : ℕ) → IsErrOf (answer_of result) (WorldFault.Disk k) → (id ≡ k) × Rose (D.face.faults disk) (D.face.faults (disk_hosted result)) }
 {
     match Host::create(alloc, plan, id, disk) {
         Ok(host) => Ok(host),
@@ -66,13 +66,13 @@ fn create_next<D: CrashDisk + Drop>(
     requires good { plan_fault plan.now ≡ None }
     requires honest { IsSome (honest_peer id plan.now) }
     requires some { 0 < deque_len disks.old }
-    requires fresh { AreFresh D.seen D.may_leave D.fused disks.old.items }
+    requires fresh { AreFresh D.face disks.old.items }
     requires room { vec_len hosts.old < vec_capacity hosts.old }
     requires disk_room { deque_len disks.old ≤ deque_capacity disks.old }
-    ensures created { OnOk result (IsCreated D.seen D.may_leave D.fused plan.now id hosts.old.items hosts.new.items) }
+    ensures created { OnOk result (IsCreated D.face plan.now id hosts.old.items hosts.new.items) }
     ensures rest { OnOk result (disks.new.items ≡ drop 1 disks.old.items) }
     ensures counted { (ids : List ℕ) → slice_get ids (length hosts.old.items) ≡ Some id →
-        AreCounted D.faults ids (disks_of hosts.old.items ++ disks.old.items) (disks_of hosts.new.items ++ disks.new.items) (fault_in result) }
+        AreCounted D.face ids (disks_of hosts.old.items ++ disks.old.items) (disks_of hosts.new.items ++ disks.new.items) (fault_in result) }
     ensures one_less { OnOk result (deque_len disks.new + 1 ≡ deque_len disks.old) }
     ensures len { deque_len disks.new + vec_len hosts.new ≡ deque_len disks.old + vec_len hosts.old }
     ensures host_room { vec_capacity hosts.old ≤ vec_capacity hosts.new }
@@ -102,14 +102,14 @@ fn create_each<D: CrashDisk + Drop>(
 ) -> Result<(), WorldFault>
     requires good { plan_fault plan.now ≡ None }
     requires enough { length disks.old.items ≡ count_honest plan.now.peers }
-    requires fresh { AreFresh D.seen D.may_leave D.fused disks.old.items }
+    requires fresh { AreFresh D.face disks.old.items }
     requires none { hosts.old.items ≡ [] }
     requires room { deque_len disks.old + vec_len hosts.old ≤ vec_capacity hosts.old }
     requires disk_room { deque_len disks.old + vec_len hosts.old ≤ deque_capacity disks.old }
     ensures peers { OnOk result (peers_of hosts.new.items ≡ map (standing_of plan.now) (filter is_honest plan.now.peers)) }
-    ensures begun { OnOk result (HaveBegun D.seen D.may_leave D.fused hosts.new.items) }
+    ensures begun { OnOk result (HaveBegun D.face hosts.new.items) }
     ensures empty { OnOk result (disks.new.items ≡ []) }
-    ensures counted { AreCounted D.faults (honest_ids plan.now.peers) disks.old.items (disks_of hosts.new.items ++ disks.new.items) (fault_in result) }
+    ensures counted { AreCounted D.face (honest_ids plan.now.peers) disks.old.items (disks_of hosts.new.items ++ disks.new.items) (fault_in result) }
     ensures len { deque_len disks.new + vec_len hosts.new ≤ deque_capacity disks.new }
     ensures same_room { deque_capacity disks.old ≤ deque_capacity disks.new }
 {
@@ -129,13 +129,13 @@ pub fn begin<D: CrashDisk + Drop>(
 ) -> Result<State<D>, WorldFault>
     requires good { plan_fault plan.now ≡ None }
     requires enough { length disks.old.items ≡ count_honest plan.now.peers }
-    requires fresh { AreFresh D.seen D.may_leave D.fused disks.old.items }
+    requires fresh { AreFresh D.face disks.old.items }
     requires disk_room { deque_len disks.old ≤ deque_capacity disks.old }
-    ensures state { IfOk result (λ state. IsStateOf D.seen D.may_leave D.fused plan.now state) }
+    ensures state { IfOk result (λ state. IsStateOf D.face plan.now state) }
     ensures nothing { IfOk result (λ state. state.history.items ≡ []) }
     ensures peers { IfOk result (λ state. peers_of state.hosts.items ≡ map (standing_of plan.now) (filter is_honest plan.now.peers)) }
     ensures empty { OnOk result (disks.new.items ≡ []) }
-    ensures counted { AreCounted D.faults (honest_ids plan.now.peers) disks.old.items (disks_after result disks.new.items) (fault_in result) }
+    ensures counted { AreCounted D.face (honest_ids plan.now.peers) disks.old.items (disks_after result disks.new.items) (fault_in result) }
     ensures same_room { deque_capacity disks.old ≤ deque_capacity disks.new }
 {
     let mut hosts = Vec::with_capacity(alloc, disks.len())?;

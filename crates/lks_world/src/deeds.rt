@@ -1,8 +1,9 @@
 //! What a step is to the peer that takes it.
 
 ghost use Rattle.std.specs.Prelude.{◌≡◌, IfOk, IfSome, slice_get};
-ghost use Rattle.lks_host.specs.Fits.{IsHeard};
+ghost use Rattle.std.specs.Option.{option_copied};
 ghost use Rattle.lks_law.specs.Entries.{carried, sender_of, receiver_of};
+ghost use Rattle.lks_law.specs.Facts.{IsHeard};
 ghost use Rattle.lks_law.specs.World.{message_in, delivered, own_deed_of, deed_of};
 ghost use Rattle.lks_message.specs.Spelling.{IsWithin};
 
@@ -109,15 +110,31 @@ pub fn make_deed(alloc: Global, bag: &[Envelope], s: PeerStep) -> Result<Option<
     }
 }
 
+fn carried(bag: &[Envelope], s: PeerStep) -> Option<&Envelope>
+    ensures { option_copied result ≡ carried bag.now s }
+{
+    match s {
+        PeerStep::Deliver { envelope, .. } => bag.get(envelope as usize),
+        PeerStep::OpenPoll { .. }
+        | PeerStep::Widen { .. }
+        | PeerStep::Shut { .. }
+        | PeerStep::Tally { .. }
+        | PeerStep::Nudge { .. }
+        | PeerStep::GiveUp { .. }
+        | PeerStep::Work { .. }
+        | PeerStep::Expire { .. }
+        | PeerStep::Check { .. }
+        | PeerStep::Tune { .. } => None,
+    }
+}
+
 /// The sender and the receiver of the envelope that a step delivers, or 0 and 0.
 pub fn ends_of(bag: &[Envelope], s: PeerStep) -> (PeerId, PeerId)
     ensures from { result.0 ≡ sender_of (carried bag.now s) }
     ensures to { result.1 ≡ receiver_of (carried bag.now s) }
 {
-    if let PeerStep::Deliver { envelope, .. } = s {
-        if let Some(e) = bag.get(envelope as usize) {
-            return (e.from, e.to);
-        }
+    match carried(bag, s) {
+        Some(e) => (e.from, e.to),
+        None => (0, 0),
     }
-    (0, 0)
 }

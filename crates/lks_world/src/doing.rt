@@ -1,22 +1,21 @@
 //! What a step of a script does to the state of a world.
 
-ghost use Rattle.std.specs.Prelude.{◌≡◌, true, None, OnOk, length, nat_lt};
+ghost use Rattle.std.specs.Prelude.{◌≡◌, true, None, Some, OnOk, IfSome, length, nat_lt};
 ghost use Rattle.lks_base.specs.Checking.{plan_fault};
-ghost use Rattle.lks_base.specs.declared.events.Event.TheVariants as events;
 ghost use Rattle.lks_base.specs.declared.plans.Plan.{Plan as Planned};
-ghost use Rattle.lks_message.specs.Spelling.{IsWithin, spelling};
+ghost use Rattle.lks_effort.specs.Verdicts.{first_byte};
+ghost use Rattle.lks_message.specs.Spelling.{IsWithin};
 ghost use Rattle.lks_script.specs.StepRules.{is_step_of};
-ghost use Rattle.lks_world.specs.Courses.{next_of};
-ghost use Rattle.lks_world.specs.Follows.{kept, done, lost, delivered_again, acted, performed};
+ghost use Rattle.lks_world.specs.Follows.{done, lost, delivered_again, next_event, spoken, IsSaying, MayBeSaid, Performs};
 ghost use Rattle.lks_world.specs.Hosts.{Counted};
-ghost use Rattle.lks_world.specs.States.{IsStateOf, Becomes, events_in};
+ghost use Rattle.lks_world.specs.States.{IsStateOf, Becomes, Extends, events_in, next_of};
 
-use crate::adding::{MOST_EVENTS, add_forgery, add_loss, add_step, add_ticks, room};
+use crate::adding::{add_forgery, add_loss, add_step, add_ticks, room};
 use crate::faults::WorldFault;
 use crate::forging::{Saying, what_is_said};
-use crate::settling::{Course, first_waiting, judge, next};
+use crate::settling::{Course, delivery, first_waiting, next, step_of};
 use crate::states::{State, step};
-use lks_base::{OutOfMemory, PeerStep, Plan, Seq};
+use lks_base::{MOST_EVENTS, OutOfMemory, Plan, Seq};
 use lks_disk::CrashDisk;
 use lks_message::encode;
 use lks_script::Step;
@@ -29,14 +28,18 @@ fn go_on<D: CrashDisk>(
     times: usize,
     course: Course,
 ) -> Result<(), WorldFault>
-    requires { (plan : Planned) × IsStateOf D.seen D.may_leave D.fused plan state.old }
-    ensures becomes { (plan : Planned) → IsStateOf D.seen D.may_leave D.fused plan state.old →
-        OnOk result (Becomes D.seen D.may_leave D.fused plan (done (next_of course) times plan (events_in state.old)) state.new) }
-    ensures counted { Counted D.faults state.old.hosts.items state.new.hosts.items result }
+    requires { (plan : Planned) × IsStateOf D.face plan state.old }
+    ensures becomes { (plan : Planned) → IsStateOf D.face plan state.old →
+        OnOk result (Becomes D.face plan (done (next_event first_byte (next_of course)) times plan (events_in state.old)) state.new) }
+    ensures extends { (plan : Planned) → IsStateOf D.face plan state.old → Extends plan state.old.history.items state.new.history.items }
+    ensures counted { Counted D.face state.old.hosts.items state.new.hosts.items result }
 {
     for turn in 0..times.min(room(state)) {
-        match next(alloc, state, course)? {
-            Some(s) => step(alloc, state, s)?,
+        match next(state, course) {
+            Some(due) => {
+                let s = step_of(alloc, state, due)?;
+                step(alloc, state, s)?;
+            }
             None => return Ok(()),
         }
     }
@@ -45,8 +48,9 @@ fn go_on<D: CrashDisk>(
 
 /// The first envelope that waits is lost.
 fn lose_first<D: CrashDisk>(state: &mut State<D>) -> Result<(), OutOfMemory>
-    ensures becomes { (plan : Planned) → IsStateOf D.seen D.may_leave D.fused plan state.old →
-        OnOk result (Becomes D.seen D.may_leave D.fused plan (lost plan (events_in state.old)) state.new) }
+    ensures becomes { (plan : Planned) → IsStateOf D.face plan state.old →
+        OnOk result (Becomes D.face plan (lost plan (events_in state.old)) state.new) }
+    ensures extends { (plan : Planned) → IsStateOf D.face plan state.old → Extends plan state.old.history.items state.new.history.items }
     ensures hosts { state.new.hosts.items ≡ state.old.hosts.items }
 {
     match first_waiting(state) {
@@ -67,58 +71,59 @@ fn deliver_again<D: CrashDisk>(
     state: &mut State<D>,
     envelope: u32,
 ) -> Result<(), WorldFault>
-    requires { (plan : Planned) × IsStateOf D.seen D.may_leave D.fused plan state.old }
-    ensures becomes { (plan : Planned) → IsStateOf D.seen D.may_leave D.fused plan state.old →
-        OnOk result (Becomes D.seen D.may_leave D.fused plan (delivered_again envelope plan (events_in state.old)) state.new) }
-    ensures counted { Counted D.faults state.old.hosts.items state.new.hosts.items result }
+    requires { (plan : Planned) × IsStateOf D.face plan state.old }
+    ensures becomes { (plan : Planned) → IsStateOf D.face plan state.old →
+        OnOk result (Becomes D.face plan (delivered_again first_byte envelope plan (events_in state.old)) state.new) }
+    ensures extends { (plan : Planned) → IsStateOf D.face plan state.old → Extends plan state.old.history.items state.new.history.items }
+    ensures counted { Counted D.face state.old.hosts.items state.new.hosts.items result }
 {
     if !was_sent(state, envelope) {
         return Ok(());
     }
-    let judged = judge(alloc, state, envelope)?;
-    add_step(alloc, state, PeerStep::Deliver { envelope, judged })
+    let s = delivery(alloc, state, envelope)?;
+    add_step(alloc, state, s)
 }
 
 /// What a corrupt peer says is what it forges.
 fn speak<D: CrashDisk>(
     alloc: Global,
     state: &mut State<D>,
-    said: &Saying,
+    said: &Option<Saying>,
 ) -> Result<(), OutOfMemory>
-    requires { IsWithin said.now.message }
-    ensures becomes { (plan : Planned) → IsStateOf D.seen D.may_leave D.fused plan state.old →
-        OnOk result (Becomes D.seen D.may_leave D.fused plan (kept (events_in state.old) (events.Forge said.now.from said.now.to (spelling said.now.message))) state.new) }
+    requires within { IfSome said.now (λ x. IsWithin x.message) }
+    ensures becomes { (plan : Planned) → IsStateOf D.face plan state.old → IfSome said.now (MayBeSaid plan) →
+        OnOk result (Becomes D.face plan (spoken (events_in state.old) said.now) state.new) }
+    ensures extends { (plan : Planned) → IsStateOf D.face plan state.old → IfSome said.now (MayBeSaid plan) →
+        Extends plan state.old.history.items state.new.history.items }
     ensures hosts { state.new.hosts.items ≡ state.old.hosts.items }
 {
+    let Some(said) = said else {
+        return Ok(());
+    };
     let bytes = encode(alloc, &said.message)?;
     add_forgery(state, said.from, said.to, Seq::from_vec(bytes))
 }
 
-/// A step in which no corrupt peer says something.
-#[tactic(auto, unfolding(crate::specs::Follows::acted, crate::specs::Follows::settled, crate::specs::Follows::most_events))]
-fn act<D: CrashDisk>(alloc: Global, state: &mut State<D>, step: &Step) -> Result<(), WorldFault>
-    requires { (plan : Planned) × IsStateOf D.seen D.may_leave D.fused plan state.old × (is_step_of plan step.now ≡ true) }
-    ensures becomes { (plan : Planned) → IsStateOf D.seen D.may_leave D.fused plan state.old → is_step_of plan step.now ≡ true →
-        OnOk result (Becomes D.seen D.may_leave D.fused plan (acted plan (events_in state.old) step.now) state.new) }
-    ensures counted { Counted D.faults state.old.hosts.items state.new.hosts.items result }
+/// A step in which a corrupt peer says something.
+fn say<D: CrashDisk>(
+    alloc: Global,
+    plan: &Plan,
+    state: &mut State<D>,
+    step: &Step,
+) -> Result<(), OutOfMemory>
+    requires good { plan_fault plan.now ≡ None }
+    requires legal { is_step_of plan.now step.now ≡ true }
+    requires saying { IsSaying step.now }
+    requires state { IsStateOf D.face plan.now state.old }
+    ensures state { OnOk result (IsStateOf D.face plan.now state.new) }
+    ensures performs { OnOk result (Performs first_byte plan.now (events_in state.old) step.now (events_in state.new)) }
+    ensures extends { Extends plan.now state.old.history.items state.new.history.items }
+    ensures hosts { state.new.hosts.items ≡ state.old.hosts.items }
 {
-    match step {
-        Step::Peer(s) => add_step(alloc, state, *s),
-        Step::Tick { by } => Ok(add_ticks(state, *by)?),
-        Step::Next { times } => go_on(alloc, state, *times as usize, Course::Delivering),
-        Step::Lose => Ok(lose_first(state)?),
-        Step::Again { envelope } => deliver_again(alloc, state, *envelope),
-        Step::Settle => go_on(alloc, state, MOST_EVENTS, Course::Settling),
-        Step::Finish => go_on(alloc, state, MOST_EVENTS, Course::Finishing),
-        Step::Forge { from, to, bytes } => {
-            let bytes = bytes.clone()?;
-            Ok(add_forgery(state, *from, *to, bytes)?)
-        }
-        _ => Ok(()),
-    }
+    let said = what_is_said(alloc, plan, step)?;
+    speak(alloc, state, &said)
 }
 
-#[tactic(auto, unfolding(crate::specs::Follows::performed))]
 pub fn do_step<D: CrashDisk>(
     alloc: Global,
     plan: &Plan,
@@ -127,12 +132,31 @@ pub fn do_step<D: CrashDisk>(
 ) -> Result<(), WorldFault>
     requires good { plan_fault plan.now ≡ None }
     requires legal { is_step_of plan.now step.now ≡ true }
-    requires state { IsStateOf D.seen D.may_leave D.fused plan.now state.old }
-    ensures becomes { OnOk result (Becomes D.seen D.may_leave D.fused plan.now (performed plan.now (events_in state.old) step.now) state.new) }
-    ensures counted { Counted D.faults state.old.hosts.items state.new.hosts.items result }
+    requires state { IsStateOf D.face plan.now state.old }
+    ensures state { OnOk result (IsStateOf D.face plan.now state.new) }
+    ensures performs { OnOk result (Performs first_byte plan.now (events_in state.old) step.now (events_in state.new)) }
+    ensures extends { Extends plan.now state.old.history.items state.new.history.items }
+    ensures counted { Counted D.face state.old.hosts.items state.new.hosts.items result }
 {
-    match what_is_said(alloc, plan, step)? {
-        Some(said) => Ok(speak(alloc, state, &said)?),
-        None => act(alloc, state, step),
+    match step {
+        Step::Peer(s) => add_step(alloc, state, *s),
+        Step::Tick { by } => Ok(add_ticks(state, *by)?),
+        Step::Next { times } => go_on(alloc, state, *times as usize, Course::Delivering),
+        Step::Lose => Ok(lose_first(state)?),
+        Step::Again { envelope } => deliver_again(alloc, state, *envelope),
+        Step::Settle => go_on(alloc, state, MOST_EVENTS as usize, Course::Settling),
+        Step::Finish => go_on(alloc, state, MOST_EVENTS as usize, Course::Finishing),
+        Step::Forge { from, to, bytes } => {
+            let bytes = bytes.clone()?;
+            Ok(add_forgery(state, *from, *to, bytes)?)
+        }
+        Step::SayProof { .. }
+        | Step::SayRequest { .. }
+        | Step::SayReceipt { .. }
+        | Step::SayChallenge { .. }
+        | Step::SayNominate { .. }
+        | Step::SayVote { .. }
+        | Step::SayRepair { .. } => Ok(say(alloc, plan, state, step)?),
+        Step::SayPoll { .. } | Step::Crash { .. } | Step::Cut { .. } => unreachable!(),
     }
 }

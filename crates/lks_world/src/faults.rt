@@ -1,9 +1,11 @@
 //! Why a world takes no further step.
 
-ghost use Rattle.std.specs.Prelude.{◌≡◌};
+ghost use Rattle.std.specs.Prelude.{◌≡◌, ◌≢◌};
+ghost use Rattle.lks_world.specs.Hosts.{blamed};
 ghost use Rattle.lks_world.specs.declared.faults.WorldFault.TheVariants.{Memory};
 
 use lks_base::{OutOfMemory, PeerId};
+use lks_host::HostFault;
 use std::alloc::{AllocError, AllocFailed};
 
 /// Why a world takes no further step.
@@ -36,5 +38,17 @@ impl<T: Drop> From<AllocFailed<T>> for WorldFault {
 
     fn from(_: AllocFailed<T>) -> Self {
         WorldFault::Memory
+    }
+}
+
+/// What a refusal of the peer's host is to the world. Where no fuse is set, no host is cut off.
+pub fn blame(peer: PeerId, fault: HostFault) -> WorldFault
+    requires { fault ≢ HostFault.Cut }
+    ensures { result ≡ blamed peer fault }
+{
+    match fault {
+        HostFault::Failed => WorldFault::Disk { peer },
+        HostFault::Memory => WorldFault::Memory,
+        HostFault::Cut => unreachable!(),
     }
 }

@@ -7,8 +7,9 @@ ghost use Rattle.lks_base.specs.declared.messages.Message.TheVariants as message
 ghost use Rattle.lks_hash.specs.Counting.{Opens};
 ghost use Rattle.lks_hash.specs.Running.{hashes_of};
 ghost use Rattle.lks_message.specs.Spelling.{IsWithin};
+ghost use Rattle.lks_base.specs.declared.limits.TheConstants.{LAST_BLOCK, MOST_BLOCKS, MOST_BLOCK_BYTES, MOST_NOMINEES, MOST_PROOF_BYTES};
 ghost use Rattle.lks_script.specs.StepRules.{is_step_of};
-ghost use Rattle.lks_world.specs.Follows.{saying, planned, proof_by, count_for, vote_over, vote_by, said_to_poller, said_by};
+ghost use Rattle.lks_world.specs.Follows.{saying, planned, proof_by, count_for, vote_over, vote_by, said_by};
 
 use lks_base::{
     AuId, AuPlan, Bytes, Hashes, Ids, Message, OutOfMemory, PeerId, PeerPlan, Plan, Seq,
@@ -115,8 +116,8 @@ fn vote(
     au: AuId,
     blocks: &[Bytes],
 ) -> Result<Message, OutOfMemory>
-    requires blocks { length blocks.now ≤ 512 }
-    requires proof { length voter.now.proof ≤ 64 }
+    requires blocks { length blocks.now ≤ MOST_BLOCKS }
+    requires proof { length voter.now.proof ≤ MOST_PROOF_BYTES }
     ensures vote { IfOk result (λ m. m ≡ vote_over (count_for plan.now au) voter.now poller.now number au blocks.now) }
     ensures within { IfOk result (λ m. IsWithin m) }
 {
@@ -149,15 +150,15 @@ fn say_vote(
     blocks: &[Bytes],
 ) -> Result<Option<Saying>, OutOfMemory>
     requires good { plan_fault plan.now ≡ None }
-    requires few { length blocks.now ≤ 512 }
-    ensures said { IfOk result (λ s. s ≡ vote_by plan.now (planned plan.now from) (planned plan.now to) number au blocks.now) }
+    requires few { length blocks.now ≤ MOST_BLOCKS }
+    ensures said { IfOk result (λ s. s ≡ vote_by plan.now from to (planned plan.now from) (planned plan.now to) number au blocks.now) }
     ensures within { IfOk result (λ s. IfSome s (λ x. IsWithin x.message)) }
 {
     let (Some(voter), Some(poller)) = (find_planned(plan, from), find_planned(plan, to)) else {
         return Ok(None);
     };
     let message = vote(alloc, plan, voter, poller, number, au, blocks)?;
-    Ok(say(voter.id, poller.id, message))
+    Ok(say(from, to, message))
 }
 
 #[tactic(auto, using(lks_base::proofs::PlanLaws::short_proof))]
@@ -201,7 +202,7 @@ fn say_nominees(
     number: u32,
     nominees: &Ids,
 ) -> Result<Option<Saying>, OutOfMemory>
-    requires { length nominees.now ≤ 8 }
+    requires { length nominees.now ≤ MOST_NOMINEES }
     ensures said { IfOk result (λ s. s ≡ Some (saying from to (message.Nominate number nominees.now))) }
     ensures within { IfOk result (λ s. IfSome s (λ x. IsWithin x.message)) }
 {
@@ -216,8 +217,8 @@ fn say_repair(
     block: u16,
     bytes: &Bytes,
 ) -> Result<Option<Saying>, OutOfMemory>
-    requires block { block ≤ 511 }
-    requires bytes { length bytes.now ≤ 16384 }
+    requires block { block ≤ LAST_BLOCK }
+    requires bytes { length bytes.now ≤ MOST_BLOCK_BYTES }
     ensures said { IfOk result (λ s. s ≡ Some (saying from to (message.Repair number block bytes.now))) }
     ensures within { IfOk result (λ s. IfSome s (λ x. IsWithin x.message)) }
 {
@@ -230,14 +231,32 @@ fn say_repair(
     Ok(say(from, to, message))
 }
 
-#[tactic(auto, unfolding(crate::specs::Follows::said_to_poller, lks_script::specs::StepRules::is_step_of, lks_script::specs::StepRules::is_said_vote, lks_script::specs::StepRules::is_nomination, lks_script::specs::StepRules::is_repair))]
-fn say_to_poller(alloc: Global, plan: &Plan, step: &Step) -> Result<Option<Saying>, OutOfMemory>
+/// What a corrupt peer says in a step, if it says something.
+#[tactic(auto, unfolding(crate::specs::Follows::said_by, lks_script::specs::StepRules::is_step_of, lks_script::specs::StepRules::is_request, lks_script::specs::StepRules::is_said_vote, lks_script::specs::StepRules::is_nomination, lks_script::specs::StepRules::is_repair))]
+pub fn what_is_said(alloc: Global, plan: &Plan, step: &Step) -> Result<Option<Saying>, OutOfMemory>
     requires good { plan_fault plan.now ≡ None }
     requires legal { is_step_of plan.now step.now ≡ true }
-    ensures said { IfOk result (λ s. s ≡ said_to_poller plan.now step.now) }
+    ensures said { IfOk result (λ s. s ≡ said_by plan.now step.now) }
     ensures within { IfOk result (λ s. IfSome s (λ x. IsWithin x.message)) }
 {
     match step {
+        Step::SayProof { from, to, number } => say_proof(plan, *from, *to, *number),
+        Step::SayVote {
+            from,
+            to,
+            number,
+            au,
+            blocks,
+        } => say_vote(alloc, plan, *from, *to, *number, *au, blocks.as_slice()),
+        Step::SayRequest {
+            from,
+            to,
+            number,
+            block,
+        } => Ok(say_request(*from, *to, *number, *block)),
+        Step::SayReceipt { from, to, number } => {
+            Ok(say(*from, *to, Message::Receipt { number: *number }))
+        }
         Step::SayChallenge {
             from,
             to,
@@ -250,13 +269,6 @@ fn say_to_poller(alloc: Global, plan: &Plan, step: &Step) -> Result<Option<Sayin
             number,
             nominees,
         } => say_nominees(*from, *to, *number, nominees),
-        Step::SayVote {
-            from,
-            to,
-            number,
-            au,
-            blocks,
-        } => say_vote(alloc, plan, *from, *to, *number, *au, blocks.as_slice()),
         Step::SayRepair {
             from,
             to,
@@ -264,29 +276,16 @@ fn say_to_poller(alloc: Global, plan: &Plan, step: &Step) -> Result<Option<Sayin
             block,
             bytes,
         } => say_repair(*from, *to, *number, *block, bytes),
-        _ => Ok(None),
-    }
-}
-
-/// What a corrupt peer says in a step, if it says something.
-#[tactic(auto, unfolding(crate::specs::Follows::said_by, lks_script::specs::StepRules::is_step_of, lks_script::specs::StepRules::is_request))]
-pub fn what_is_said(alloc: Global, plan: &Plan, step: &Step) -> Result<Option<Saying>, OutOfMemory>
-    requires good { plan_fault plan.now ≡ None }
-    requires legal { is_step_of plan.now step.now ≡ true }
-    ensures said { IfOk result (λ s. s ≡ said_by plan.now step.now) }
-    ensures within { IfOk result (λ s. IfSome s (λ x. IsWithin x.message)) }
-{
-    match step {
-        Step::SayProof { from, to, number } => say_proof(plan, *from, *to, *number),
-        Step::SayRequest {
-            from,
-            to,
-            number,
-            block,
-        } => Ok(say_request(*from, *to, *number, *block)),
-        Step::SayReceipt { from, to, number } => {
-            Ok(say(*from, *to, Message::Receipt { number: *number }))
-        }
-        _ => say_to_poller(alloc, plan, step),
+        Step::Peer(_)
+        | Step::Tick { .. }
+        | Step::Next { .. }
+        | Step::Lose
+        | Step::Again { .. }
+        | Step::Settle
+        | Step::Finish
+        | Step::Forge { .. }
+        | Step::SayPoll { .. }
+        | Step::Crash { .. }
+        | Step::Cut { .. } => Ok(None),
     }
 }

@@ -3,18 +3,18 @@
 
 mod adding;
 mod beginning;
-mod blaming;
 mod deeds;
 mod disks;
 mod doing;
 mod faults;
 mod forging;
+mod laws;
 mod notes;
 mod other_events;
-mod places;
 mod settling;
 mod states;
 mod worlds;
 
 pub use faults::WorldFault;
+pub use laws::{disks_may_hold_other_batches, what_follows_a_script_is_a_history};
 pub use worlds::{Parts, World};

@@ -39,7 +39,16 @@ fn session_note(item: &Record) -> Option<Note>
             minority: *minority,
             repairs: *repairs,
         }),
-        _ => None,
+        Record::Deposit { .. }
+        | Record::PollOpened { .. }
+        | Record::Nominated { .. }
+        | Record::OuterOpened { .. }
+        | Record::VoteIn { .. }
+        | Record::Shut { .. }
+        | Record::Asked { .. }
+        | Record::RepairBad { .. }
+        | Record::Replaced { .. }
+        | Record::Closed { .. } => None,
     }
 }
 
@@ -48,6 +57,7 @@ fn note<D: Disk>(host: &Host<D>, item: &Record) -> Option<Note>
     ensures { result ≡ note_of host.now.peer.journal item.now }
 {
     match item {
+        Record::Deposit { .. } => None,
         Record::PollOpened { number, au, .. } => Some(Note::Opened {
             number: *number,
             au: *au,
@@ -103,7 +113,13 @@ fn note<D: Disk>(host: &Host<D>, item: &Record) -> Option<Note>
             number: *number,
             outcome: *outcome,
         }),
-        _ => session_note(item),
+        Record::Overdue { .. }
+        | Record::Joined { .. }
+        | Record::Committed { .. }
+        | Record::Voted { .. }
+        | Record::Served { .. }
+        | Record::Ended { .. }
+        | Record::Tuned { .. } => session_note(item),
     }
 }
 

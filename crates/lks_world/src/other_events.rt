@@ -1,6 +1,6 @@
 //! Events in which no honest peer acts.
 
-ghost use Rattle.std.specs.Prelude.{◌≡◌, ◌≤◌, ◌+◌, ◌++◌, ◌∷◌, [], None, OnOk, ◌==◌, length, filter, not};
+ghost use Rattle.std.specs.Prelude.{◌≡◌, ◌≤◌, ◌+◌, ◌++◌, ◌∷◌, [], None, OnOk, OnErr, ◌==◌, length, filter, not};
 ghost use Rattle.lks_base.specs.declared.events.Event.TheVariants as events;
 ghost use Rattle.lks_law.specs.Entries.{entry_for, entry_of};
 ghost use Rattle.lks_law.specs.World.{happens};
@@ -12,7 +12,8 @@ use lks_disk::CrashDisk;
 
 /// Notes down an event that delivers nothing and adds no records.
 fn note_down(history: &mut Vec<Entry>, event: Event, sends: u32) -> Result<(), OutOfMemory>
-    ensures { OnOk result (history.new.items ≡ history.old.items ++ entry_for event None [] sends ∷ []) }
+    ensures ok { OnOk result (history.new.items ≡ history.old.items ++ entry_for event None [] sends ∷ []) }
+    ensures err { OnErr result (history.new.items ≡ history.old.items) }
 {
     let notes = Seq::from_vec(Vec::new(*history.allocator()));
     history.push(Entry {
@@ -36,6 +37,7 @@ pub fn forge<D: CrashDisk>(
     ensures hosts { state.new.hosts.items ≡ state.old.hosts.items }
     ensures world { OnOk result (world_in state.new ≡ happens (world_in state.old) (events.Forge from to bytes)) }
     ensures history { OnOk result (state.new.history.items ≡ state.old.history.items ++ entry_of (world_in state.old) (events.Forge from to bytes) ∷ []) }
+    ensures err { OnErr result (state.new.history.items ≡ state.old.history.items) }
     ensures pending { OnOk result (state.new.pending.items ≡ state.old.pending.items ++ length state.old.bag.items ∷ []) }
 {
     let copy = bytes.clone()?;
@@ -55,6 +57,7 @@ pub fn tick<D: CrashDisk>(state: &mut State<D>, by: u32) -> Result<(), OutOfMemo
     ensures hosts { state.new.hosts.items ≡ state.old.hosts.items }
     ensures world { OnOk result (world_in state.new ≡ happens (world_in state.old) (events.Tick by)) }
     ensures history { OnOk result (state.new.history.items ≡ state.old.history.items ++ entry_of (world_in state.old) (events.Tick by) ∷ []) }
+    ensures err { OnErr result (state.new.history.items ≡ state.old.history.items) }
     ensures pending { OnOk result (state.new.pending.items ≡ state.old.pending.items) }
 {
     state.tick += by;
@@ -67,6 +70,7 @@ pub fn lose<D: CrashDisk>(state: &mut State<D>, envelope: u32) -> Result<(), Out
     ensures hosts { state.new.hosts.items ≡ state.old.hosts.items }
     ensures world { OnOk result (world_in state.new ≡ happens (world_in state.old) (events.Lose envelope)) }
     ensures history { OnOk result (state.new.history.items ≡ state.old.history.items ++ entry_of (world_in state.old) (events.Lose envelope) ∷ []) }
+    ensures err { OnErr result (state.new.history.items ≡ state.old.history.items) }
     ensures pending { OnOk result (state.new.pending.items ≡ filter (λ i. not (i == envelope)) state.old.pending.items) }
 {
     forget(&mut state.pending, envelope);

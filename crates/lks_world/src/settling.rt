@@ -1,68 +1,132 @@
-//! What is done next.
+//! What is due next, and how it is judged.
 
-ghost use Rattle.std.specs.Prelude.{◌≡◌, IfOk, IfSome, length, option_map, slice_get};
+ghost use Rattle.std.specs.Prelude.{◌≡◌, List, IfOk, option_map, slice_get};
 ghost use Rattle.std.specs.List.{flat_map};
+ghost use Rattle.lks_base.specs.declared.events.Due.TheVariants as dues;
 ghost use Rattle.lks_base.specs.declared.events.Event.TheVariants as events;
 ghost use Rattle.lks_base.specs.declared.plans.Plan.{Plan};
-ghost use Rattle.lks_law.specs.Due.{judgement_of, judgement_by, judgement_on, judgement, first_work, next_to_settle, next_to_deliver, next_to_finish};
+ghost use Rattle.lks_effort.specs.Verdicts.{first_byte};
+ghost use Rattle.lks_effort.specs.declared.questions.Question.{Question as Asked};
+ghost use Rattle.lks_law.specs.Due.{first_own, first_due};
+ghost use Rattle.lks_law.specs.Questions.{question_by, question_in, question_to, question_at, judged, delivery_of, event_of};
 ghost use Rattle.lks_law.specs.World.{message_in, peer_at};
-ghost use Rattle.lks_world.specs.Courses.{next_of, steps_of};
 ghost use Rattle.lks_world.specs.Hosts.{peers_of};
-ghost use Rattle.lks_world.specs.States.{DeliversBelow, IsStateOf, world_in, events_in};
+ghost use Rattle.lks_world.specs.States.{IsStateOf, events_in, next_of, own_steps, steps_of, world_in};
 
 use crate::deeds::read;
-use crate::places::place_of;
-use crate::states::State;
-use lks_base::{Envelope, Judged, Message, OutOfMemory, PeerStep};
+use crate::states::{State, place_of};
+use lks_base::{Due, Envelope, Judged, Message, OutOfMemory, PeerStep};
 use lks_disk::{CrashDisk, Disk};
+use lks_effort::{Question, begins_with_one};
 use lks_host::Host;
 use std::alloc::Global;
 
-/// A proof of effort is accepted where its first byte is 1.
-fn judge_proof(proof: &[u8]) -> Judged
-    ensures { result ≡ judgement_of proof.now }
-{
-    match proof {
-        [b, ..] if *b == 1 => Judged::Accepted,
-        _ => Judged::Refused,
-    }
-}
-
-fn judge_message(message: &Option<Message>) -> Judged
-    ensures { result ≡ judgement_by message.now }
+/// The question that a message puts: on the proof of its poll's poller, or of a voter.
+fn question_by(envelope: &Envelope, message: Message) -> Option<Question>
+    ensures { result ≡ question_by envelope.now message }
 {
     match message {
-        Some(Message::PollProof { proof, .. }) => judge_proof(proof.as_slice()),
-        Some(Message::Vote { proof, .. }) => judge_proof(proof.as_slice()),
-        _ => Judged::NotAsked,
+        Message::PollProof { number, proof, .. } => Some(Question {
+            from: envelope.from,
+            poller: envelope.from,
+            number,
+            proof,
+        }),
+        Message::Vote { number, proof, .. } => Some(Question {
+            from: envelope.from,
+            poller: envelope.to,
+            number,
+            proof,
+        }),
+        Message::Poll { .. }
+        | Message::PollChallenge { .. }
+        | Message::Nominate { .. }
+        | Message::RepairRequest { .. }
+        | Message::Repair { .. }
+        | Message::Receipt { .. } => None,
     }
 }
 
-fn judge_envelope<D: Disk>(
+fn question_in(alloc: Global, envelope: &Envelope) -> Result<Option<Question>, OutOfMemory>
+    ensures { IfOk result (λ q. q ≡ question_in envelope.now (message_in envelope.now.bytes)) }
+{
+    match read(alloc, envelope.bytes.as_slice())? {
+        Some(message) => Ok(question_by(envelope, message)),
+        None => Ok(None),
+    }
+}
+
+/// It is put where an honest peer receives the envelope.
+fn question_to<D: Disk>(
     alloc: Global,
     hosts: &[Host<D>],
     envelope: &Envelope,
-) -> Result<Judged, OutOfMemory>
-    ensures { IfOk result (λ judged. judged ≡ judgement_on (peer_at envelope.now.to (peers_of hosts.now)) (message_in envelope.now.bytes)) }
+) -> Result<Option<Question>, OutOfMemory>
+    ensures { IfOk result (λ q. q ≡ question_to (peer_at envelope.now.to (peers_of hosts.now)) envelope.now) }
 {
     match place_of(hosts, envelope.to) {
-        Some(_) => Ok(judge_message(&read(alloc, envelope.bytes.as_slice())?)),
-        None => Ok(Judged::NotAsked),
+        Some(_) => question_in(alloc, envelope),
+        None => Ok(None),
     }
 }
 
-/// How the delivery of an envelope is judged.
-#[tactic(auto, unfolding(lks_law::specs::Due::judgement))]
-pub fn judge<D: CrashDisk>(
+/// The question of a delivery.
+#[tactic(auto, unfolding(lks_law::specs::Questions::question_at))]
+fn question_at<D: CrashDisk>(
     alloc: Global,
     state: &State<D>,
     envelope: u32,
-) -> Result<Judged, OutOfMemory>
-    ensures { IfOk result (λ judged. judged ≡ judgement (world_in state.now) envelope) }
+) -> Result<Option<Question>, OutOfMemory>
+    ensures { IfOk result (λ q. q ≡ question_at (world_in state.now) envelope) }
 {
     match state.bag.get(envelope as usize) {
-        Some(e) => judge_envelope(alloc, &state.hosts, e),
-        None => Ok(Judged::NotAsked),
+        Some(e) => question_to(alloc, &state.hosts, e),
+        None => Ok(None),
+    }
+}
+
+/// A proof is accepted by its first byte.
+fn judge(question: Option<Question>) -> Judged
+    ensures { (before : List Asked) → result ≡ judged first_byte before question }
+{
+    match question {
+        Some(q) => {
+            if begins_with_one(q.proof.as_slice()) {
+                Judged::Accepted
+            } else {
+                Judged::Refused
+            }
+        }
+        None => Judged::NotAsked,
+    }
+}
+
+/// The delivery of an envelope, with what the judge says.
+pub fn delivery<D: CrashDisk>(
+    alloc: Global,
+    state: &State<D>,
+    envelope: u32,
+) -> Result<PeerStep, OutOfMemory>
+    ensures { (plan : Plan) → IsStateOf D.face plan state.now →
+        IfOk result (λ s. events.Step s ≡ delivery_of first_byte plan (events_in state.now) envelope) }
+{
+    let question = question_at(alloc, state, envelope)?;
+    let judged = judge(question);
+    Ok(PeerStep::Deliver { envelope, judged })
+}
+
+/// The step of what is due.
+pub fn step_of<D: CrashDisk>(
+    alloc: Global,
+    state: &State<D>,
+    due: Due,
+) -> Result<PeerStep, OutOfMemory>
+    ensures { (plan : Plan) → IsStateOf D.face plan state.now →
+        IfOk result (λ s. events.Step s ≡ event_of first_byte plan (events_in state.now) due) }
+{
+    match due {
+        Due::Delivery { envelope } => delivery(alloc, state, envelope),
+        Due::Own(s) => Ok(s),
     }
 }
 
@@ -85,13 +149,12 @@ fn first_of_host<D: Disk>(host: &Host<D>, part: Part) -> Option<PeerStep>
 }
 
 /// The first of these steps of all peers.
-fn first_step<D: Disk>(hosts: &[Host<D>], part: Part) -> Option<PeerStep>
-    ensures work { option_map events.Step result ≡ first_work (flat_map (steps_of part) (peers_of hosts.now)) }
-    ensures no_delivery { IfSome result (DeliversBelow 0) }
+fn first_step<D: Disk>(hosts: &[Host<D>], part: Part) -> Option<Due>
+    ensures { result ≡ first_own (flat_map (steps_of part) (peers_of hosts.now)) }
 {
     for host in hosts {
         match first_of_host(host, part) {
-            Some(s) => return Some(s),
+            Some(s) => return Some(Due::Own(s)),
             None => {}
         }
     }
@@ -105,52 +168,6 @@ pub fn first_waiting<D: CrashDisk>(state: &State<D>) -> Option<u32>
     state.pending.as_slice().first().copied()
 }
 
-/// The first pending envelope is delivered.
-fn next_delivery<D: CrashDisk>(
-    alloc: Global,
-    state: &State<D>,
-) -> Result<Option<PeerStep>, OutOfMemory>
-    ensures next { (plan : Plan) → IsStateOf D.seen D.may_leave D.fused plan state.now →
-        IfOk result (λ s. option_map events.Step s ≡ next_to_deliver plan (events_in state.now)) }
-    ensures known { (plan : Plan) → IsStateOf D.seen D.may_leave D.fused plan state.now →
-        IfOk result (λ s. IfSome s (DeliversBelow (length state.now.bag.items))) }
-{
-    let Some(envelope) = first_waiting(state) else {
-        return Ok(None);
-    };
-    let judged = judge(alloc, state, envelope)?;
-    Ok(Some(PeerStep::Deliver { envelope, judged }))
-}
-
-/// The first pending envelope is delivered, else the first ready work is done.
-fn next_due<D: CrashDisk>(alloc: Global, state: &State<D>) -> Result<Option<PeerStep>, OutOfMemory>
-    ensures next { (plan : Plan) → IsStateOf D.seen D.may_leave D.fused plan state.now →
-        IfOk result (λ s. option_map events.Step s ≡ next_to_settle plan (events_in state.now)) }
-    ensures known { (plan : Plan) → IsStateOf D.seen D.may_leave D.fused plan state.now →
-        IfOk result (λ s. IfSome s (DeliversBelow (length state.now.bag.items))) }
-{
-    match next_delivery(alloc, state)? {
-        Some(s) => Ok(Some(s)),
-        None => Ok(first_step(&state.hosts, Part::Ready)),
-    }
-}
-
-/// The same, else the first turn of a peer is taken.
-fn next_until_finished<D: CrashDisk>(
-    alloc: Global,
-    state: &State<D>,
-) -> Result<Option<PeerStep>, OutOfMemory>
-    ensures next { (plan : Plan) → IsStateOf D.seen D.may_leave D.fused plan state.now →
-        IfOk result (λ s. option_map events.Step s ≡ next_to_finish plan (events_in state.now)) }
-    ensures known { (plan : Plan) → IsStateOf D.seen D.may_leave D.fused plan state.now →
-        IfOk result (λ s. IfSome s (DeliversBelow (length state.now.bag.items))) }
-{
-    match next_due(alloc, state)? {
-        Some(s) => Ok(Some(s)),
-        None => Ok(first_step(&state.hosts, Part::Turns)),
-    }
-}
-
 /// How it is chosen what comes next.
 #[derive(Clone, Copy)]
 pub enum Course {
@@ -162,20 +179,33 @@ pub enum Course {
     Finishing,
 }
 
-/// What comes next on this course, if anything.
-pub fn next<D: CrashDisk>(
-    alloc: Global,
-    state: &State<D>,
-    course: Course,
-) -> Result<Option<PeerStep>, OutOfMemory>
-    ensures next { (plan : Plan) → IsStateOf D.seen D.may_leave D.fused plan state.now →
-        IfOk result (λ s. option_map events.Step s ≡ next_of course plan (events_in state.now)) }
-    ensures known { (plan : Plan) → IsStateOf D.seen D.may_leave D.fused plan state.now →
-        IfOk result (λ s. IfSome s (DeliversBelow (length state.now.bag.items))) }
+/// The first ready work, else the first turn of a peer.
+fn first_until_finished<D: Disk>(hosts: &[Host<D>]) -> Option<Due>
+    ensures { result ≡ first_own (own_steps Course.Finishing (peers_of hosts.now)) }
+{
+    match first_step(hosts, Part::Ready) {
+        Some(due) => Some(due),
+        None => first_step(hosts, Part::Turns),
+    }
+}
+
+/// What is due next on this course where no envelope waits.
+fn first_own<D: Disk>(hosts: &[Host<D>], course: Course) -> Option<Due>
+    ensures { result ≡ first_own (own_steps course (peers_of hosts.now)) }
 {
     match course {
-        Course::Settling => next_due(alloc, state),
-        Course::Delivering => next_delivery(alloc, state),
-        Course::Finishing => next_until_finished(alloc, state),
+        Course::Settling => first_step(hosts, Part::Ready),
+        Course::Delivering => None,
+        Course::Finishing => first_until_finished(hosts),
+    }
+}
+
+/// What is due next on this course, if anything.
+pub fn next<D: CrashDisk>(state: &State<D>, course: Course) -> Option<Due>
+    ensures { (plan : Plan) → IsStateOf D.face plan state.now → result ≡ next_of course plan (events_in state.now) }
+{
+    match first_waiting(state) {
+        Some(envelope) => Some(Due::Delivery { envelope }),
+        None => first_own(&state.hosts, course),
     }
 }

@@ -1,26 +1,23 @@
 //! The state of a world, and what an event does to it.
 
-ghost use Rattle.std.specs.Prelude.{◌≡◌, ◌≤◌, ◌++◌, ◌∷◌, [], ℕ, Some, IfOk, IfSome, OnOk, IsErrOf, ◌==◌, length, filter, map, not};
+ghost use Rattle.std.specs.Prelude.{◌≡◌, ◌≤◌, ◌++◌, ◌∷◌, [], ℕ, Some, IfOk, IfSome, MatchOption, OnOk, OnErr, IsErrOf, ◌==◌, length, filter, map, not};
 ghost use Rattle.std.specs.List.{range_with_len};
 ghost use Rattle.lks_base.specs.declared.events.Event.TheVariants as events;
 ghost use Rattle.lks_law.specs.Entries.{notes_at, notes_of, entry_of};
 ghost use Rattle.lks_law.specs.Reaction.{reaction};
 ghost use Rattle.lks_law.specs.World.{Standing, reaction_at, with_records, peer_at, sent_by, actor_of, effect_of, peers_after, happens};
 ghost use Rattle.lks_disk.specs.Counts.{Rose};
-ghost use Rattle.lks_host.specs.Fits.{IsHeard};
-ghost use Rattle.lks_world.specs.Hosts.{peers_of, IsReady, AreReady, GoesOn, HaveGoneOn, Counted};
-ghost use Rattle.lks_world.specs.Places.{with_added};
+ghost use Rattle.lks_law.specs.Facts.{IsHeard};
+ghost use Rattle.lks_world.specs.Hosts.{peers_of, IsReady, AreReady, GoesOn, HaveGoneOn, Counted, with_added, IsAbsent, StandsAt};
 ghost use Rattle.lks_world.specs.States.{left_after, world_in, sends_in};
 
-use crate::blaming::blame;
 use crate::deeds::{Deed, ends_of, make_deed};
-use crate::faults::WorldFault;
+use crate::faults::{WorldFault, blame};
 use crate::notes::notes;
-use crate::places::place_of;
 use lks_base::{
     Entry, Envelope, Event, Input, Note, OutOfMemory, Outgoing, PeerId, PeerStep, Reaction, Seq,
 };
-use lks_disk::CrashDisk;
+use lks_disk::{CrashDisk, Disk};
 use lks_host::Host;
 use std::alloc::Global;
 
@@ -52,21 +49,35 @@ fn nothing_done(alloc: Global) -> Done
     }
 }
 
+/// The place of the honest peer of this number.
+#[tactic(auto, unfolding(lks_law::specs::World::peer_at))]
+pub fn place_of<D: Disk>(hosts: &[Host<D>], id: PeerId) -> Option<usize>
+    ensures { MatchOption result (IsAbsent id (peers_of hosts.now)) (StandsAt id hosts.now) }
+{
+    for (i, host) in hosts.iter().enumerate() {
+        if host.id() == id {
+            return Some(i);
+        }
+    }
+    None
+}
+
 fn act_as<D: CrashDisk>(
     alloc: Global,
     host: &mut Host<D>,
     tick: u32,
     input: &Input,
 ) -> Result<Done, WorldFault>
-    requires ready { IsReady D.seen D.may_leave D.fused host.old }
+    requires ready { IsReady D.face host.old }
     requires heard { IsHeard input.now }
     ensures sends { IfOk result (λ d. d.sends ≡ (reaction host.old.peer.own host.old.peer.journal tick input.now).sends) }
     ensures notes { IfOk result (λ d. d.notes ≡ notes_at (Some host.old.peer) (reaction host.old.peer.own host.old.peer.journal tick input.now).records) }
     ensures peer { OnOk result (host.new.peer ≡ with_added host.old.peer (reaction host.old.peer.own host.old.peer.journal tick input.now).records) }
-    ensures on { OnOk result (GoesOn D.seen D.may_leave D.fused host.old host.new) }
+    ensures on { OnOk result (GoesOn D.face host.old host.new) }
     ensures own { host.new.peer.own ≡ host.old.peer.own }
-    ensures later { D.faults host.old.journal.disk ≤ D.faults host.new.journal.disk }
-    ensures cause { (id : ℕ) → IsErrOf result (WorldFault.Disk id) → (host.old.peer.own.id ≡ id) × Rose (D.faults host.old.journal.disk) (D.faults host.new.journal.disk) }
+    ensures fuse { D.face.fused host.new.journal.disk ≡ D.face.fused host.old.journal.disk }
+    ensures later { D.face.faults host.old.journal.disk ≤ D.face.faults host.new.journal.disk }
+    ensures cause { (id : ℕ) → IsErrOf result (WorldFault.Disk id) → (host.old.peer.own.id ≡ id) × Rose (D.face.faults host.old.journal.disk) (D.face.faults host.new.journal.disk) }
 {
     let Reaction { records, sends } = match host.step(tick, input) {
         Ok(reaction) => reaction,
@@ -82,13 +93,13 @@ fn act<D: CrashDisk>(
     tick: u32,
     deed: &Deed,
 ) -> Result<Done, WorldFault>
-    requires ready { AreReady D.seen D.may_leave D.fused hosts.old.items }
+    requires ready { AreReady D.face hosts.old.items }
     requires heard { IsHeard deed.now.input }
     ensures sends { IfOk result (λ d. d.sends ≡ (reaction_at tick (peer_at deed.now.peer (peers_of hosts.old.items)) deed.now.input).sends) }
     ensures notes { IfOk result (λ d. d.notes ≡ notes_at (peer_at deed.now.peer (peers_of hosts.old.items)) (reaction_at tick (peer_at deed.now.peer (peers_of hosts.old.items)) deed.now.input).records) }
     ensures peers { OnOk result (peers_of hosts.new.items ≡ with_records deed.now.peer (reaction_at tick (peer_at deed.now.peer (peers_of hosts.old.items)) deed.now.input).records (peers_of hosts.old.items)) }
-    ensures on { OnOk result (HaveGoneOn D.seen D.may_leave D.fused hosts.old.items hosts.new.items) }
-    ensures counted { Counted D.faults hosts.old.items hosts.new.items result }
+    ensures on { OnOk result (HaveGoneOn D.face hosts.old.items hosts.new.items) }
+    ensures counted { Counted D.face hosts.old.items hosts.new.items result }
 {
     let Some(place) = place_of(hosts, deed.peer) else {
         return Ok(nothing_done(alloc));
@@ -107,8 +118,18 @@ pub fn forget(pending: &mut Vec<u32>, envelope: u32)
 fn take_out(pending: &mut Vec<u32>, s: PeerStep)
     ensures { pending.new.items ≡ left_after s pending.old.items }
 {
-    if let PeerStep::Deliver { envelope, .. } = s {
-        forget(pending, envelope);
+    match s {
+        PeerStep::Deliver { envelope, .. } => forget(pending, envelope),
+        PeerStep::OpenPoll { .. }
+        | PeerStep::Widen { .. }
+        | PeerStep::Shut { .. }
+        | PeerStep::Tally { .. }
+        | PeerStep::Nudge { .. }
+        | PeerStep::GiveUp { .. }
+        | PeerStep::Work { .. }
+        | PeerStep::Expire { .. }
+        | PeerStep::Check { .. }
+        | PeerStep::Tune { .. } => {}
     }
 }
 
@@ -156,13 +177,13 @@ fn do_deed<D: CrashDisk>(
     tick: u32,
     deed: &Option<Deed>,
 ) -> Result<Done, WorldFault>
-    requires ready { AreReady D.seen D.may_leave D.fused hosts.old.items }
+    requires ready { AreReady D.face hosts.old.items }
     requires heard { IfSome deed.now (λ d. IsHeard d.input) }
     ensures sends { IfOk result (λ d. d.sends ≡ (effect_of tick (peers_of hosts.old.items) deed.now).sends) }
     ensures notes { IfOk result (λ d. d.notes ≡ notes_of tick (peers_of hosts.old.items) deed.now) }
     ensures peers { OnOk result (peers_of hosts.new.items ≡ peers_after tick (peers_of hosts.old.items) deed.now) }
-    ensures on { OnOk result (HaveGoneOn D.seen D.may_leave D.fused hosts.old.items hosts.new.items) }
-    ensures counted { Counted D.faults hosts.old.items hosts.new.items result }
+    ensures on { OnOk result (HaveGoneOn D.face hosts.old.items hosts.new.items) }
+    ensures counted { Counted D.face hosts.old.items hosts.new.items result }
 {
     match deed {
         Some(deed) => act(alloc, hosts, tick, deed),
@@ -187,12 +208,13 @@ pub fn step<D: CrashDisk>(
     state: &mut State<D>,
     s: PeerStep,
 ) -> Result<(), WorldFault>
-    requires ready { AreReady D.seen D.may_leave D.fused state.old.hosts.items }
+    requires ready { AreReady D.face state.old.hosts.items }
     ensures world { OnOk result (world_in state.new ≡ happens (world_in state.old) (events.Step s)) }
     ensures history { OnOk result (state.new.history.items ≡ state.old.history.items ++ entry_of (world_in state.old) (events.Step s) ∷ []) }
+    ensures err { OnErr result (state.new.history.items ≡ state.old.history.items) }
     ensures pending { OnOk result (state.new.pending.items ≡ left_after s state.old.pending.items ++ range_with_len (length state.old.bag.items) (sends_in (world_in state.old) s)) }
-    ensures on { OnOk result (HaveGoneOn D.seen D.may_leave D.fused state.old.hosts.items state.new.hosts.items) }
-    ensures counted { Counted D.faults state.old.hosts.items state.new.hosts.items result }
+    ensures on { OnOk result (HaveGoneOn D.face state.old.hosts.items state.new.hosts.items) }
+    ensures counted { Counted D.face state.old.hosts.items state.new.hosts.items result }
 {
     let (from, to) = ends_of(&state.bag, s);
     let deed = make_deed(alloc, &state.bag, s)?;

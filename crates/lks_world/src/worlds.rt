@@ -1,12 +1,15 @@
 //! A world as its callers see it: a plan, and the history of the events that it kept.
 
-ghost use Rattle.std.specs.Prelude.{◌≡◌, ◌≤◌, [], true, None, Some, IfOk, OnOk, length};
+ghost use Rattle.std.specs.Prelude.{◌≡◌, ◌≤◌, ◌++◌, [], true, None, Some, IfOk, IfErr, OnOk, List, length};
 ghost use Rattle.lks_base.specs.Checking.{plan_fault};
+ghost use Rattle.lks_base.specs.declared.events.Event.{Event};
+ghost use Rattle.lks_effort.specs.Verdicts.{first_byte};
 ghost use Rattle.lks_law.specs.Entries.{entries};
+ghost use Rattle.lks_law.specs.Histories.{IsHistory};
 ghost use Rattle.lks_script.specs.StepRules.{is_step_of};
 ghost use Rattle.lks_world.specs.Counts.{fault_in, ServesHonest};
-ghost use Rattle.lks_world.specs.Follows.{performed};
-ghost use Rattle.lks_world.specs.Held.{AreFresh, HaveBatches};
+ghost use Rattle.lks_world.specs.Follows.{Performs};
+ghost use Rattle.lks_world.specs.Held.{AreFresh, AreUnfused, HaveBatches};
 
 use crate::beginning::{begin, take_back};
 use crate::disks::{Spare, join, split};
@@ -42,29 +45,28 @@ pub struct World<D: CrashDisk> {
 }
 
 impl<D: CrashDisk> Model for World<D> {
-    ghost use Rattle.lks_world.specs.Seen.{Seen};
+    ghost use Rattle.lks_world.specs.Worlds.{Seen, seen_in, IsKept};
 
     ghost Value = { Seen D };
 
-    ghost use Rattle.lks_world.specs.Worlds.{seen_in, IsKept};
-
     ghost view = { seen_in };
 
-    ghost invariant = { IsKept D.seen D.may_leave D.fused };
+    ghost invariant = { IsKept D.face };
 }
 
 impl<D: CrashDisk + Drop> World<D> {
-    ghost use Rattle.lks_world.specs.Made.{disks_made, fault_made};
+    ghost use Rattle.lks_world.specs.Begun.{disks_made, fault_made};
 
     /// A world in which nothing happened yet. The plan is good, and there is a fresh disk for each of its peers.
     pub fn new(alloc: Global, plan: Plan, disks: Vec<D>) -> Result<World<D>, (Parts<D>, WorldFault)>
         requires good { plan_fault plan ≡ None }
         requires enough { length plan.peers ≤ length disks.items }
-        requires fresh { AreFresh D.seen D.may_leave D.fused disks.items }
+        requires fresh { AreFresh D.face disks.items }
         ensures plan { IfOk result (λ world. world.plan ≡ plan) }
         ensures history { IfOk result (λ world. world.history ≡ []) }
         ensures running { IfOk result (λ world. world.stopped ≡ None) }
-        ensures disks { ServesHonest D.faults plan.peers disks.items (disks_made result) (fault_made result) }
+        ensures refused { IfErr result (λ e. (e.0.history.items ≡ []) × AreUnfused D.face e.0.disks.items) }
+        ensures disks { ServesHonest D.face plan.peers disks.items (disks_made result) (fault_made result) }
     {
         let (mut honest, spare) = match split(alloc, plan.peers.as_slice(), disks) {
             Ok(parts) => parts,
@@ -91,9 +93,10 @@ impl<D: CrashDisk + Drop> World<D> {
         requires running { self.old.stopped ≡ None }
         requires legal { is_step_of self.old.plan step.now ≡ true }
         ensures plan { self.new.plan ≡ self.old.plan }
-        ensures ok { OnOk result (self.new.history ≡ performed self.old.plan self.old.history step.now) }
+        ensures performs { OnOk result (Performs first_byte self.old.plan self.old.history step.now self.new.history) }
+        ensures front { (more : List Event) × (self.new.history ≡ self.old.history ++ more) }
         ensures stopped { self.new.stopped ≡ fault_in result }
-        ensures disks { ServesHonest D.faults self.old.plan.peers self.old.disks self.new.disks (fault_in result) }
+        ensures disks { ServesHonest D.face self.old.plan.peers self.old.disks self.new.disks (fault_in result) }
     {
         match do_step(self.alloc, &self.plan, &mut self.state, step) {
             Ok(()) => Ok(()),
@@ -111,9 +114,10 @@ impl<D: CrashDisk + Drop> World<D> {
         &self.plan
     }
 
-    /// An entry for each event, in order, while the world isn't stopped.
+    /// An entry for each event, in order. The events are a history of the plan.
     pub fn history(&self) -> &[Entry]
-        ensures { self.now.stopped ≡ None → result.now ≡ entries self.now.plan self.now.history }
+        ensures entries { result.now ≡ entries self.now.plan self.now.history }
+        ensures happened { IsHistory self.now.plan self.now.history }
     {
         self.state.history.as_slice()
     }
@@ -125,11 +129,14 @@ impl<D: CrashDisk + Drop> World<D> {
         self.stopped
     }
 
-    /// Gives the history and the disks back. Unless a fault stopped it, the honest peers' disks hold their journals.
+    /// Gives the history and the disks back, no disk with a fuse. Unless a fault stopped the world, the honest peers'
+    /// disks hold their journals.
     pub fn into_parts(self) -> Parts<D>
-        ensures history { self.stopped ≡ None → result.history.items ≡ entries self.plan self.history }
+        ensures history { result.history.items ≡ entries self.plan self.history }
+        ensures happened { IsHistory self.plan self.history }
+        ensures unfused { AreUnfused D.face result.disks.items }
         ensures disks { result.disks.items ≡ self.disks }
-        ensures holds { self.stopped ≡ None → HaveBatches D.seen D.may_leave self.plan self.history self.disks }
+        ensures holds { self.stopped ≡ None → HaveBatches D.face self.plan self.history self.disks }
     {
         let World {
             plan,
@@ -146,7 +153,8 @@ impl<D: CrashDisk + Drop> World<D> {
 }
 
 fn nothing_done<D>(alloc: Global, disks: Vec<D>) -> Parts<D>
-    ensures { result.disks.items ≡ disks.items }
+    ensures history { result.history.items ≡ [] }
+    ensures disks { result.disks.items ≡ disks.items }
 {
     Parts {
         history: Vec::new(alloc),

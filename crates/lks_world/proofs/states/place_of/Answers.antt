@@ -1,6 +1,6 @@
 use Rattle.std.proofs.Common.{◌≡◌, sym, ◌∙◌}
 use Rattle.lks_world.proofs.PlaceLaws.{stands, passed_found, passed_added}
-use Rattle.lks_world.proofs.places.place_of.Goals as goal
+use Rattle.lks_world.proofs.states.place_of.Goals as goal
 
 pub returns-then-id : goal.returns-then-id
 returns-then-id g c =

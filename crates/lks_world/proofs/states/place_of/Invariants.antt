@@ -2,7 +2,7 @@ use Rattle.std.proofs.Common.{◌≡◌, ◌++◌, List, take, drop}
 use Rattle.lks_base.specs.declared.records.Record.{Record}
 use Rattle.lks_law.specs.World.{peer_at, with_records}
 use Rattle.lks_world.specs.Hosts.{peers_of}
-use Rattle.lks_world.proofs.places.place_of.Given as goal
+use Rattle.lks_world.proofs.states.place_of.Given as goal
 
 abbrev pub invariant-loop-i : goal.invariant-loop-i
 invariant-loop-i g l = record {

@@ -1,0 +1,67 @@
+use Rattle.std.proofs.Common.{◌∙◌, inl, inr, sym, ap, subst}
+use Rattle.lks_effort.specs.Verdicts.{first_byte}
+use Rattle.lks_script.specs.declared.steps.Step.TheVariants as step
+use Rattle.lks_world.proofs.HostLaws.{ok_then}
+use Rattle.lks_world.proofs.OwnSteps.{step_may, ticks_within, forgery_may, no_poll, no_crash, no_cut}
+use Rattle.lks_world.specs.Follows.{Performs}
+use Rattle.lks_world.specs.States.{events_in, world_in}
+use Rattle.lks_world.proofs.doing.do_step.Goals as goal
+
+pub add_ticks-requires-clause-some : goal.add_ticks-requires-clause-some
+add_ticks-requires-clause-some g c = λ κs within. (ticks_within c.args.plan.now c.args.step.now c.in-Tick.by c.in-Tick.is c.requires.legal).0
+
+pub add_ticks-requires-clause-few : goal.add_ticks-requires-clause-few
+add_ticks-requires-clause-few g c = λ κs within. (ticks_within c.args.plan.now c.args.step.now c.in-Tick.by c.in-Tick.is c.requires.legal).1
+
+pub unreachable-requires : goal.unreachable-requires
+unreachable-requires g c = elim c.in-SayPoll.is [
+  | inl poll ↦ no_poll c.args.plan.now c.args.step.now poll.0 poll.1 poll.2 poll.3 poll.4 c.requires.legal
+  | inr others ↦ elim others [
+    | inl crash ↦ no_crash c.args.plan.now c.args.step.now crash.0 crash.1 c.requires.legal
+    | inr cut ↦ no_cut c.args.plan.now c.args.step.now cut.0 cut.1 cut.2 cut.3 c.requires.legal
+  ]
+]
+
+pub returns-in-Peer-clause-state : goal.returns-in-Peer-clause-state
+returns-in-Peer-clause-state g c =
+    ok_then c.add_step.result (λ b. b.state)
+    (c.add_step.ensures.becomes c.args.plan.now c.requires.state (step_may c.args.plan.now (world_in c.args.state.now) c.args.step.now c.in-Peer.s c.in-Peer.is c.requires.legal))
+
+pub returns-in-Peer-clause-performs : goal.returns-in-Peer-clause-performs
+returns-in-Peer-clause-performs g c =
+    ok_then c.add_step.result
+    (λ b. subst (λ s. Performs first_byte c.args.plan.now (events_in c.args.state.now) s (events_in c.add_step.new.state)) (sym c.in-Peer.is) b.events)
+    (c.add_step.ensures.becomes c.args.plan.now c.requires.state (step_may c.args.plan.now (world_in c.args.state.now) c.args.step.now c.in-Peer.s c.in-Peer.is c.requires.legal))
+
+pub returns-in-Peer-clause-extends : goal.returns-in-Peer-clause-extends
+returns-in-Peer-clause-extends g c =
+    c.add_step.ensures.extends c.args.plan.now c.requires.state (step_may c.args.plan.now (world_in c.args.state.now) c.args.step.now c.in-Peer.s c.in-Peer.is c.requires.legal)
+
+pub returns-in_err-add_forgery-in-Forge-clause-extends : goal.returns-in_err-add_forgery-in-Forge-clause-extends
+returns-in_err-add_forgery-in-Forge-clause-extends g c =
+    let bytes = c.in_ok-bytes-in-Forge.bytes in
+    let is = c.in-Forge.is ∙ ap (step.Forge c.in-Forge.from c.in-Forge.to) (sym c.in_ok-bytes-in-Forge.ensures.cases) in
+    let may = forgery_may c.args.plan.now c.args.step.now c.in-Forge.from c.in-Forge.to bytes is c.requires.legal in
+    c.add_forgery.ensures.extends c.args.plan.now c.requires.state may.0 may.1 may.2
+
+pub returns-in_ok-add_forgery-in-Forge-clause-extends : goal.returns-in_ok-add_forgery-in-Forge-clause-extends
+returns-in_ok-add_forgery-in-Forge-clause-extends g c =
+    let bytes = c.in_ok-bytes-in-Forge.bytes in
+    let is = c.in-Forge.is ∙ ap (step.Forge c.in-Forge.from c.in-Forge.to) (sym c.in_ok-bytes-in-Forge.ensures.cases) in
+    let may = forgery_may c.args.plan.now c.args.step.now c.in-Forge.from c.in-Forge.to bytes is c.requires.legal in
+    c.add_forgery.ensures.extends c.args.plan.now c.requires.state may.0 may.1 may.2
+
+pub returns-in_ok-add_forgery-in-Forge-clause-state : goal.returns-in_ok-add_forgery-in-Forge-clause-state
+returns-in_ok-add_forgery-in-Forge-clause-state g c =
+    let bytes = c.in_ok-bytes-in-Forge.bytes in
+    let is = c.in-Forge.is ∙ ap (step.Forge c.in-Forge.from c.in-Forge.to) (sym c.in_ok-bytes-in-Forge.ensures.cases) in
+    let may = forgery_may c.args.plan.now c.args.step.now c.in-Forge.from c.in-Forge.to bytes is c.requires.legal in
+    (c.in_ok-add_forgery-in-Forge.ensures.becomes c.args.plan.now c.requires.state may.0 may.1 may.2).state
+
+pub returns-in_ok-add_forgery-in-Forge-clause-performs : goal.returns-in_ok-add_forgery-in-Forge-clause-performs
+returns-in_ok-add_forgery-in-Forge-clause-performs g c =
+    let bytes = c.in_ok-bytes-in-Forge.bytes in
+    let is = c.in-Forge.is ∙ ap (step.Forge c.in-Forge.from c.in-Forge.to) (sym c.in_ok-bytes-in-Forge.ensures.cases) in
+    let may = forgery_may c.args.plan.now c.args.step.now c.in-Forge.from c.in-Forge.to bytes is c.requires.legal in
+    subst (λ s. Performs first_byte c.args.plan.now (events_in c.args.state.now) s (events_in c.add_forgery.new.state)) (sym is)
+    (c.in_ok-add_forgery-in-Forge.ensures.becomes c.args.plan.now c.requires.state may.0 may.1 may.2).events

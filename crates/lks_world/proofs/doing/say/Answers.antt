@@ -1,0 +1,20 @@
+use Rattle.std.proofs.Common.{◌≡◌, subst}
+use Rattle.lks_effort.specs.Verdicts.{first_byte}
+use Rattle.lks_world.proofs.HostLaws.{ok_then}
+use Rattle.lks_world.proofs.OwnSteps.{said_may, says}
+use Rattle.lks_world.specs.Follows.{spoken}
+use Rattle.lks_world.specs.States.{events_in}
+use Rattle.lks_world.proofs.doing.say.Goals as goal
+
+pub returns-clause-state : goal.returns-clause-state
+returns-clause-state g c = ok_then c.speak.result (λ b. b.state) (c.speak.ensures.becomes c.args.plan.now c.requires.state (said_may c.args.plan.now c.args.step.now c.in_ok-said.said c.in_ok-said.ensures.said c.requires.legal))
+
+pub returns-clause-performs : goal.returns-clause-performs
+returns-clause-performs g c =
+    let history = events_in c.args.state.now in
+    ok_then c.speak.result
+    (λ b. says first_byte c.args.plan.now history (events_in c.speak.new.state) c.args.step.now c.requires.saying (subst (λ said. events_in c.speak.new.state ≡ spoken history said) c.in_ok-said.ensures.said b.events))
+    (c.speak.ensures.becomes c.args.plan.now c.requires.state (said_may c.args.plan.now c.args.step.now c.in_ok-said.said c.in_ok-said.ensures.said c.requires.legal))
+
+pub returns-clause-extends : goal.returns-clause-extends
+returns-clause-extends g c = c.speak.ensures.extends c.args.plan.now c.requires.state (said_may c.args.plan.now c.args.step.now c.in_ok-said.said c.in_ok-said.ensures.said c.requires.legal)

@@ -1,0 +1,42 @@
+//! Laws on what follows a script, and on what disks hold.
+
+ghost use Rattle.std.specs.Prelude.{◌≡◌, ◌≢◌, ◌++◌, ◌∷◌, [], ℕ, true, None, Some, List, slice_get};
+ghost use Rattle.lks_base.specs.Checking.{plan_fault};
+ghost use Rattle.lks_base.specs.declared.events.Event.{Event};
+ghost use Rattle.lks_base.specs.declared.plans.Plan.{Plan};
+ghost use Rattle.lks_base.specs.declared.records.Record.{Record};
+ghost use Rattle.lks_host.specs.Bodies.{bodies_of};
+ghost use Rattle.lks_field.specs.Frames.{HoldsBodies};
+ghost use Rattle.lks_law.specs.Batches.{batches_at};
+ghost use Rattle.lks_law.specs.Histories.{IsHistory};
+ghost use Rattle.lks_law.specs.Questions.{Verdicts};
+ghost use Rattle.lks_script.specs.StepRules.{are_steps_of};
+ghost use Rattle.lks_script.specs.declared.steps.Step.{Step};
+ghost use Rattle.lks_world.specs.Bytes.{GiveBytes};
+ghost use Rattle.lks_world.specs.Disks.{honest_disks};
+ghost use Rattle.lks_world.specs.Follows.{Follows};
+ghost use Rattle.lks_world.specs.Held.{HoldsBatches, HaveBatches, IsFresh};
+
+use lks_disk::CrashDisk;
+
+/// In a good plan, what follows the steps of a script is a history, where the steps go on from one, whatever the judge
+/// says. Numbers that stand for bytes are bytes: those that the steps give, and the proofs of the peers.
+pub fn what_follows_a_script_is_a_history()
+    ensures { (verdict : Verdicts) (plan : Plan) (history after : List Event) (steps : List Step) → plan_fault plan ≡ None
+        → are_steps_of plan steps ≡ true → GiveBytes plan steps → IsHistory plan history → Follows verdict plan history steps after → IsHistory plan after }
+{}
+
+/// What disks hold can be wrong: bytes hold the bodies of one list of batches, so disks that hold the batches of one
+/// history don't hold those of another with other bodies at an honest peer's place, or with one batch more there.
+/// Where the disk of an honest peer is empty, they hold those of none.
+pub fn disks_may_hold_other_batches<D: CrashDisk>()
+    ensures once { (content : List ℕ) (batches others : List (List Record)) → HoldsBodies (bodies_of batches) content → HoldsBodies (bodies_of others) content → bodies_of batches ≡ bodies_of others }
+    ensures disk { (plan : Plan) (history other : List Event) (place : ℕ) (disk : D) → HoldsBatches D.face plan history place disk → HoldsBatches D.face plan other place disk
+        → bodies_of (batches_at place plan history) ≡ bodies_of (batches_at place plan other) }
+    ensures others { (plan : Plan) (history other : List Event) (disks : List D) (place : ℕ) (disk : D) → slice_get (honest_disks plan.peers disks) place ≡ Some disk
+        → bodies_of (batches_at place plan history) ≢ bodies_of (batches_at place plan other) → HaveBatches D.face plan history disks → HaveBatches D.face plan other disks → ⊥ }
+    ensures more { (plan : Plan) (history other : List Event) (disks : List D) (place : ℕ) (disk : D) (batch : List Record) → slice_get (honest_disks plan.peers disks) place ≡ Some disk
+        → batches_at place plan other ≡ batches_at place plan history ++ batch ∷ [] → HaveBatches D.face plan history disks → HaveBatches D.face plan other disks → ⊥ }
+    ensures fresh { (plan : Plan) (history : List Event) (disks : List D) (place : ℕ) (disk : D) → slice_get (honest_disks plan.peers disks) place ≡ Some disk
+        → IsFresh D.face disk → HaveBatches D.face plan history disks → ⊥ }
+{}
