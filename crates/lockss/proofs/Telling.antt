@@ -4,11 +4,13 @@ use Rattle.std.specs.Prelude.{Option, Some}
 use Rattle.lks_base.specs.declared.entries.Entry.{Entry}
 use Rattle.lks_base.specs.declared.events.Event.{Event}
 use Rattle.lks_base.specs.declared.plans.Plan.{Plan}
+use Rattle.lks_law.specs.Alarms.{alarms}
 use Rattle.lks_law.specs.Entries.{entries}
 use Rattle.lks_outside.specs.Streams.{AddsFront}
-use Rattle.lks_report.specs.Alarms.{is_alarmed}
+use Rattle.lks_report.proofs.Told.{all_told}
+use Rattle.lks_report.specs.Alarms.{has_any, is_alarmed}
 use Rattle.lks_report.specs.Text.{text_of}
-use Rattle.lockss.specs.Replay.{report_of, Adds, AddsLess}
+use Rattle.lockss.specs.Playing.{report_of, Adds, AddsLess}
 
 module _ (plan p : Plan) (history : List Event) (es : List Entry) (same_plan : p ≡ plan) (same_entries : es ≡ entries plan history) where
   same_text : text_of p es ≡ report_of plan history
@@ -20,5 +22,5 @@ module _ (plan p : Plan) (history : List Event) (es : List Entry) (same_plan : p
   pub adds_less : (before after : Option (List ℕ)) → ((bytes : List ℕ) → before ≡ Some bytes → AddsFront bytes (text_of p es) after) → AddsLess (report_of plan history) before after
   adds_less before after part taken told = subst (λ text. AddsFront taken text after) same_text (part taken told)
 
-  pub alarmed_as : (b : Bool) → is_alarmed es ≡ b → is_alarmed (entries plan history) ≡ b
-  alarmed_as b is = ap is_alarmed (sym same_entries) ∙ is
+  pub alarmed_as : (b : Bool) → is_alarmed es ≡ b → has_any (alarms plan history) ≡ b
+  alarmed_as b is = sym (all_told plan history) ∙ ap is_alarmed (sym same_entries) ∙ is

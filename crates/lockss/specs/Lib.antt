@@ -1,2 +1,4 @@
 pub mod Codes
+pub mod Playing
+pub mod Promise
 pub mod Replay

@@ -2,12 +2,15 @@
 
 ghost use Rattle.std.specs.Prelude.{◌≡◌, ◌≢◌, ◌≤◌, true, None, OnOk, length};
 ghost use Rattle.lks_base.specs.Checking.{plan_fault};
+ghost use Rattle.lks_base.specs.declared.limits.TheConstants.{MOST_PEERS};
+ghost use Rattle.lks_effort.specs.Verdicts.{first_byte};
+ghost use Rattle.lks_law.specs.Histories.{IsHistory};
 ghost use Rattle.lks_outside.specs.Counts.{Rose};
 ghost use Rattle.lks_script.specs.StepRules.{are_steps_of};
 ghost use Rattle.lks_world.specs.Counts.{fault_in, ServesHonest};
-ghost use Rattle.lks_world.specs.Follows.{follow};
+ghost use Rattle.lks_world.specs.Follows.{Follows};
 ghost use Rattle.lks_world.specs.Held.{AreFresh};
-ghost use Rattle.lockss.specs.Replay.{stopped_as, fault_told, PlaysIn, TellsReport, Plays, IsServed};
+ghost use Rattle.lockss.specs.Playing.{stopped_as, fault_told, TellsReport, PlaysIn, Plays, IsServed};
 
 use crate::statuses::Status;
 use lks_disk::CrashDisk;
@@ -22,9 +25,9 @@ fn perform_all<D: CrashDisk + Drop>(world: &mut World<D>, steps: &[Step]) -> Res
     requires running { world.old.stopped ≡ None }
     requires legal { are_steps_of world.old.plan steps.now ≡ true }
     ensures plan { world.new.plan ≡ world.old.plan }
-    ensures follows { OnOk result (world.new.history ≡ follow world.old.plan world.old.history steps.now) }
+    ensures follows { OnOk result (Follows first_byte world.old.plan world.old.history steps.now world.new.history) }
     ensures stopped { world.new.stopped ≡ fault_in result }
-    ensures serves { ServesHonest D.faults world.old.plan.peers world.old.disks world.new.disks (fault_in result) }
+    ensures serves { ServesHonest D.face world.old.plan.peers world.old.disks world.new.disks (fault_in result) }
 {
     for step in steps {
         world.perform(step)?;
@@ -34,7 +37,7 @@ fn perform_all<D: CrashDisk + Drop>(world: &mut World<D>, steps: &[Step]) -> Res
 
 /// Writes the report of what happened in the world.
 fn tell<K: Sink, D: CrashDisk + Drop>(alloc: Global, world: &World<D>, sink: &mut K) -> Status
-    requires { world.now.stopped ≡ None }
+    ensures happened { IsHistory world.now.plan world.now.history }
     ensures tells { TellsReport world.now.plan world.now.history (K.taken sink.old) (K.taken sink.new) result }
     ensures failed { result ≡ Status.WriteFault → Rose (K.faults sink.old) (K.faults sink.new) }
     ensures count { K.faults sink.old ≤ K.faults sink.new }
@@ -73,8 +76,8 @@ fn play_in<K: Sink, D: CrashDisk + Drop>(
     requires running { world.old.stopped ≡ None }
     requires legal { are_steps_of world.old.plan steps.now ≡ true }
     ensures plan { world.new.plan ≡ world.old.plan }
-    ensures plays { PlaysIn world.old.plan (follow world.old.plan world.old.history steps.now) world.new (K.taken sink.old) (K.taken sink.new) result }
-    ensures serves { ServesHonest D.faults world.old.plan.peers world.old.disks world.new.disks (fault_told result) }
+    ensures plays { PlaysIn K.taken steps.now world.old world.new sink.old sink.new result }
+    ensures serves { ServesHonest D.face world.old.plan.peers world.old.disks world.new.disks (fault_told result) }
     ensures failed { result ≡ Status.WriteFault → Rose (K.faults sink.old) (K.faults sink.new) }
     ensures count { K.faults sink.old ≤ K.faults sink.new }
 {
@@ -93,10 +96,10 @@ pub fn play<K: Sink, D: CrashDisk + Drop>(
 ) -> Status
     requires good { plan_fault script.plan ≡ None }
     requires legal { are_steps_of script.plan script.steps ≡ true }
-    requires enough { 32 ≤ length disks.old.items }
-    requires fresh { AreFresh D.seen D.may_leave D.fused disks.old.items }
-    ensures plays { Plays D.seen D.may_leave disks.new.items script (K.taken sink.old) (K.taken sink.new) result }
-    ensures served { IsServed D.faults disks.old.items disks.new.items script result }
+    requires enough { MOST_PEERS ≤ length disks.old.items }
+    requires fresh { AreFresh D.face disks.old.items }
+    ensures plays { Plays D.face K.taken disks.new.items script sink.old sink.new result }
+    ensures served { IsServed D.face disks.old.items disks.new.items script result }
     ensures failed { result ≡ Status.WriteFault → Rose (K.faults sink.old) (K.faults sink.new) }
     ensures count { K.faults sink.old ≤ K.faults sink.new }
     ensures not_usage { result ≢ Status.Usage }

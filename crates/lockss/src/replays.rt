@@ -1,11 +1,15 @@
 //! The command `replay`.
 
 ghost use Rattle.std.specs.Prelude.{◌≡◌, ◌≢◌, ◌≤◌, ◌↔◌, ℕ, List, true, false, Some, Ok, length, map, string_bytes};
+ghost use Rattle.lks_base.specs.declared.limits.TheConstants.{MOST_PEERS};
 ghost use Rattle.lks_outside.specs.Counts.{Rose};
-ghost use Rattle.lks_world.specs.Held.{AreFresh};
 ghost use Rattle.lks_script.specs.Grammar.{script_of};
 ghost use Rattle.lks_script.specs.declared.steps.Script.{Script as Read};
-ghost use Rattle.lockss.specs.Replay.{is_replay, most_bytes, PlaysBytes, Replays, LeavesDisks, NoneRose, Completes};
+ghost use Rattle.lks_world.specs.Held.{AreFresh};
+ghost use Rattle.lockss.specs.Playing.{devices};
+ghost use Rattle.lockss.specs.Promise.{Promise};
+ghost use Rattle.lockss.specs.declared.replays.TheConstants.{MOST_BYTES};
+ghost use Rattle.lockss.specs.Replay.{is_replay, PlaysBytes, Replays, NoneRose, Completes};
 
 use crate::playing::play;
 use crate::statuses::Status;
@@ -32,9 +36,9 @@ fn play_bytes<K: Sink, D: CrashDisk + Drop>(
     disks: &mut Vec<D>,
     sink: &mut K,
 ) -> Status
-    requires enough { 32 ≤ length disks.old.items }
-    requires fresh { AreFresh D.seen D.may_leave D.fused disks.old.items }
-    ensures plays { PlaysBytes D.faults D.seen D.may_leave disks.old.items disks.new.items bytes.now (K.taken sink.old) (K.taken sink.new) result }
+    requires enough { MOST_PEERS ≤ length disks.old.items }
+    requires fresh { AreFresh D.face disks.old.items }
+    ensures plays { PlaysBytes D.face K.taken bytes.now (devices disks.old.items sink.old) (devices disks.new.items sink.new) result }
     ensures failed { result ≡ Status.WriteFault → Rose (K.faults sink.old) (K.faults sink.new) }
     ensures count { K.faults sink.old ≤ K.faults sink.new }
     ensures not_usage { result ≢ Status.Usage }
@@ -53,11 +57,9 @@ fn replay<S: Source, K: Sink, D: CrashDisk + Drop>(
     sink: &mut K,
     disks: &mut Vec<D>,
 ) -> Status
-    requires enough { 32 ≤ length disks.old.items }
-    requires fresh { AreFresh D.seen D.may_leave D.fused disks.old.items }
-    ensures replays { (bytes : List ℕ) → S.left source.old ≡ Some bytes →
-        Replays D.faults D.seen D.may_leave disks.old.items disks.new.items bytes (S.left source.new) (K.taken sink.old) (K.taken sink.new) result }
-    ensures disks { LeavesDisks D.faults disks.old.items disks.new.items result }
+    requires enough { MOST_PEERS ≤ length disks.old.items }
+    requires fresh { AreFresh D.face disks.old.items }
+    ensures replays { Replays D.face K.taken (S.left source.old) (S.left source.new) (devices disks.old.items sink.old) (devices disks.new.items sink.new) result }
     ensures read_fault { result ≡ Status.ReadFault → Rose (S.faults source.old) (S.faults source.new) }
     ensures write_fault { result ≡ Status.WriteFault → Rose (K.faults sink.old) (K.faults sink.new) }
     ensures source_count { S.faults source.old ≤ S.faults source.new }
@@ -82,16 +84,16 @@ pub fn run<S: Source, K: Sink, D: CrashDisk + Drop>(
     sink: &mut K,
     disks: &mut Vec<D>,
 ) -> Status
-    requires enough { 32 ≤ length disks.old.items }
-    requires fresh { AreFresh D.seen D.may_leave D.fused disks.old.items }
+    requires enough { MOST_PEERS ≤ length disks.old.items }
+    requires fresh { AreFresh D.face disks.old.items }
+    ensures promise { Promise D.face disks.new.items result }
     ensures usage { (result ≡ Status.Usage) ↔ (is_replay (map string_bytes words.now) ≡ false) }
     ensures untouched { result ≡ Status.Usage → (source.new ≡ source.old) × (sink.new ≡ sink.old) × (disks.new ≡ disks.old) }
-    ensures replays { is_replay (map string_bytes words.now) ≡ true → (bytes : List ℕ) → S.left source.old ≡ Some bytes →
-        Replays D.faults D.seen D.may_leave disks.old.items disks.new.items bytes (S.left source.new) (K.taken sink.old) (K.taken sink.new) result }
-    ensures disks { LeavesDisks D.faults disks.old.items disks.new.items result }
-    ensures complete { is_replay (map string_bytes words.now) ≡ true → (bytes : List ℕ) (script : Read) → S.left source.old ≡ Some bytes → length bytes ≤ most_bytes → script_of bytes ≡ Ok script
+    ensures replays { is_replay (map string_bytes words.now) ≡ true →
+        Replays D.face K.taken (S.left source.old) (S.left source.new) (devices disks.old.items sink.old) (devices disks.new.items sink.new) result }
+    ensures complete { is_replay (map string_bytes words.now) ≡ true → (bytes : List ℕ) (script : Read) → S.left source.old ≡ Some bytes → length bytes ≤ MOST_BYTES → script_of bytes ≡ Ok script
         → (Rose (S.faults source.old) (S.faults source.new) → ⊥) → (Rose (K.faults sink.old) (K.faults sink.new) → ⊥)
-        → NoneRose D.faults disks.old.items disks.new.items → Completes script result }
+        → NoneRose D.face disks.old.items disks.new.items → Completes result }
     ensures read_fault { result ≡ Status.ReadFault → Rose (S.faults source.old) (S.faults source.new) }
     ensures write_fault { result ≡ Status.WriteFault → Rose (K.faults sink.old) (K.faults sink.new) }
     ensures source_count { S.faults source.old ≤ S.faults source.new }

@@ -16,7 +16,7 @@ const DEPOSIT: &[u8] =
 /// Disks of which the first fails at these calls.
 fn failing_disks(alloc: Global, fail: &[u32]) -> Result<Vec<MemDisk>, Fail>
     ensures enough { IfOk result (λ disks. 32 ≤ length disks.items) }
-    ensures fresh { IfOk result (λ disks. AreFresh ⟦<MemDisk as Disk>⟧.seen ⟦<MemDisk as Disk>⟧.may_leave ⟦<MemDisk as Disk>⟧.fused disks.items) }
+    ensures fresh { IfOk result (λ disks. AreFresh ⟦<MemDisk as Disk>⟧.face disks.items) }
 {
     let mut disks = Vec::new(alloc);
     disks.push(fresh_disk(alloc, fail.to_vec(alloc)?))?;

@@ -1,7 +1,7 @@
-use Rattle.std.proofs.Common.{◌∙◌, ap, sym, subst, arith, length}
+use Rattle.std.proofs.Common.{ap, sym, subst, arith, length}
 use Rattle.lks_base.proofs.PlanBounds.{few_peers}
 use Rattle.lks_world.specs.Held.{AreFresh}
-use Rattle.lockss.proofs.Played.{played_as, played_from, served_then}
+use Rattle.lockss.proofs.Played.{played_as, served_then}
 use Rattle.lockss.proofs.playing.play.Goals as goal
 
 pub new-requires-2-clause-enough : goal.new-requires-2-clause-enough
@@ -11,17 +11,15 @@ new-requires-2-clause-enough g c = λ κs lives.
     omega (arith, few, c.requires.enough, handed)
 
 pub new-requires-2-clause-fresh : goal.new-requires-2-clause-fresh
-new-requires-2-clause-fresh g c = λ κs lives.
-    subst (AreFresh g.D.Disk.seen g.D.Disk.may_leave g.D.Disk.fused) (sym (ap (λ v. v.items) c.replace-handed.ensures.value)) c.requires.fresh
+new-requires-2-clause-fresh g c = λ κs lives. subst (AreFresh g.D.Disk.face) (sym (ap (λ v. v.items) c.replace-handed.ensures.value)) c.requires.fresh
 
 pub returns-clause-plays : goal.returns-clause-plays
 returns-clause-plays g c =
-    played_as g.D.Disk.seen g.D.Disk.may_leave c.into_parts.result.disks.items c.args.script c.play_in-status.new.world (g.K.Sink.taken c.args.sink.now) (g.K.Sink.taken c.play_in-status.new.sink)
-    (c.play_in-status.ensures.plan ∙ c.in-Ok.ensures.plan) c.into_parts.ensures.disks c.into_parts.ensures.holds c.play_in-status.result
-    (played_from c.args.script c.in-Ok.world c.play_in-status.new.world c.as_slice.result.now (g.K.Sink.taken c.args.sink.now) (g.K.Sink.taken c.play_in-status.new.sink) c.play_in-status.result
-    c.in-Ok.ensures.plan c.in-Ok.ensures.history c.as_slice.ensures c.play_in-status.ensures.plays)
+    played_as g.D.Disk.face g.K.Sink.taken c.into_parts.result.disks.items c.args.script c.in-Ok.world c.play_in-status.new.world c.as_slice.result.now c.requires.good
+    c.in-Ok.ensures.plan c.in-Ok.ensures.history c.as_slice.ensures c.play_in-status.ensures.plan c.into_parts.ensures.disks c.into_parts.ensures.holds
+    c.play_in-status.result c.args.sink.now c.play_in-status.new.sink c.play_in-status.ensures.plays
 
 pub returns-clause-served : goal.returns-clause-served
 returns-clause-served g c =
-    served_then g.D.Disk.faults c.args.script c.replace-handed.result.items c.args.disks.now.items c.into_parts.result.disks.items c.in-Ok.world c.play_in-status.new.world c.play_in-status.result
+    served_then g.D.Disk.face c.args.script c.replace-handed.result.items c.args.disks.now.items c.into_parts.result.disks.items c.in-Ok.world c.play_in-status.new.world c.play_in-status.result
     c.in-Ok.ensures.plan (ap (λ v. v.items) c.replace-handed.ensures.value) c.into_parts.ensures.disks c.in-Ok.ensures.disks c.play_in-status.ensures.serves

@@ -1,0 +1,36 @@
+-- What the program promises of each run that it reports, whatever its source and its sink tell.
+use Rattle.std.specs.Prelude.{◌≡◌, None, List}
+use Rattle.lks_base.specs.Checking.{plan_fault}
+use Rattle.lks_base.specs.declared.events.Event.{Event}
+use Rattle.lks_base.specs.declared.plans.Plan.{Plan}
+use Rattle.lks_disk.specs.Face.{Face}
+use Rattle.lks_law.specs.Histories.{IsHistory}
+use Rattle.lks_law.specs.Safe.{Safe}
+use Rattle.lks_world.specs.Held.{HaveBatches}
+use Rattle.lockss.specs.declared.statuses.Status.{Status}
+use Rattle.lockss.specs.declared.statuses.Status.TheVariants.{Done, Alarmed, Usage, BadScript, ReadFault, WriteFault, DiskFault, NoMemory, TooLong}
+
+-- The plan breaks no rule, and what happened is a history that such a plan can have. It is safe: each block that an honest
+-- peer replaced has, before it in that peer's journal, at least a quorum of votes of distinct invited inner peers of one
+-- poll, at most a minority of them for the old block, and at most a minority against the new one. Each honest peer's disk
+-- holds the batches of its journal, and so it does after every crash.
+pub record IsSafeRun {D : Type 0} (f : Face D) (disks : List D) (plan : Plan) (history : List Event) : Type 0 where
+  pub good : plan_fault plan ≡ None
+  pub happened : IsHistory plan history
+  pub safe : Safe plan history
+  pub held : HaveBatches f plan history disks
+
+abbrev pub SomeSafeRun : {D : Type 0} → Face D → List D → Type 0
+SomeSafeRun f disks = (plan : Plan) × (history : List Event) × IsSafeRun f disks plan history
+
+-- the promise at each answer: every run whose report was written, all of it or less, was a safe one
+abbrev pub Promise : {D : Type 0} → Face D → List D → Status → Type 0
+Promise f disks Done = SomeSafeRun f disks
+Promise f disks Alarmed = SomeSafeRun f disks
+Promise f disks WriteFault = SomeSafeRun f disks
+Promise f disks Usage = Unit {0}
+Promise f disks (BadScript line) = Unit {0}
+Promise f disks ReadFault = Unit {0}
+Promise f disks (DiskFault peer) = Unit {0}
+Promise f disks NoMemory = Unit {0}
+Promise f disks TooLong = Unit {0}
