@@ -2,6 +2,7 @@ pub mod Batches
 pub mod Breaking
 pub mod Grown
 pub mod Happening
+pub mod HeldCopies
 pub mod Histories
 pub mod Kept
 pub mod Journals
@@ -10,5 +11,10 @@ pub mod PollStates
 pub mod Ranges
 pub mod Repairs
 pub mod Rows
+pub mod RunningPolls
 pub mod Samples
+pub mod Scans
+pub mod Standing
+pub mod StateRows
 pub mod Unnumbered
+pub mod Writing

@@ -9,7 +9,10 @@ pub mod Histories
 pub mod Journal
 pub mod Polls
 pub mod Questions
+pub mod Reacting
 pub mod Reaction
 pub mod References
 pub mod Safe
+pub mod State
 pub mod World
+pub mod Written

@@ -6,21 +6,28 @@ ghost use Rattle.lks_base.specs.declared.entries.Entry.{Entry};
 ghost use Rattle.lks_base.specs.declared.events.Due.{Due};
 ghost use Rattle.lks_base.specs.declared.events.Event.{Event};
 ghost use Rattle.lks_base.specs.declared.limits.TheConstants.{MOST_EVENTS};
+ghost use Rattle.lks_base.specs.declared.plans.AuPlan.{AuPlan};
+ghost use Rattle.lks_base.specs.declared.plans.Holding.{Holding};
 ghost use Rattle.lks_base.specs.declared.plans.Plan.{Plan};
+ghost use Rattle.lks_base.specs.declared.reactions.Input.{Input};
+ghost use Rattle.lks_base.specs.declared.records.Record.{Record};
 ghost use Rattle.lks_law.specs.Alarms.{alarms_by, alarms};
 ghost use Rattle.lks_law.specs.Batches.{together, journal_at, batches_at};
 ghost use Rattle.lks_law.specs.Broken.{with_one_vote, with_one_voter, with_later_votes, with_no_envelope};
 ghost use Rattle.lks_law.specs.Circles.{Samples};
 ghost use Rattle.lks_law.specs.Due.{next_to_finish};
 ghost use Rattle.lks_law.specs.Entries.{entries};
-ghost use Rattle.lks_law.specs.Facts.{HaveJournals, HasPolls};
+ghost use Rattle.lks_law.specs.Facts.{IsJournalOf, HaveJournals, HasPolls};
 ghost use Rattle.lks_law.specs.Histories.{MayHappen, IsHistory};
 ghost use Rattle.lks_law.specs.Journal.{Opening, opening_of};
 ghost use Rattle.lks_law.specs.Polls.{Station, verdict_in};
 ghost use Rattle.lks_law.specs.Questions.{Verdicts, asked_by, questions, event_of};
-ghost use Rattle.lks_law.specs.Reaction.{may_tally};
+ghost use Rattle.lks_law.specs.Reacting.{react_on};
+ghost use Rattle.lks_law.specs.Reaction.{may_tally, reaction};
 ghost use Rattle.lks_law.specs.Safe.{HasEvidence, Safe};
-ghost use Rattle.lks_law.specs.World.{Standing, world};
+ghost use Rattle.lks_law.specs.State.{state_of};
+ghost use Rattle.lks_law.specs.World.{Standing, deposits, world};
+ghost use Rattle.lks_law.specs.Written.{AreWritten};
 ghost use Rattle.lks_tally.specs.declared.ballots.Verdict.{Verdict};
 
 /// The entries of a history are those of its events, one each, in order.
@@ -46,8 +53,9 @@ pub fn every_circle_is_a_sample()
     ensures { (plan : Plan) → plan_fault plan ≡ None → (history : List Event) (place : ℕ) (s : Standing) → slice_get (world plan history).peers place ≡ Some s → Samples s }
 {}
 
-/// The polls of an honest peer are numbered from 1 on, each is opened once, and at most one runs on an AU. A poll that runs and is shut has its quorum, and so has each
-/// that asked for a repair. It waits for one repair at most, and its votes still say that this block is lost.
+/// The polls of an honest peer are numbered from 1 on, each is opened once, and at most one runs on an AU. A poll that
+/// runs and is shut has its quorum, and so has each that asked for a repair. It waits for one repair at most, and its
+/// votes still say that this block is lost.
 pub fn every_poll_keeps_its_state()
     ensures { (plan : Plan) (history : List Event) (place : ℕ) (s : Standing) → slice_get (world plan history).peers place ≡ Some s → HasPolls s.own s.journal }
 {}
@@ -89,4 +97,17 @@ pub fn rules_can_be_broken()
 /// the new one.
 pub fn every_replacement_has_evidence()
     ensures { (plan : Plan) (history : List Event) → Safe plan history }
+{}
+
+/// What a peer adds and sends is what it adds and sends in the state for which its journal stands, if the journal is written
+/// so: deposits come first, no record names a poll before it is opened, a poll asks while it runs, and it is closed once,
+/// when it waits for nothing.
+pub fn every_state_stands_for_its_journal()
+    ensures { (own : Station) (journal : List Record) → AreWritten [] journal → (tick : ℕ) (i : Input) → react_on own (state_of own journal) tick i ≡ reaction own journal tick i }
+{}
+
+/// Each journal that the rules make is written so, with its numbers or without, and so is that of each honest peer of a world.
+pub fn every_journal_is_written()
+    ensures made { (own : Station) (aus : List AuPlan) (copies : List Holding) (tick : ℕ) (journal : List Record) → IsJournalOf own (deposits aus copies) tick journal → AreWritten [] journal }
+    ensures kept { (plan : Plan) (history : List Event) (place : ℕ) (s : Standing) → slice_get (world plan history).peers place ≡ Some s → AreWritten [] s.journal }
 {}

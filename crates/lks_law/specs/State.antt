@@ -1,0 +1,268 @@
+-- The state of a peer: all that its journal says to it, and what one record more makes of that.
+use Rattle.std.specs.Prelude.{ℕ, Bool, true, false, ◌==◌, ◌+◌, ◌-◌, nat_lt, if◌then◌else◌, Option, Some, None, is_some, List, [], ◌∷◌, ◌++◌, slice_set, length, find}
+use Rattle.lks_base.specs.Checking.{has_member}
+use Rattle.lks_base.specs.declared.names.Numbers.{Numbers}
+use Rattle.lks_base.specs.declared.names.Outcome.TheVariants.{Agreed, Inquorate, Split, NoSupplier}
+use Rattle.lks_base.specs.declared.plans.Rules.{Rules}
+use Rattle.lks_base.specs.declared.records.Record.{Record}
+use Rattle.lks_base.specs.declared.records.Record.TheVariants.{Deposit, PollOpened, Nominated, OuterOpened, VoteIn, Shut, Asked, RepairBad, Replaced, Closed, Overdue, Joined, Committed, Voted, Served, Ended, Tuned}
+use Rattle.lks_law.specs.Journal.{Opening, Request, Audit, is_opening, agreed_in, numbers_after}
+use Rattle.lks_law.specs.Polls.{Station, limits_of, ballot_of}
+use Rattle.lks_law.specs.References.{picked_friends}
+use Rattle.lks_refs.specs.Lists.{list_after}
+use Rattle.lks_tally.specs.Counting.{voters_for, voters_against}
+use Rattle.lks_tally.specs.declared.ballots.Vote.{Vote}
+
+-- whom a voter nominated
+pub record Nomination : Type 0 where
+  pub voter : ℕ
+  pub nominees : List ℕ
+
+-- a poll that runs
+pub record Poll : Type 0 where
+  pub number : ℕ
+  pub opening : Opening
+  pub nominations : List Nomination
+  pub outer : Option (List ℕ)  -- the outer circle, once it is invited
+  pub inner_votes : List Vote
+  pub outer_votes : List Vote
+  pub voters : List ℕ  -- of both circles, in order of their votes
+  pub shut : Bool
+  pub asked : List Request
+  pub request : Option Request  -- the one that is unanswered
+
+-- an AU that is held
+pub record Copy : Type 0 where
+  pub au : ℕ
+  pub blocks : List (List ℕ)
+  pub version : ℕ  -- how many blocks were replaced
+  pub opened : Option ℕ  -- the latest tick at which a poll on it was opened
+  pub audit : Audit
+
+-- what a peer knows
+pub record State : Type 0 where
+  pub numbers : Numbers  -- those in force
+  pub openings : ℕ  -- how many polls were opened
+  pub copies : List Copy
+  pub polls : List Poll  -- those that run, in order of their openings
+  pub refs : List ℕ
+
+-- Polls.
+
+-- the opening with the numbers of its poll, which may be the rules'
+abbrev pub settled : Rules → Opening → Opening
+settled rules o = record o { limits = Some (limits_of rules o) }
+
+-- a poll that was opened just now
+abbrev pub begun : ℕ → Opening → Poll
+begun n opening =
+    record {
+      number = n;
+      opening = opening;
+      nominations = [];
+      outer = None;
+      inner_votes = [];
+      outer_votes = [];
+      voters = [];
+      shut = false;
+      asked = [];
+      request = None;
+    }
+
+-- a voter nominated these
+abbrev pub nominated_by : ℕ → List ℕ → Poll → Poll
+nominated_by voter nominees p = record p { nominations = p.nominations ++ record { voter = voter; nominees = nominees } ∷ [] }
+
+-- the circle that was invited first stays
+abbrev pub first_circle : Option (List ℕ) → List ℕ → Option (List ℕ)
+first_circle None outer = Some outer
+first_circle (Some before) outer = Some before
+
+-- the outer circle is invited
+abbrev pub widened_to : List ℕ → Poll → Poll
+widened_to outer p = record p { outer = first_circle p.outer outer }
+
+-- a vote came, of the inner circle or of the outer one
+abbrev pub voted_by : Vote → Poll → Poll
+voted_by v p =
+    if has_member p.opening.inner v.voter
+    then record p { inner_votes = p.inner_votes ++ v ∷ []; voters = p.voters ++ v.voter ∷ [] }
+    else record p { outer_votes = p.outer_votes ++ v ∷ []; voters = p.voters ++ v.voter ∷ [] }
+
+-- voting ended
+abbrev pub shut_now : Poll → Poll
+shut_now p = record p { shut = true }
+
+-- a voter was asked for a block
+abbrev pub asking : Request → Poll → Poll
+asking r p = record p { asked = p.asked ++ r ∷ []; request = Some r }
+
+-- the request was answered, or given up
+abbrev pub answered : Poll → Poll
+answered p = record p { request = None }
+
+-- the running poll of this number
+abbrev pub poll_at : ℕ → List Poll → Option Poll
+poll_at n ps = find (λ (p : Poll). p.number == n) ps
+
+-- poll n changes: the first of this number
+abbrev pub changed : ℕ → (Poll → Poll) → List Poll → List Poll
+changed n f [] = []
+changed n f (p ∷ ps) = if p.number == n then f p ∷ ps else p ∷ changed n f ps
+
+-- poll n is gone: the first of this number
+abbrev pub without_poll : ℕ → List Poll → List Poll
+without_poll n [] = []
+without_poll n (p ∷ ps) = if p.number == n then ps else p ∷ without_poll n ps
+
+-- the running polls after a record
+abbrev pub polls_after : Rules → Record → List Poll → List Poll
+polls_after rules (Deposit au blocks) ps = ps
+polls_after rules (PollOpened number au nonce inner tick limits kind) ps =
+    ps ++ begun number (settled rules (record { au = au; nonce = nonce; inner = inner; limits = limits; kind = kind })) ∷ []
+polls_after rules (Nominated number voter nominees) ps = changed number (nominated_by voter nominees) ps
+polls_after rules (OuterOpened number outer) ps = changed number (widened_to outer) ps
+polls_after rules (VoteIn number voter hashes) ps = changed number (voted_by (record { voter = voter; hashes = hashes })) ps
+polls_after rules (Shut number) ps = changed number shut_now ps
+polls_after rules (Asked number block voter) ps = changed number (asking (record { block = block; voter = voter })) ps
+polls_after rules (RepairBad number block voter) ps = changed number answered ps
+polls_after rules (Replaced number au block bytes) ps = changed number answered ps
+polls_after rules (Closed number outcome tick) ps = without_poll number ps
+polls_after rules (Overdue au tick) ps = ps
+polls_after rules (Joined poll au tick low repairs) ps = ps
+polls_after rules (Committed poll nonce version kind) ps = ps
+polls_after rules (Voted poll hashes) ps = ps
+polls_after rules (Served poll block) ps = ps
+polls_after rules (Ended poll) ps = ps
+polls_after rules (Tuned quorum minority repairs) ps = ps
+
+-- Copies.
+
+-- the copy of an AU, if it is held
+abbrev pub copy_at : ℕ → List Copy → Option Copy
+copy_at au cs = find (λ (c : Copy). c.au == au) cs
+
+-- the blocks of this copy, none where there is none
+abbrev pub blocks_in : Option Copy → List (List ℕ)
+blocks_in None = []
+blocks_in (Some c) = c.blocks
+
+-- the blocks of an AU, none of one that isn't held
+abbrev pub blocks_at : ℕ → List Copy → List (List ℕ)
+blocks_at au cs = blocks_in (copy_at au cs)
+
+-- a copy with which the peer began
+abbrev pub deposited : ℕ → List (List ℕ) → Copy
+deposited au blocks = record { au = au; blocks = blocks; version = 0; opened = None; audit = record { tick = 0; noted = false } }
+
+-- the later of two ticks
+abbrev pub later : Option ℕ → ℕ → Option ℕ
+later None tick = Some tick
+later (Some before) tick = Some (if nat_lt before tick then tick else before)
+
+-- a poll on it was opened
+abbrev pub opened_at : ℕ → Copy → Copy
+opened_at tick c = record c { opened = later c.opened tick }
+
+-- a block was replaced
+abbrev pub replaced_in : ℕ → List ℕ → Copy → Copy
+replaced_in block bytes c = record c { blocks = slice_set c.blocks block bytes; version = c.version + 1 }
+
+-- a poll on it was agreed
+abbrev pub agreed_at : ℕ → Copy → Copy
+agreed_at tick c = record c { audit = record { tick = tick; noted = false } }
+
+-- it was noted as overdue
+abbrev pub noted : Copy → Copy
+noted c = record c { audit = record { tick = c.audit.tick; noted = true } }
+
+-- the copy of this AU changes
+abbrev pub copy_changed : ℕ → (Copy → Copy) → List Copy → List Copy
+copy_changed au f [] = []
+copy_changed au f (c ∷ cs) = if c.au == au then f c ∷ cs else c ∷ copy_changed au f cs
+
+-- the copy that the poll was on is agreed
+abbrev pub agreed_on : Option Poll → ℕ → List Copy → List Copy
+agreed_on None tick cs = cs
+agreed_on (Some p) tick cs = copy_changed p.opening.au (agreed_at tick) cs
+
+-- the copies after a record, given the running polls before it
+abbrev pub copies_after : List Poll → Record → List Copy → List Copy
+copies_after ps (Deposit au blocks) cs = if is_some (copy_at au cs) then cs else cs ++ deposited au blocks ∷ []
+copies_after ps (PollOpened number au nonce inner tick limits kind) cs = copy_changed au (opened_at tick) cs
+copies_after ps (Nominated number voter nominees) cs = cs
+copies_after ps (OuterOpened number outer) cs = cs
+copies_after ps (VoteIn number voter hashes) cs = cs
+copies_after ps (Shut number) cs = cs
+copies_after ps (Asked number block voter) cs = cs
+copies_after ps (RepairBad number block voter) cs = cs
+copies_after ps (Replaced number au block bytes) cs = copy_changed au (replaced_in block bytes) cs
+copies_after ps (Closed number Agreed tick) cs = agreed_on (poll_at number ps) tick cs
+copies_after ps (Closed number Inquorate tick) cs = cs
+copies_after ps (Closed number (Split block) tick) cs = cs
+copies_after ps (Closed number (NoSupplier block) tick) cs = cs
+copies_after ps (Overdue au tick) cs = copy_changed au noted cs
+copies_after ps (Joined poll au tick low repairs) cs = cs
+copies_after ps (Committed poll nonce version kind) cs = cs
+copies_after ps (Voted poll hashes) cs = cs
+copies_after ps (Served poll block) cs = cs
+copies_after ps (Ended poll) cs = cs
+copies_after ps (Tuned quorum minority repairs) cs = cs
+
+-- The reference list.
+
+-- the inner voters of a poll against these blocks at the last one
+abbrev pub leavers : Station → Poll → List (List ℕ) → List ℕ
+leavers own p blocks = voters_against (ballot_of own p.number p.opening (length blocks)) p.inner_votes blocks (length blocks - 1)
+
+-- the outer voters for them there
+abbrev pub comers : Station → Poll → List (List ℕ) → List ℕ
+comers own p blocks = voters_for (ballot_of own p.number p.opening (length blocks)) p.outer_votes blocks (length blocks - 1)
+
+-- This poll is agreed: who was against leaves the list, then who joins and who is picked comes to its end.
+abbrev pub refs_agreed : Station → List ℕ → List Copy → Option Poll → List ℕ
+refs_agreed own refs cs None = refs
+refs_agreed own refs cs (Some p) =
+    list_after own.id refs (leavers own p (blocks_at p.opening.au cs)) (comers own p (blocks_at p.opening.au cs)) (picked_friends own p.number)
+
+-- the list once this poll is agreed, if one is
+abbrev pub refs_if : Station → State → Option ℕ → List ℕ
+refs_if own s None = s.refs
+refs_if own s (Some n) = refs_agreed own s.refs s.copies (poll_at n s.polls)
+
+-- the list after a record
+abbrev pub refs_after : Station → State → Record → List ℕ
+refs_after own s r = refs_if own s (agreed_in r)
+
+-- The state.
+
+-- after a record
+unfoldable pub after : Station → State → Record → State
+after own s r =
+    record {
+      numbers = numbers_after s.numbers r;
+      openings = if is_opening r then s.openings + 1 else s.openings;
+      copies = copies_after s.polls r s.copies;
+      polls = polls_after own.rules r s.polls;
+      refs = refs_after own s r;
+    }
+
+-- after these records, one after another
+abbrev pub after_all : Station → State → List Record → State
+after_all own s [] = s
+after_all own s (r ∷ rs) = after_all own (after own s r) rs
+
+-- of a peer with no records
+abbrev pub blank : Station → State
+blank own =
+    record {
+      numbers = record { quorum = own.rules.quorum; minority = own.rules.minority; repairs = own.rules.repairs };
+      openings = 0;
+      copies = [];
+      polls = [];
+      refs = own.refs;
+    }
+
+-- what a journal says to its peer
+unfoldable pub state_of : Station → List Record → State
+state_of own journal = after_all own (blank own) journal

@@ -1,0 +1,57 @@
+-- What is true of each record of a journal that the rules made, and of the journal before it.
+use Rattle.std.specs.Prelude.{◌≡◌, ◌==◌, ℕ, Bool, true, false, None, List, [], ◌∷◌, ◌++◌}
+use Rattle.std.specs.List.{list_any, list_all}
+use Rattle.lks_base.specs.declared.records.Record.{Record}
+use Rattle.lks_base.specs.declared.records.Record.TheVariants.{Deposit, PollOpened, Nominated, OuterOpened, VoteIn, Shut, Asked, RepairBad, Replaced, Closed, Overdue, Joined, Committed, Voted, Served, Ended, Tuned}
+use Rattle.lks_law.specs.Journal.{is_closed, is_running, unanswered}
+
+-- whether the record is what the peer began with
+abbrev pub is_deposit : Record → Bool
+is_deposit (Deposit au blocks) = true
+is_deposit _ = false
+
+-- whether the record names the peer's own poll n
+abbrev pub is_of : ℕ → Record → Bool
+is_of n (Deposit au blocks) = false
+is_of n (PollOpened number au nonce inner tick limits kind) = number == n
+is_of n (Nominated number voter nominees) = number == n
+is_of n (OuterOpened number outer) = number == n
+is_of n (VoteIn number voter hashes) = number == n
+is_of n (Shut number) = number == n
+is_of n (Asked number block voter) = number == n
+is_of n (RepairBad number block voter) = number == n
+is_of n (Replaced number au block bytes) = number == n
+is_of n (Closed number outcome tick) = number == n
+is_of n (Overdue au tick) = false
+is_of n (Joined poll au tick low repairs) = false
+is_of n (Committed poll nonce version kind) = false
+is_of n (Voted poll hashes) = false
+is_of n (Served poll block) = false
+is_of n (Ended poll) = false
+is_of n (Tuned quorum minority repairs) = false
+
+-- Deposits come first; no record names a poll before it is opened; a poll asks while it runs, and it is closed once, when
+-- it waits for nothing.
+abbrev pub MayFollow : List Record → Record → Type 0
+MayFollow before (Deposit au blocks) = list_all is_deposit before ≡ true
+MayFollow before (PollOpened number au nonce inner tick limits kind) = list_any (is_of number) before ≡ false
+MayFollow before (Nominated number voter nominees) = Unit {0}
+MayFollow before (OuterOpened number outer) = Unit {0}
+MayFollow before (VoteIn number voter hashes) = Unit {0}
+MayFollow before (Shut number) = Unit {0}
+MayFollow before (Asked number block voter) = is_running number before ≡ true
+MayFollow before (RepairBad number block voter) = Unit {0}
+MayFollow before (Replaced number au block bytes) = Unit {0}
+MayFollow before (Closed number outcome tick) = (is_closed number before ≡ false) × (unanswered number before ≡ None)
+MayFollow before (Overdue au tick) = Unit {0}
+MayFollow before (Joined poll au tick low repairs) = Unit {0}
+MayFollow before (Committed poll nonce version kind) = Unit {0}
+MayFollow before (Voted poll hashes) = Unit {0}
+MayFollow before (Served poll block) = Unit {0}
+MayFollow before (Ended poll) = Unit {0}
+MayFollow before (Tuned quorum minority repairs) = Unit {0}
+
+-- each of these records may follow those before it
+abbrev pub AreWritten : List Record → List Record → Type 0
+AreWritten before [] = Unit {0}
+AreWritten before (r ∷ rs) = MayFollow before r × AreWritten (before ++ r ∷ []) rs
