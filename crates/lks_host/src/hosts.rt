@@ -199,6 +199,8 @@ impl<D: CrashDisk> Host<D> {
     /// Cuts the power of the disk, which picks one outcome of a crash. The host is broken until it is recovered.
     pub fn power_cut(&mut self)
         ensures peer { self.new.peer ≡ self.old.peer }
+        ensures count { self.new.count ≡ self.old.count }
+        ensures end { self.new.journal.end ≡ self.old.journal.end }
         ensures broken { self.new.broken ≡ true }
         ensures lost { HasLost D.face self.old.journal.disk self.new.journal.disk }
         // A host that stood for its batches has them on its disk, and no others.
