@@ -30,6 +30,7 @@ use Rattle.lks_law.specs.Polls.{Station, limits_of, ballot_of, votes, inner_vote
 use Rattle.lks_law.specs.Reaction.{reaction, may_tally, on_message}
 use Rattle.lks_law.specs.Safe.{Safe}
 use Rattle.lks_law.specs.World.{Standing, World, Deed, is_honest, standing_of, deposit_for, deposits, start, got, delivered, own_deed_of, deed_of, peer_at, reaction_at, effect_of, with_records, peers_after, after_step, happens, happen_all, world}
+use Rattle.lks_law.specs.Written.{is_deposit}
 use Rattle.lks_law.proofs.Kept.{Kept}
 use Rattle.lks_law.proofs.Openings.{kept_on_open}
 use Rattle.lks_law.proofs.PollStates.{Good, poll_of, blank, copies_in, good_poll}
@@ -67,10 +68,6 @@ kept_reaction own js tick (input.Got from m judged) kept = kept_message own js f
 kept_reaction own js tick i kept = kept_nothing own js kept
 
 -- The beginning: deposits alone.
-
-abbrev is_deposit : Record → Bool
-is_deposit (Deposit au blocks) = true
-is_deposit _ = false
 
 AreDeposits : List Record → Type 0
 AreDeposits js = list_all is_deposit js ≡ true

@@ -1,5 +1,6 @@
 pub mod Batches
 pub mod Breaking
+pub mod Fitting
 pub mod Grown
 pub mod Happening
 pub mod HeldCopies
@@ -16,5 +17,6 @@ pub mod Samples
 pub mod Scans
 pub mod Standing
 pub mod StateRows
+pub mod Turning
 pub mod Unnumbered
 pub mod Writing

@@ -267,7 +267,7 @@ module _ (own : Station) (js : List Record) (s : State) (is : Stands own js s) w
       by_deposit None = refl
       by_deposit (Some d) = refl
 
-  check_is : (tick : ℕ) → check_in own s tick ≡ on_check own js tick
+  check_is : (tick : ℕ) → check_in own s.copies tick ≡ on_check own js tick
   unfolding check_in on_check
   check_is tick = λ i. record { records = filter_map (λ (au : AuPlan). cond (note_is tick au.id i) (Some (records.Overdue au.id tick)) None) own.aus; sends = [] }
 

@@ -5,6 +5,7 @@ pub mod Circles
 pub mod Due
 pub mod Entries
 pub mod Facts
+pub mod Fitting
 pub mod Histories
 pub mod Journal
 pub mod Polls
@@ -14,5 +15,6 @@ pub mod Reaction
 pub mod References
 pub mod Safe
 pub mod State
+pub mod Turning
 pub mod World
 pub mod Written

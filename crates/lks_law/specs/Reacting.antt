@@ -168,11 +168,11 @@ must_note_copy own tick None = false
 must_note_copy own tick (Some c) = nat_lt own.rules.overdue (tick - c.audit.tick) && not c.audit.noted
 
 -- the record that notes it
-abbrev pub overdue_of : Station → State → ℕ → AuPlan → Option Record
-overdue_of own s tick au = if must_note_copy own tick (copy_at au.id s.copies) then Some (records.Overdue au.id tick) else None
+abbrev pub overdue_of : Station → List Copy → ℕ → AuPlan → Option Record
+overdue_of own copies tick au = if must_note_copy own tick (copy_at au.id copies) then Some (records.Overdue au.id tick) else None
 
-unfoldable pub check_in : Station → State → ℕ → Reaction
-check_in own s tick = record { records = filter_map (overdue_of own s tick) own.aus; sends = [] }
+unfoldable pub check_in : Station → List Copy → ℕ → Reaction
+check_in own copies tick = record { records = filter_map (overdue_of own copies tick) own.aus; sends = [] }
 
 -- Messages: a challenge is answered by the proof of effort, a nomination and a vote are taken, and a repair is tried.
 
@@ -233,6 +233,6 @@ react_on own s tick (input.Nudge n) = for_poll (poll_at n s.polls) nudge_in
 react_on own s tick (input.GiveUp n) = for_poll (poll_at n s.polls) give_up_in
 react_on own s tick (input.Work poll) = nothing
 react_on own s tick (input.Expire poll) = nothing
-react_on own s tick input.Check = check_in own s tick
+react_on own s tick input.Check = check_in own s.copies tick
 react_on own s tick (input.Tune quorum minority repairs) = nothing
 react_on own s tick (input.Got from m judged) = receive_in own s from m judged

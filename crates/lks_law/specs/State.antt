@@ -47,6 +47,16 @@ pub record State : Type 0 where
   pub polls : List Poll  -- those that run, in order of their openings
   pub refs : List ℕ
 
+-- Lists of which one element changes, or goes: the first that passes a test.
+
+abbrev pub changed_first : {X : Type 0} → (X → Bool) → (X → X) → List X → List X
+changed_first is f [] = []
+changed_first is f (x ∷ xs) = if is x then f x ∷ xs else x ∷ changed_first is f xs
+
+abbrev pub without_first : {X : Type 0} → (X → Bool) → List X → List X
+without_first is [] = []
+without_first is (x ∷ xs) = if is x then xs else x ∷ without_first is xs
+
 -- Polls.
 
 -- the opening with the numbers of its poll, which may be the rules'
@@ -107,13 +117,11 @@ poll_at n ps = find (λ (p : Poll). p.number == n) ps
 
 -- poll n changes: the first of this number
 abbrev pub changed : ℕ → (Poll → Poll) → List Poll → List Poll
-changed n f [] = []
-changed n f (p ∷ ps) = if p.number == n then f p ∷ ps else p ∷ changed n f ps
+changed n f ps = changed_first (λ (p : Poll). p.number == n) f ps
 
 -- poll n is gone: the first of this number
 abbrev pub without_poll : ℕ → List Poll → List Poll
-without_poll n [] = []
-without_poll n (p ∷ ps) = if p.number == n then ps else p ∷ without_poll n ps
+without_poll n ps = without_first (λ (p : Poll). p.number == n) ps
 
 -- the running polls after a record
 abbrev pub polls_after : Rules → Record → List Poll → List Poll
@@ -178,8 +186,7 @@ noted c = record c { audit = record { tick = c.audit.tick; noted = true } }
 
 -- the copy of this AU changes
 abbrev pub copy_changed : ℕ → (Copy → Copy) → List Copy → List Copy
-copy_changed au f [] = []
-copy_changed au f (c ∷ cs) = if c.au == au then f c ∷ cs else c ∷ copy_changed au f cs
+copy_changed au f cs = changed_first (λ (c : Copy). c.au == au) f cs
 
 -- the copy that the poll was on is agreed
 abbrev pub agreed_on : Option Poll → ℕ → List Copy → List Copy

@@ -8,7 +8,22 @@ use Rattle.lks_law.specs.Journal.{is_closed, is_running, unanswered}
 -- whether the record is what the peer began with
 abbrev pub is_deposit : Record → Bool
 is_deposit (Deposit au blocks) = true
-is_deposit _ = false
+is_deposit (PollOpened number au nonce inner tick limits kind) = false
+is_deposit (Nominated number voter nominees) = false
+is_deposit (OuterOpened number outer) = false
+is_deposit (VoteIn number voter hashes) = false
+is_deposit (Shut number) = false
+is_deposit (Asked number block voter) = false
+is_deposit (RepairBad number block voter) = false
+is_deposit (Replaced number au block bytes) = false
+is_deposit (Closed number outcome tick) = false
+is_deposit (Overdue au tick) = false
+is_deposit (Joined poll au tick low repairs) = false
+is_deposit (Committed poll nonce version kind) = false
+is_deposit (Voted poll hashes) = false
+is_deposit (Served poll block) = false
+is_deposit (Ended poll) = false
+is_deposit (Tuned quorum minority repairs) = false
 
 -- whether the record names the peer's own poll n
 abbrev pub is_of : ℕ → Record → Bool

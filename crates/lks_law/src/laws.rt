@@ -1,11 +1,12 @@
 //! Laws on every history of every plan.
 
-ghost use Rattle.std.specs.Prelude.{◌≡◌, ◌≢◌, ◌<◌, ◌++◌, ◌∷◌, [], ℕ, true, Some, None, List, length, map, slice_get};
+ghost use Rattle.std.specs.Prelude.{◌≡◌, ◌≢◌, ◌<◌, ◌≤◌, ◌++◌, ◌∷◌, [], ℕ, true, Some, None, List, length, map, slice_get};
+ghost use Rattle.std.specs.List.{range_with_len};
 ghost use Rattle.lks_base.specs.Checking.{plan_fault};
 ghost use Rattle.lks_base.specs.declared.entries.Entry.{Entry};
 ghost use Rattle.lks_base.specs.declared.events.Due.{Due};
 ghost use Rattle.lks_base.specs.declared.events.Event.{Event};
-ghost use Rattle.lks_base.specs.declared.limits.TheConstants.{MOST_EVENTS};
+ghost use Rattle.lks_base.specs.declared.limits.TheConstants.{MOST_CIRCLE, MOST_EVENTS};
 ghost use Rattle.lks_base.specs.declared.plans.AuPlan.{AuPlan};
 ghost use Rattle.lks_base.specs.declared.plans.Holding.{Holding};
 ghost use Rattle.lks_base.specs.declared.plans.Plan.{Plan};
@@ -15,17 +16,19 @@ ghost use Rattle.lks_law.specs.Alarms.{alarms_by, alarms};
 ghost use Rattle.lks_law.specs.Batches.{together, journal_at, batches_at};
 ghost use Rattle.lks_law.specs.Broken.{with_one_vote, with_one_voter, with_later_votes, with_no_envelope};
 ghost use Rattle.lks_law.specs.Circles.{Samples};
-ghost use Rattle.lks_law.specs.Due.{next_to_finish};
-ghost use Rattle.lks_law.specs.Entries.{entries};
+ghost use Rattle.lks_law.specs.Due.{next_to_finish, ready_at, turns_at};
+ghost use Rattle.lks_law.specs.Entries.{entries, is_inner};
 ghost use Rattle.lks_law.specs.Facts.{IsJournalOf, HaveJournals, HasPolls};
+ghost use Rattle.lks_law.specs.Fitting.{Fits, AreFitting, IsSound, has_room};
 ghost use Rattle.lks_law.specs.Histories.{MayHappen, IsHistory};
-ghost use Rattle.lks_law.specs.Journal.{Opening, opening_of};
+ghost use Rattle.lks_law.specs.Journal.{Opening, opening_of, openings, opened_numbers, is_running};
 ghost use Rattle.lks_law.specs.Polls.{Station, verdict_in};
 ghost use Rattle.lks_law.specs.Questions.{Verdicts, asked_by, questions, event_of};
 ghost use Rattle.lks_law.specs.Reacting.{react_on};
 ghost use Rattle.lks_law.specs.Reaction.{may_tally, reaction};
 ghost use Rattle.lks_law.specs.Safe.{HasEvidence, Safe};
-ghost use Rattle.lks_law.specs.State.{state_of};
+ghost use Rattle.lks_law.specs.State.{State, after, state_of};
+ghost use Rattle.lks_law.specs.Turning.{ready_on, turns_on, has_inner_in};
 ghost use Rattle.lks_law.specs.World.{Standing, deposits, world};
 ghost use Rattle.lks_law.specs.Written.{AreWritten};
 ghost use Rattle.lks_tally.specs.declared.ballots.Verdict.{Verdict};
@@ -104,6 +107,22 @@ pub fn every_replacement_has_evidence()
 /// when it waits for nothing.
 pub fn every_state_stands_for_its_journal()
     ensures { (own : Station) (journal : List Record) → AreWritten [] journal → (tick : ℕ) (i : Input) → react_on own (state_of own journal) tick i ≡ reaction own journal tick i }
+{}
+
+/// What is due of a peer over its journal is due in the state for which the journal stands: the tallies for which it is ready
+/// and its turns, by poll number, if its polls are numbered from 1 on in the order in which they were opened; and who is in
+/// the inner circle of a poll that runs.
+pub fn every_turn_is_of_a_running_poll()
+    ensures ready { (own : Station) (journal : List Record) → AreWritten [] journal → opened_numbers journal ≡ range_with_len 1 (openings journal) → ready_on own (state_of own journal) ≡ ready_at (record { own = own; journal = journal }) }
+    ensures turns { (own : Station) (journal : List Record) → AreWritten [] journal → opened_numbers journal ≡ range_with_len 1 (openings journal) → turns_on own (state_of own journal) ≡ turns_at (record { own = own; journal = journal }) }
+    ensures inner { (own : Station) (journal : List Record) → AreWritten [] journal → (n voter : ℕ) → is_running n journal ≡ true → has_inner_in (state_of own journal) n voter ≡ is_inner journal n voter }
+{}
+
+/// What the rules add fits the state to which it is added, while a poll and a version more can be numbered; and whatever fits
+/// leaves each copy with as many blocks as an AU has, and each request for one of them.
+pub fn whatever_is_added_fits()
+    ensures adds { (own : Station) (s : State) → own.rules.inner ≤ MOST_CIRCLE → has_room s ≡ true → IsSound s → (tick : ℕ) (i : Input) → AreFitting own s (react_on own s tick i).records }
+    ensures keeps { (own : Station) (s : State) (r : Record) → Fits own s r → IsSound s → IsSound (after own s r) }
 {}
 
 /// Each journal that the rules make is written so, with its numbers or without, and so is that of each honest peer of a world.

@@ -3,7 +3,7 @@
 ghost use Rattle.std.specs.Prelude.{◌≡◌, ◌≤◌, length, option_map, count_by};
 ghost use Rattle.std.specs.List.{list_any};
 ghost use Rattle.lks_peer.specs.Requests.{asked_for};
-ghost use Rattle.lks_law.specs.Journal.{deposit_in, deposit_of, opening_in, opening_of, is_opening, openings, shuts, is_shut, closes, is_closed, is_running, is_voting, outer_in, outer_of, widens, is_widened, is_nominated_by, has_nominated, is_vote_of, has_voted, asks, was_asked, unanswered_after, unanswered, numbers_after, opens_running, opens_open, opens_lately};
+ghost use Rattle.lks_law.specs.Journal.{deposit_in, deposit_of, opened_by, opening_in, opening_of, is_opening, openings, shuts, is_shut, closes, is_closed, is_running, is_voting, outer_in, outer_of, widens, is_widened, is_nominated_by, has_nominated, is_vote_of, has_voted, asks, was_asked, unanswered_after, unanswered, numbers_after, opens_running, opens_open, opens_lately};
 ghost use Rattle.lks_law.specs.Polls.{numbers_in_force, limits_in_force, limits_of, is_invited};
 ghost use Rattle.lks_law.specs.Reaction.{is_request, may_repair};
 
@@ -28,6 +28,22 @@ impl<'a> Model for Opening<'a> {
     ghost view = { λ a. record { au = a.au; nonce = a.nonce.now; inner = a.inner.now; limits = a.limits; kind = a.kind } };
 }
 
+/// A poll that a record opens.
+#[derive(Drop)]
+struct Opened<'a> {
+    number: u32,
+    tick: u32,
+    opening: Opening<'a>,
+}
+
+impl<'a> Model for Opened<'a> {
+    ghost use Rattle.lks_law.specs.Journal.{Opened as KeptOpened};
+
+    ghost Value = { KeptOpened };
+
+    ghost view = { λ a. record { number = a.number; tick = a.tick; opening = a.opening } };
+}
+
 /// A request for a repair: a block and a voter.
 #[derive(Clone, Copy)]
 pub struct Request {
@@ -40,7 +56,23 @@ fn as_deposit(r: &Record, au: AuId) -> Option<&[Bytes]>
 {
     match r {
         Record::Deposit { au: a, blocks } if *a == au => Some(blocks.as_slice()),
-        _ => None,
+        Record::Deposit { .. }
+        | Record::PollOpened { .. }
+        | Record::Nominated { .. }
+        | Record::OuterOpened { .. }
+        | Record::VoteIn { .. }
+        | Record::Shut { .. }
+        | Record::Asked { .. }
+        | Record::RepairBad { .. }
+        | Record::Replaced { .. }
+        | Record::Closed { .. }
+        | Record::Overdue { .. }
+        | Record::Joined { .. }
+        | Record::Committed { .. }
+        | Record::Voted { .. }
+        | Record::Served { .. }
+        | Record::Ended { .. }
+        | Record::Tuned { .. } => None,
     }
 }
 
@@ -56,8 +88,8 @@ pub fn find_deposit(journal: &[Record], au: AuId) -> Option<&[Bytes]>
     None
 }
 
-fn as_opening(r: &Record, n: u32) -> Option<Opening<'_>>
-    ensures { result ≡ opening_in n r.now }
+fn as_opened(r: &Record) -> Option<Opened<'_>>
+    ensures { result ≡ opened_by r.now }
 {
     match r {
         Record::PollOpened {
@@ -65,17 +97,45 @@ fn as_opening(r: &Record, n: u32) -> Option<Opening<'_>>
             au,
             nonce,
             inner,
-            tick: _,
+            tick,
             limits,
             kind,
-        } if *number == n => Some(Opening {
-            au: *au,
-            nonce,
-            inner: inner.as_slice(),
-            limits: *limits,
-            kind: *kind,
+        } => Some(Opened {
+            number: *number,
+            tick: *tick,
+            opening: Opening {
+                au: *au,
+                nonce,
+                inner: inner.as_slice(),
+                limits: *limits,
+                kind: *kind,
+            },
         }),
-        _ => None,
+        Record::Deposit { .. }
+        | Record::Nominated { .. }
+        | Record::OuterOpened { .. }
+        | Record::VoteIn { .. }
+        | Record::Shut { .. }
+        | Record::Asked { .. }
+        | Record::RepairBad { .. }
+        | Record::Replaced { .. }
+        | Record::Closed { .. }
+        | Record::Overdue { .. }
+        | Record::Joined { .. }
+        | Record::Committed { .. }
+        | Record::Voted { .. }
+        | Record::Served { .. }
+        | Record::Ended { .. }
+        | Record::Tuned { .. } => None,
+    }
+}
+
+fn as_opening(r: &Record, n: u32) -> Option<Opening<'_>>
+    ensures { result ≡ opening_in n r.now }
+{
+    match as_opened(r) {
+        Some(opened) if opened.number == n => Some(opened.opening),
+        Some(_) | None => None,
     }
 }
 
@@ -137,7 +197,23 @@ fn as_outer(r: &Record, n: u32) -> Option<&[u16]>
 {
     match r {
         Record::OuterOpened { number, outer } if *number == n => Some(outer.as_slice()),
-        _ => None,
+        Record::Deposit { .. }
+        | Record::PollOpened { .. }
+        | Record::Nominated { .. }
+        | Record::OuterOpened { .. }
+        | Record::VoteIn { .. }
+        | Record::Shut { .. }
+        | Record::Asked { .. }
+        | Record::RepairBad { .. }
+        | Record::Replaced { .. }
+        | Record::Closed { .. }
+        | Record::Overdue { .. }
+        | Record::Joined { .. }
+        | Record::Committed { .. }
+        | Record::Voted { .. }
+        | Record::Served { .. }
+        | Record::Ended { .. }
+        | Record::Tuned { .. } => None,
     }
 }
 
@@ -325,9 +401,9 @@ pub fn limits_of(rules: &Rules, opening: &Opening<'_>) -> Limits
 fn opens_running(journal: &[Record], au: AuId, r: &Record) -> bool
     ensures { result ≡ opens_running au journal.now r.now }
 {
-    match r {
-        Record::PollOpened { number, au: a, .. } => *a == au && !is_closed(journal, *number),
-        _ => false,
+    match as_opened(r) {
+        Some(opened) => opened.opening.au == au && !is_closed(journal, opened.number),
+        None => false,
     }
 }
 
@@ -341,9 +417,9 @@ pub fn has_running(journal: &[Record], au: AuId) -> bool
 fn opens_open(journal: &[Record], r: &Record) -> bool
     ensures { result ≡ opens_open journal.now r.now }
 {
-    match r {
-        Record::PollOpened { number, .. } => !is_closed(journal, *number),
-        _ => false,
+    match as_opened(r) {
+        Some(opened) => !is_closed(journal, opened.number),
+        None => false,
     }
 }
 
@@ -357,9 +433,9 @@ pub fn count_running(journal: &[Record]) -> usize
 fn opens_lately(r: &Record, au: AuId, now: u32, pace: u32) -> bool
     ensures { result ≡ opens_lately au now pace r.now }
 {
-    match r {
-        Record::PollOpened { au: a, tick, .. } => *a == au && now.saturating_sub(*tick) < pace,
-        _ => false,
+    match as_opened(r) {
+        Some(opened) => opened.opening.au == au && now.saturating_sub(opened.tick) < pace,
+        None => false,
     }
 }
 

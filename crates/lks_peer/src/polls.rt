@@ -23,7 +23,23 @@ fn as_voter(r: &Record, n: u32) -> Option<PeerId>
 {
     match r {
         Record::VoteIn { number, voter, .. } if *number == n => Some(*voter),
-        _ => None,
+        Record::Deposit { .. }
+        | Record::PollOpened { .. }
+        | Record::Nominated { .. }
+        | Record::OuterOpened { .. }
+        | Record::VoteIn { .. }
+        | Record::Shut { .. }
+        | Record::Asked { .. }
+        | Record::RepairBad { .. }
+        | Record::Replaced { .. }
+        | Record::Closed { .. }
+        | Record::Overdue { .. }
+        | Record::Joined { .. }
+        | Record::Committed { .. }
+        | Record::Voted { .. }
+        | Record::Served { .. }
+        | Record::Ended { .. }
+        | Record::Tuned { .. } => None,
     }
 }
 
@@ -61,7 +77,22 @@ fn as_vote(r: &Record, n: u32) -> Result<Option<Vote>, OutOfMemory>
                 Ok(None)
             }
         }
-        _ => Ok(None),
+        Record::Deposit { .. }
+        | Record::PollOpened { .. }
+        | Record::Nominated { .. }
+        | Record::OuterOpened { .. }
+        | Record::Shut { .. }
+        | Record::Asked { .. }
+        | Record::RepairBad { .. }
+        | Record::Replaced { .. }
+        | Record::Closed { .. }
+        | Record::Overdue { .. }
+        | Record::Joined { .. }
+        | Record::Committed { .. }
+        | Record::Voted { .. }
+        | Record::Served { .. }
+        | Record::Ended { .. }
+        | Record::Tuned { .. } => Ok(None),
     }
 }
 

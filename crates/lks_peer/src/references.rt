@@ -154,7 +154,23 @@ fn as_agreed(r: &Record) -> Option<u32>
             outcome: Outcome::Agreed,
             ..
         } => Some(*number),
-        _ => None,
+        Record::Deposit { .. }
+        | Record::PollOpened { .. }
+        | Record::Nominated { .. }
+        | Record::OuterOpened { .. }
+        | Record::VoteIn { .. }
+        | Record::Shut { .. }
+        | Record::Asked { .. }
+        | Record::RepairBad { .. }
+        | Record::Replaced { .. }
+        | Record::Closed { .. }
+        | Record::Overdue { .. }
+        | Record::Joined { .. }
+        | Record::Committed { .. }
+        | Record::Voted { .. }
+        | Record::Served { .. }
+        | Record::Ended { .. }
+        | Record::Tuned { .. } => None,
     }
 }
 
@@ -236,7 +252,22 @@ fn as_nomination(r: &Record, n: u32) -> Result<Option<Ids>, OutOfMemory>
                 Ok(None)
             }
         }
-        _ => Ok(None),
+        Record::Deposit { .. }
+        | Record::PollOpened { .. }
+        | Record::OuterOpened { .. }
+        | Record::VoteIn { .. }
+        | Record::Shut { .. }
+        | Record::Asked { .. }
+        | Record::RepairBad { .. }
+        | Record::Replaced { .. }
+        | Record::Closed { .. }
+        | Record::Overdue { .. }
+        | Record::Joined { .. }
+        | Record::Committed { .. }
+        | Record::Voted { .. }
+        | Record::Served { .. }
+        | Record::Ended { .. }
+        | Record::Tuned { .. } => Ok(None),
     }
 }
 

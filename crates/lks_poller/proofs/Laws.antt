@@ -21,7 +21,7 @@ use Rattle.lks_poller.specs.declared.stages.Answer.TheVariants.{Replace, Bad, No
 use Rattle.lks_poller.specs.declared.stages.Next.{Next}
 use Rattle.lks_poller.specs.declared.stages.Next.TheVariants.{Close, Ask}
 use Rattle.lks_poller.specs.declared.stages.Stage.TheVariants as stage
-use Rattle.lks_poller.specs.Polling.{Polled, voted, voted_inner, voted_outer, moved, answered, replaced}
+use Rattle.lks_poller.specs.Polling.{Polled, voted, voted_inner, voted_outer, is_inquorate, moved, answered, replaced}
 use Rattle.lks_poller.specs.Rules.{IsAt, stage_of, is_voting, next_of, asking, candidate}
 use Rattle.lks_poller.specs.Sound.{IsSound}
 use Rattle.lks_poller.proofs.Members.{distinct_append}
@@ -36,7 +36,7 @@ at_stage s sound = by s.closed refl s.suppliers.waiting refl s.shut refl (is_som
   by : (over : Bool) → s.closed ≡ over → (waits : Bool) → s.suppliers.waiting ≡ waits → (ended : Bool) → s.shut ≡ ended → (wide : Bool) → is_some s.outer ≡ wide
       → IsAt s (cond over stage.Closed (cond waits stage.Asking (cond ended stage.Shut (cond wide stage.Widened stage.Inviting))))
   by true over waits idle ended shut wide outer = over
-  by false over true idle ended shut wide outer = (idle, (sound.asking idle).0, over)
+  by false over true idle ended shut wide outer = (idle, sound.asking idle, over)
   by false over false idle true shut wide outer = (shut, over, idle)
   by false over false idle false shut true outer = ((λ i. not (over i) && not (shut i)), outer)
   by false over false idle false shut false outer = ((λ i. not (over i) && not (shut i)), outer)
@@ -74,12 +74,12 @@ some_verdict minority q votes blocks b zero is = absurd cc
 some_verdict minority q votes blocks b (suc n) is =
     decides (verdict_at minority q votes blocks b) b (first_from minority q votes blocks (b + 1) n) (some_verdict minority q votes blocks (b + 1) n) is
 
--- while a poll goes on after voting ended, its verdict says something of the copy
-pub quorate_verdict : (s : Polled) (blocks : List (List ℕ)) → IsSound s → s.shut ≡ true → s.closed ≡ false
+-- of a poll that has its quorum the verdict says something of the copy
+pub quorate_verdict : (s : Polled) (blocks : List (List ℕ)) → is_inquorate s ≡ false
     → verdict_on s.tally.limits.quorum s.tally.limits.minority s.tally.ballot s.tally.votes blocks ≢ Inquorate
 unfolding verdict_on
-quorate_verdict s blocks sound ended running is =
-    some_verdict s.tally.limits.minority s.tally.ballot s.tally.votes blocks 0 (length blocks) (sym (ap chosen (sound.quorate ended running)) ∙ is) where
+quorate_verdict s blocks quorate is =
+    some_verdict s.tally.limits.minority s.tally.ballot s.tally.votes blocks 0 (length blocks) (sym (ap chosen quorate) ∙ is) where
       chosen : Bool → Verdict
       chosen few = cond few Inquorate (first_from s.tally.limits.minority s.tally.ballot s.tally.votes blocks 0 (length blocks))
 

@@ -1,8 +1,8 @@
 -- Votes by their voters.
-use Rattle.std.proofs.Common.{◌≡◌, ◌≢◌, ◌<◌, ◌≤◌, ℕ, suc, Bool, true, false, ◌||◌, ◌==◌, ◌⊎◌, List, [], ◌∷◌, ◌++◌, length, refl, sym, ◌∙◌, ap, subst, inl, inr, append_assoc, arith}
+use Rattle.std.proofs.Common.{◌≡◌, ◌≢◌, ◌<◌, ◌≤◌, ℕ, suc, Bool, true, false, ◌||◌, ◌==◌, ◌⊎◌, List, [], ◌∷◌, ◌++◌, length, map, refl, sym, ◌∙◌, ap, subst, inl, inr, append_assoc, arith}
 use Rattle.std.specs.Prelude.{nat_eq}
 use Rattle.std.specs.Cmp.{nat_eq_equiv}
-use Rattle.std.specs.List.{list_any, All, AllPairs}
+use Rattle.std.specs.List.{All, AllPairs}
 use Rattle.std.specs.Set.{is_member}
 use Rattle.std.proofs.lemmas.Bool.{or_cases, or_parts, or_from, eqb-true, eq-eqb, ne_eqb, false≢true}
 use Rattle.std.proofs.lemmas.Bool.Decides.{Decides-eqb}
@@ -15,23 +15,14 @@ use Rattle.lks_base.specs.Checking.{has_member}
 use Rattle.lks_tally.specs.declared.ballots.Vote.{Vote}
 use Rattle.lks_tally.specs.Distinct.{AreDistinct}
 use Rattle.lks_tally.specs.Keeping.{has_voted}
-use Rattle.lks_poller.specs.Sound.{voters}
 
-voters_any : (votes : List Vote) (v : ℕ) → list_any (λ i. i == v) (voters votes) ≡ has_voted votes v
-voters_any [] v = refl
-voters_any (w ∷ ws) v = ap (λ rest. (w.voter == v) || rest) (voters_any ws v)
-
--- who voted, asked of the voters that were noted
-pub voters_noted : (noted : List ℕ) (votes : List Vote) (v : ℕ) → noted ≡ voters votes → has_member noted v ≡ has_voted votes v
-unfolding has_member
-voters_noted noted votes v e = ap (list_any (λ i. i == v)) e ∙ voters_any votes v
+-- the voters of the votes, in order
+abbrev voters : List Vote → List ℕ
+voters votes = map (λ v. v.voter) votes
 
 length_voters : (votes : List Vote) → length (voters votes) ≡ length votes
 length_voters [] = refl
 length_voters (w ∷ ws) = ap suc (length_voters ws)
-
-pub length_noted : (noted : List ℕ) (votes : List Vote) → noted ≡ voters votes → length noted ≡ length votes
-length_noted noted votes e = ap length e ∙ length_voters votes
 
 is_member_votes : (votes : List Vote) (v : ℕ) → is_member nat_eq (voters votes) v ≡ has_voted votes v
 is_member_votes [] v = refl
@@ -68,10 +59,18 @@ few_voters ids votes distinct within =
     (λ v found. is_member_ids ids v ∙ within v (sym (is_member_votes votes v) ∙ found)) in
     rw (← length_voters votes) fewer
 
+-- one member more
+pub member_more : (ids : List ℕ) (x v : ℕ) → has_member (ids ++ x ∷ []) v ≡ has_member ids v || (x == v || false)
+unfolding has_member
+member_more ids x v = list_any-append (λ i. i == v) ids (x ∷ [])
+
+pub votes_more : (votes : List Vote) (x : Vote) (v : ℕ) → has_voted (votes ++ x ∷ []) v ≡ has_voted votes v || (x.voter == v || false)
+votes_more votes x v = list_any-append (λ w. w.voter == v) votes (x ∷ [])
+
 -- one vote more makes one voter more
 pub voted_more : (votes : List Vote) (v : Vote) (w : ℕ) → has_voted (votes ++ v ∷ []) w ≡ true → (has_voted votes w ≡ true) ⊎ (v.voter ≡ w)
 voted_more votes v w found =
-    by_part (or_cases (has_voted votes w) ((v.voter == w) || false) (sym (list_any-append (λ x. x.voter == w) votes (v ∷ [])) ∙ found)) where
+    by_part (or_cases (has_voted votes w) ((v.voter == w) || false) (sym (votes_more votes v w) ∙ found)) where
       last : (v.voter == w || false) ≡ true → v.voter ≡ w
       last h = elim (or_cases (v.voter == w) false h) [ inl same ↦ eqb-true v.voter w same | inr never ↦ absurd cc ]
 

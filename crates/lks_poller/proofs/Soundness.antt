@@ -1,16 +1,19 @@
 -- Each call leaves a sound poll sound.
-use Rattle.std.proofs.Common.{◌≡◌, ◌≤◌, ℕ, Bool, true, false, cond, not, ◌&&◌, ◌==◌, ◌⊎◌, Option, Some, None, List, [], length, sym, subst, inl, inr, arith}
+use Rattle.std.proofs.Common.{◌≡◌, ◌<◌, ◌≤◌, ℕ, Bool, true, false, cond, not, ◌&&◌, ◌||◌, ◌==◌, ◌⊎◌, Option, Some, None, List, [], ◌∷◌, length, length-append, refl, sym, ◌∙◌, ap, subst, inl, inr, arith}
+use Rattle.std.specs.List.{list_any}
 use Rattle.std.proofs.lemmas.Bool.{and_parts, or_parts, not-true, eqb-true}
 use Rattle.lks_base.specs.Checking.{has_member}
 use Rattle.lks_base.specs.declared.limits.TheConstants.{MOST_CIRCLE}
 use Rattle.lks_tally.specs.declared.ballots.Vote.{Vote}
 use Rattle.lks_tally.specs.Distinct.{AreDistinct}
 use Rattle.lks_tally.specs.Keeping as keeping
+use Rattle.lks_tally.specs.Keeping.{Tallied, IsReserved, IsSame}
+use Rattle.lks_tally.specs.declared.ballots.Ballot.{Ballot}
 use Rattle.lks_tally.specs.PollRules as poll
 use Rattle.lks_poller.specs.Polling.{Polled, voted_inner, voted_outer}
 use Rattle.lks_poller.specs.Rules.{is_voting, is_invited, has_voted, may_vote, names}
 use Rattle.lks_poller.specs.Sound.{IsSound}
-use Rattle.lks_poller.proofs.Members.{distinct_more, few_voters, voted_more}
+use Rattle.lks_poller.proofs.Members.{distinct_more, few_voters, voted_more, member_more, votes_more}
 
 -- The parts of the rules.
 
@@ -20,26 +23,26 @@ voting_parts s h =
     let parts : (not s.closed ≡ true) × (not s.shut ≡ true) = and_parts (not s.closed) (not s.shut) h in
     (not-true s.closed parts.0, not-true s.shut parts.1)
 
--- what a vote that may be taken is like
-pub record IsVote (s : Polled) (from hashes : ℕ) : Type 0 where
-  pub voting : s.shut ≡ false
-  pub new : keeping.has_voted s.tally.votes from ≡ false
-  pub new_outer : keeping.has_voted s.outer_votes from ≡ false
-  pub whole : hashes ≡ s.tally.ballot.count
+-- a peer that hasn't voted has a vote in neither list
+pub unvoted_parts : (s : Polled) → IsSound s → (v : ℕ) → has_voted s v ≡ false
+    → (keeping.has_voted s.tally.votes v ≡ false) × (keeping.has_voted s.outer_votes v ≡ false)
+unfolding has_voted
+unvoted_parts s sound v new = or_parts (keeping.has_voted s.tally.votes v) (keeping.has_voted s.outer_votes v) (sym (sound.noted v) ∙ new)
 
-pub vote_parts : (s : Polled) (from hashes : ℕ) → may_vote s from hashes ≡ true → IsVote s from hashes
-unfolding may_vote has_voted
-vote_parts s from hashes h =
+-- a vote that may be taken is its peer's first, with a hash for each block
+pub vote_new : (s : Polled) (from hashes : ℕ) → may_vote s from hashes ≡ true → has_voted s from ≡ false
+unfolding may_vote
+vote_new s from hashes h =
     let open_to = and_parts (is_voting s) (poll.may_vote (is_invited s from) (has_voted s from) hashes s.tally.ballot.count) h in
     let whole = and_parts (is_invited s from && not (has_voted s from)) (hashes == s.tally.ballot.count) open_to.1 in
-    let new = and_parts (is_invited s from) (not (has_voted s from)) whole.0 in
-    let both = or_parts (keeping.has_voted s.tally.votes from) (keeping.has_voted s.outer_votes from) (not-true (has_voted s from) new.1) in
-    record {
-      voting = (voting_parts s open_to.0).1;
-      new = both.0;
-      new_outer = both.1;
-      whole = eqb-true hashes s.tally.ballot.count whole.1;
-    }
+    not-true (has_voted s from) (and_parts (is_invited s from) (not (has_voted s from)) whole.0).1
+
+pub vote_whole : (s : Polled) (from hashes : ℕ) → may_vote s from hashes ≡ true → hashes ≡ s.tally.ballot.count
+unfolding may_vote
+vote_whole s from hashes h =
+    let open_to = and_parts (is_voting s) (poll.may_vote (is_invited s from) (has_voted s from) hashes s.tally.ballot.count) h in
+    let whole = and_parts (is_invited s from && not (has_voted s from)) (hashes == s.tally.ballot.count) open_to.1 in
+    eqb-true hashes s.tally.ballot.count whole.1
 
 pub is_named : (request : Option (ℕ × ℕ)) (b voter : ℕ) → names request b voter ≡ true → request ≡ Some (b, voter)
 is_named None b voter h = absurd cc
@@ -60,17 +63,19 @@ never b is_false is_true = absurd cc
 nobody : (votes : List Vote) → votes ≡ [] → AreDistinct votes
 nobody votes e = subst AreDistinct (sym e) (λ i j d before within. absurd (omega arith))
 
-pub sound_begun : (s : Polled) → length s.inner ≤ MOST_CIRCLE → 1 ≤ s.tally.ballot.count → s.tally.votes ≡ [] → s.outer_votes ≡ []
-    → s.shut ≡ false → s.closed ≡ false → s.suppliers.waiting ≡ false → IsSound s
-sound_begun s few blocks none no_outer voting running idle = record {
+pub sound_begun : (s : Polled) → length s.inner ≤ MOST_CIRCLE → IsReserved s.tally → 1 ≤ s.tally.ballot.count → s.tally.votes ≡ []
+    → s.outer_votes ≡ [] → s.voters ≡ [] → s.closed ≡ false → s.suppliers.waiting ≡ false → IsSound s
+unfolding has_member
+sound_begun s few reserved blocks none no_outer nobody_noted running idle = record {
   few = few;
+  reserved = reserved;
   blocks = blocks;
   distinct = nobody s.tally.votes none;
   outer_distinct = nobody s.outer_votes no_outer;
   of_inner = λ v found. absurd (unvoted s.tally.votes none v found);
   of_outer = λ v found. absurd (unvoted s.outer_votes no_outer v found);
+  noted = λ v. ap (λ ids. list_any (λ i. i == v) ids) nobody_noted ∙ sym (λ i. keeping.has_voted (none i) v || keeping.has_voted (no_outer i) v);
   over = λ closed. never s.closed running closed;
-  quorate = λ shut still. never s.shut voting shut;
   asking = λ waits. never s.suppliers.waiting idle waits;
   within = λ b v is. absurd (unasked s.suppliers.waiting idle _ b v is);
 } where
@@ -81,19 +86,49 @@ sound_begun s few blocks none no_outer voting running idle = record {
   unasked true e last b v is = cc
   unasked false e last b v is = cc
 
+-- Another tally of the same votes.
+
+pub sound_tally : (s : Polled) (t : Tallied) → IsSound s → IsReserved t → IsSame t s.tally → IsSound (record s { tally = t })
+sound_tally s t sound reserved same = record {
+  few = sound.few;
+  reserved = reserved;
+  blocks = subst (λ (q : Ballot). 1 ≤ q.count) (sym same.0) sound.blocks;
+  distinct = subst AreDistinct (sym same.2) sound.distinct;
+  outer_distinct = sound.outer_distinct;
+  of_inner = λ v found. sound.of_inner v (subst (λ vs. keeping.has_voted vs v ≡ true) same.2 found);
+  of_outer = sound.of_outer;
+  noted = λ v. sound.noted v ∙ sym (λ i. keeping.has_voted (same.2 i) v || keeping.has_voted s.outer_votes v);
+  over = sound.over;
+  asking = sound.asking;
+  within = λ b v is. subst (λ (q : Ballot). b < q.count) (sym same.0) (sound.within b v is);
+}
+
 -- Votes.
 
-pub sound_inner : (s : Polled) (v : Vote) → IsSound s → s.shut ≡ false → keeping.has_voted s.tally.votes v.voter ≡ false
-    → has_member s.inner v.voter ≡ true → IsSound (voted_inner s v)
-sound_inner s v sound voting new member = record {
+swapped : (a o x : Bool) → (a || o) || x ≡ (a || x) || o
+swapped true o x = refl
+swapped false true true = refl
+swapped false true false = refl
+swapped false false true = refl
+swapped false false false = refl
+
+grouped : (a o x : Bool) → (a || o) || x ≡ a || (o || x)
+grouped true o x = refl
+grouped false o x = refl
+
+pub sound_inner : (s : Polled) (v : Vote) → IsSound s → has_voted s v.voter ≡ false → has_member s.inner v.voter ≡ true → IsSound (voted_inner s v)
+sound_inner s v sound unvoted member = record {
   few = sound.few;
+  reserved = sound.reserved;
   blocks = sound.blocks;
-  distinct = distinct_more s.tally.votes v sound.distinct new;
+  distinct = distinct_more s.tally.votes v sound.distinct (unvoted_parts s sound v.voter unvoted).0;
   outer_distinct = sound.outer_distinct;
   of_inner = λ w found. of_either w (voted_more s.tally.votes v w found);
   of_outer = sound.of_outer;
+  noted = λ w. member_more s.voters v.voter w ∙ ap (λ b. b || (v.voter == w || false)) (sound.noted w)
+      ∙ swapped (keeping.has_voted s.tally.votes w) (keeping.has_voted s.outer_votes w) (v.voter == w || false)
+      ∙ sym (ap (λ b. b || keeping.has_voted s.outer_votes w) (votes_more s.tally.votes v w));
   over = sound.over;
-  quorate = λ shut running. never s.shut voting shut;
   asking = sound.asking;
   within = sound.within;
 } where
@@ -101,20 +136,30 @@ sound_inner s v sound voting new member = record {
   of_either w (inl before) = sound.of_inner w before
   of_either w (inr here) = subst (λ x. has_member s.inner x ≡ true) here member
 
-pub sound_outer : (s : Polled) (v : Vote) → IsSound s → keeping.has_voted s.outer_votes v.voter ≡ false
-    → has_member s.inner v.voter ≡ false → IsSound (voted_outer s v)
-sound_outer s v sound new member = record {
+pub sound_outer : (s : Polled) (v : Vote) → IsSound s → has_voted s v.voter ≡ false → has_member s.inner v.voter ≡ false → IsSound (voted_outer s v)
+sound_outer s v sound unvoted member = record {
   few = sound.few;
+  reserved = sound.reserved;
   blocks = sound.blocks;
   distinct = sound.distinct;
-  outer_distinct = distinct_more s.outer_votes v sound.outer_distinct new;
+  outer_distinct = distinct_more s.outer_votes v sound.outer_distinct (unvoted_parts s sound v.voter unvoted).1;
   of_inner = sound.of_inner;
   of_outer = λ w found. of_either w (voted_more s.outer_votes v w found);
+  noted = λ w. member_more s.voters v.voter w ∙ ap (λ b. b || (v.voter == w || false)) (sound.noted w)
+      ∙ grouped (keeping.has_voted s.tally.votes w) (keeping.has_voted s.outer_votes w) (v.voter == w || false)
+      ∙ sym (ap (λ b. keeping.has_voted s.tally.votes w || b) (votes_more s.outer_votes v w));
   over = sound.over;
-  quorate = sound.quorate;
   asking = sound.asking;
   within = sound.within;
 } where
   of_either : (w : ℕ) → (keeping.has_voted s.outer_votes w ≡ true) ⊎ (v.voter ≡ w) → has_member s.inner w ≡ false
   of_either w (inl before) = sound.of_outer w before
   of_either w (inr here) = subst (λ x. has_member s.inner x ≡ false) here member
+
+-- while an inner peer hasn't voted there is room for its vote
+pub place_left : (s : Polled) (v : Vote) → IsSound s → has_voted s v.voter ≡ false → has_member s.inner v.voter ≡ true
+    → length s.tally.votes < s.tally.vote_room
+place_left s v sound unvoted member =
+    let few = few_votes (voted_inner s v) (sound_inner s v sound unvoted member) in
+    let room = sound.reserved.1 in
+    omega (arith, length-append s.tally.votes (v ∷ []))

@@ -15,26 +15,29 @@ use Rattle.lks_poller.specs.declared.stages.Next.TheVariants.{Close, Ask}
 use Rattle.lks_poller.specs.declared.stages.Nomination.{Nomination}
 
 -- The tally of the inner votes, with the poll's ballot and numbers; the inner circle; who nominated whom, in order; the
--- outer circle once it is invited, and its votes; whether voting ended and whether the poll did; who was asked for blocks.
+-- outer circle once it is invited, and its votes; the voters of both circles in order of their votes; whether voting ended
+-- and whether the poll did; who was asked for blocks.
 pub record Polled : Type 0 where
   pub tally : Tallied
   pub inner : List ℕ
   pub nominations : List Nomination
   pub outer : Option (List ℕ)
   pub outer_votes : List Vote
+  pub voters : List ℕ
   pub shut : Bool
   pub closed : Bool
   pub suppliers : Asked
 
--- a poll that begins; `room` is that of its tally
-abbrev pub begun : Ballot → Limits → List ℕ → ℕ → Polled
-begun ballot limits inner room =
+-- a poll that begins; the rooms are those of its tally
+abbrev pub begun : Ballot → Limits → List ℕ → ℕ → ℕ → Polled
+begun ballot limits inner room vote_room =
     record {
-      tally = record { ballot = ballot; limits = limits; votes = []; kept = 0; hashes = []; room = room };
+      tally = record { ballot = ballot; limits = limits; votes = []; kept = 0; hashes = []; room = room; vote_room = vote_room };
       inner = inner;
       nominations = [];
       outer = None;
       outer_votes = [];
+      voters = [];
       shut = false;
       closed = false;
       suppliers = record { asked = []; waiting = false };
@@ -44,17 +47,22 @@ begun ballot limits inner room =
 abbrev pub nominated : Polled → ℕ → List ℕ → Polled
 nominated s from list = record s { nominations = s.nominations ++ record { voter = from; nominees = list } ∷ [] }
 
+-- the circle that was invited first stays
+abbrev pub first_circle : Option (List ℕ) → List ℕ → Option (List ℕ)
+first_circle None outer = Some outer
+first_circle (Some before) outer = Some before
+
 -- the outer circle is invited
 abbrev pub widened : Polled → List ℕ → Polled
-widened s outer = record s { outer = Some outer }
+widened s outer = record s { outer = first_circle s.outer outer }
 
 -- one inner vote more, which is counted
 abbrev pub voted_inner : Polled → Vote → Polled
-voted_inner s vote = record s { tally = keeping.voted s.tally vote }
+voted_inner s vote = record s { tally = keeping.voted s.tally vote; voters = s.voters ++ vote.voter ∷ [] }
 
 -- one outer vote more
 abbrev pub voted_outer : Polled → Vote → Polled
-voted_outer s vote = record s { outer_votes = s.outer_votes ++ vote ∷ [] }
+voted_outer s vote = record s { outer_votes = s.outer_votes ++ vote ∷ []; voters = s.voters ++ vote.voter ∷ [] }
 
 -- the vote of an inner peer is counted, and that of an outer one kept beside
 abbrev pub voted : Polled → ℕ → List (List ℕ) → Polled
@@ -66,6 +74,10 @@ voted s from hashes =
 -- fewer inner votes than the quorum
 abbrev pub is_inquorate : Polled → Bool
 is_inquorate s = poll.is_inquorate (length s.tally.votes) s.tally.limits.quorum
+
+-- voting ends
+abbrev pub shut_now : Polled → Polled
+shut_now s = record s { shut = true }
 
 -- voting ends, and with fewer inner votes than the quorum the poll too
 abbrev pub ended : Polled → Polled

@@ -1,5 +1,5 @@
 -- The rules of a poll: when each call changes it, and what it answers.
-use Rattle.std.specs.Prelude.{◌≡◌, ◌<◌, ℕ, Bool, true, false, not, ◌&&◌, ◌||◌, ◌==◌, ◌-◌, if◌then◌else◌, Option, Some, None, is_some, unwrap_or, List, [], slice_set}
+use Rattle.std.specs.Prelude.{◌≡◌, ◌<◌, ℕ, Bool, true, false, not, ◌&&◌, ◌==◌, ◌-◌, if◌then◌else◌, Option, Some, None, is_some, unwrap_or, List, [], slice_set}
 use Rattle.std.specs.List.{list_any}
 use Rattle.lks_base.specs.Checking.{has_member}
 use Rattle.lks_base.specs.declared.names.Outcome.TheVariants as outcome
@@ -9,7 +9,6 @@ use Rattle.lks_tally.specs.declared.ballots.At.TheVariants as at
 use Rattle.lks_tally.specs.declared.ballots.Verdict.{Verdict}
 use Rattle.lks_tally.specs.declared.ballots.Verdict.TheVariants.{Inquorate, Agreed, Loss, Split}
 use Rattle.lks_tally.specs.Counting.{verdict_at, voters_against, voters_for}
-use Rattle.lks_tally.specs.Keeping as keeping
 use Rattle.lks_tally.specs.PollRules as poll
 use Rattle.lks_poller.specs.declared.stages.Answer.{Answer}
 use Rattle.lks_poller.specs.declared.stages.Answer.TheVariants.{Replace, Bad, NotAsked}
@@ -57,7 +56,7 @@ is_invited s voter = poll.is_invited s.inner (unwrap_or s.outer []) voter
 
 -- whether this peer voted, in either circle
 unfoldable pub has_voted : Polled → ℕ → Bool
-has_voted s voter = keeping.has_voted s.tally.votes voter || keeping.has_voted s.outer_votes voter
+has_voted s voter = has_member s.voters voter
 
 -- Each invited peer votes once, while votes are open, with a hash for each block.
 unfoldable pub may_vote : Polled → ℕ → ℕ → Bool
@@ -79,6 +78,11 @@ next_of s Inquorate blocks = Close outcome.Inquorate
 next_of s Agreed blocks = Close outcome.Agreed
 next_of s (Split b) blocks = Close (outcome.Split b)
 next_of s (Loss b) blocks = asking b (candidate s blocks b)
+
+-- whoever is asked is asked for one of so many blocks
+abbrev pub AsksWithin : ℕ → Next → Type 0
+AsksWithin count (Close outcome) = Unit {0}
+AsksWithin count (Ask b voter) = b < count
 
 -- the running hashes of the block at which the copy lost are kept
 abbrev pub IsKept : Verdict → ℕ → Type 0

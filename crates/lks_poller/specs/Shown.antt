@@ -6,11 +6,12 @@ use Rattle.lks_poller.specs.Polling.{Polled}
 abbrev pub shown : Inside → Polled
 shown a =
     record {
-      tally = a.votes;
+      tally = a.tally;
       inner = a.inner;
       nominations = a.nominations.items;
       outer = a.outer;
       outer_votes = a.outer_votes.items;
+      voters = a.voters.items;
       shut = a.shut;
       closed = a.closed;
       suppliers = a.suppliers;

@@ -23,7 +23,7 @@
 //! ```
 #![tactic(auto)]
 
-mod inner_votes;
+mod counts;
 mod sessions;
 mod stages;
 #[cfg(test)]

@@ -1,45 +1,46 @@
 //! The state of a poll.
 
-ghost use Rattle.std.specs.Prelude.{◌≡◌, ◌<◌, ◌≤◌, ◌↔◌, ℕ, List, [], true, false, length, unwrap_or, if◌then◌else◌, IfOk, OnOk, OnErr, IsNone};
+ghost use Rattle.std.specs.Prelude.{◌≡◌, ◌<◌, ◌≤◌, ◌↔◌, ℕ, List, [], true, false, length, unwrap_or, option_copied, if◌then◌else◌, IfOk, OnOk, OnErr, IsNone};
 ghost use Rattle.lks_base.specs.Checking.{has_member as is_member};
 ghost use Rattle.lks_base.specs.declared.limits.TheConstants.{MOST_CIRCLE};
-ghost use Rattle.lks_base.specs.declared.names.Limits.{Limits};
-ghost use Rattle.lks_hash.specs.Counting.{Opens};
+ghost use Rattle.lks_base.specs.declared.names.Limits.{Limits as LimitsOf};
 ghost use Rattle.lks_repair.specs.Asking.{awaited};
-ghost use Rattle.lks_tally.specs.Counting.{verdict_on, voters_for};
+ghost use Rattle.lks_tally.specs.Counting.{verdict_on, voters_against};
 ghost use Rattle.lks_tally.specs.declared.ballots.Ballot.{Ballot as BallotOf};
-ghost use Rattle.lks_tally.specs.Keeping as keeping;
-ghost use Rattle.lks_tally.specs.Keeping.{IsCacheOf, IsReserved, IsSame, kept_after};
+ghost use Rattle.lks_tally.specs.Keeping.{IsCacheOf, IsReserved, IsSame, forgotten, kept_after, roomed_as};
 ghost use Rattle.lks_poller.specs.Polling as polling;
-ghost use Rattle.lks_poller.specs.Polling.{begun, nominated, widened, voted, ended, moved, released, answered};
+ghost use Rattle.lks_poller.specs.Polling.{begun, nominated, widened, voted, shut_now, ended, moved, released, replaced, answered};
 ghost use Rattle.lks_poller.specs.Rules as rules_of;
-ghost use Rattle.lks_poller.specs.Rules.{stage_of, may_widen, may_nominate, may_vote, next_of, IsAt, IsKept, answer_of, judgment, said};
+ghost use Rattle.lks_poller.specs.Rules.{stage_of, may_widen, may_nominate, may_vote, next_of, AsksWithin, IsAt, IsKept, answer_of};
 ghost use Rattle.lks_poller.specs.Sound.{IsSound};
 
-use crate::inner_votes::InnerVotes;
+use crate::counts;
 use crate::stages::{Answer, Next, Nomination, Stage};
 use lks_base::{
-    AuId, Contents, HashKind, Hashes, Ids, OutOfMemory, Outcome, PeerId, PollName, Rules,
+    AuId, Contents, HashKind, Hashes, Ids, Limits, OutOfMemory, Outcome, PeerId, PollName, Rules,
     has_member,
 };
-use lks_hash::Steps;
 use lks_repair::Suppliers;
-use lks_tally::{At, Ballot, Tally, Verdict, Vote, for_of};
+use lks_tally::{At, Ballot, Tally, Verdict, Vote};
 use std::alloc::Global;
 use std::marker::{Brand, Model};
-use std::sync::ledger::{Blank, Ledger};
+use std::sync::ledger::Blank;
 
 /// A poll as its poller runs it.
 ///
-/// A call whose rule doesn't hold says so and changes nothing; neither does want of memory.
+/// [`PollSession::nominate`], [`widen`](PollSession::widen), [`vote`](PollSession::vote), [`shut`](PollSession::shut),
+/// [`judge`](PollSession::judge) and [`answer`](PollSession::answer) hold by the rules: where its rule doesn't hold, a call
+/// says so and changes nothing. Each is made of calls that only read, by which a caller decides, and of calls that only
+/// note what was decided, by which it can also build a session again. Want of memory changes nothing.
 #[derive(Drop)]
 pub struct PollSession {
     alloc: Global,
-    votes: InnerVotes,
+    tally: Tally,
     inner: Ids,
     nominations: Vec<Nomination>,
     outer: Option<Ids>,
     outer_votes: Vec<Vote>,
+    voters: Vec<PeerId>,
     shut: bool,
     closed: bool,
     suppliers: Suppliers,
@@ -73,17 +74,19 @@ impl PollSession {
         requires few { length inner ≤ MOST_CIRCLE }
         requires blocks { 1 ≤ count }
         ensures { let ballot : BallotOf = record { poll = poll; au = au; kind = kind; nonce = nonce; count = count } in
-            let limits : Limits = record { quorum = rules.now.quorum; minority = rules.now.minority } in
-            IfOk result (λ s. s ≡ begun ballot limits inner s.tally.room) }
+            let limits : LimitsOf = record { quorum = rules.now.quorum; minority = rules.now.minority } in
+            IfOk result (λ s. s ≡ begun ballot limits inner s.tally.room s.tally.vote_room) }
     {
-        let votes = InnerVotes::new(alloc, rules, poll, au, kind, nonce, count)?;
+        let mut tally = Tally::new(alloc, rules, poll, au, kind, nonce, count);
+        tally.reserve()?;
         Ok(PollSession {
             alloc,
-            votes,
+            tally,
             inner,
             nominations: Vec::new(alloc),
             outer: None,
             outer_votes: Vec::new(alloc),
+            voters: Vec::new(alloc),
             shut: false,
             closed: false,
             suppliers: Suppliers::new(alloc),
@@ -110,6 +113,126 @@ impl PollSession {
         }
     }
 
+    /// What all votes of the poll are about.
+    pub fn ballot(&self) -> &Ballot
+        ensures { result.now ≡ self.now.tally.ballot }
+    {
+        self.tally.ballot()
+    }
+
+    /// Who called the poll, and its number among those of that peer.
+    pub fn poll(&self) -> PollName
+        ensures { result ≡ self.now.tally.ballot.poll }
+    {
+        self.tally.ballot().poll
+    }
+
+    /// The AU that is polled on.
+    pub fn au(&self) -> AuId
+        ensures { result ≡ self.now.tally.ballot.au }
+    {
+        self.tally.ballot().au
+    }
+
+    /// The hash function of the poll's votes.
+    pub fn kind(&self) -> HashKind
+        ensures { result ≡ self.now.tally.ballot.kind }
+    {
+        self.tally.ballot().kind
+    }
+
+    /// The nonce that all keys of the poll's votes are made of.
+    pub fn nonce(&self) -> &[u8; 32]
+        ensures { result.now ≡ self.now.tally.ballot.nonce }
+    {
+        &self.tally.ballot().nonce
+    }
+
+    /// The number of blocks of the AU.
+    pub fn count(&self) -> u16
+        ensures { result ≡ self.now.tally.ballot.count }
+    {
+        self.tally.ballot().count
+    }
+
+    /// The numbers that decide the poll.
+    pub fn limits(&self) -> Limits
+        ensures { result ≡ self.now.tally.limits }
+    {
+        self.tally.limits()
+    }
+
+    /// The inner circle.
+    pub fn inner(&self) -> &[PeerId]
+        ensures { result.now ≡ self.now.inner }
+    {
+        self.inner.as_slice()
+    }
+
+    /// The outer circle, once it is invited.
+    pub fn outer(&self) -> Option<&Ids>
+        ensures { option_copied result ≡ self.now.outer }
+    {
+        self.outer.as_ref()
+    }
+
+    /// Who nominated whom, in order.
+    pub fn nominations(&self) -> &[Nomination]
+        ensures { result.now ≡ self.now.nominations }
+    {
+        &self.nominations
+    }
+
+    /// The votes of the inner circle, in their order.
+    pub fn inner_votes(&self) -> &[Vote]
+        ensures { result.now ≡ self.now.tally.votes }
+    {
+        self.tally.votes()
+    }
+
+    /// The voters of both circles, in order of their votes.
+    pub fn voters(&self) -> &[PeerId]
+        ensures { result.now ≡ self.now.voters }
+    {
+        &self.voters
+    }
+
+    /// Whether voting ended.
+    pub fn is_shut(&self) -> bool
+        ensures { result ≡ self.now.shut }
+    {
+        self.shut
+    }
+
+    /// Whether the poll ended.
+    pub fn is_closed(&self) -> bool
+        ensures { result ≡ self.now.closed }
+    {
+        self.closed
+    }
+
+    /// For how many blocks running hashes are kept.
+    pub fn kept(&self) -> u16
+        ensures { result ≡ self.now.tally.kept }
+    {
+        self.tally.kept()
+    }
+
+    /// The block and the voter of the request that isn't answered, or `None` where nobody is waited for.
+    pub fn unanswered(&self) -> Option<(u16, PeerId)>
+        ensures last { result ≡ awaited self.now.suppliers }
+        ensures none { IsNone result ↔ (self.now.suppliers.waiting ≡ false) }
+    {
+        self.suppliers.unanswered()
+    }
+
+    /// Whether there are fewer inner votes than the quorum.
+    pub fn is_inquorate(&self) -> bool
+        ensures { result ≡ polling.is_inquorate self.now }
+    {
+        self.tally.votes().len() < self.tally.limits().quorum as usize
+    }
+
     #[tactic(auto, unfolding(crate::specs::Rules::is_voting))]
     fn is_voting(&self) -> bool
         ensures { result ≡ rules_of.is_voting self.now }
@@ -117,20 +240,131 @@ impl PollSession {
         !self.closed && !self.shut
     }
 
+    /// Whether the outer circle may be invited: once, while votes are open.
     #[tactic(auto, unfolding(crate::specs::Rules::may_widen))]
-    fn may_widen(&self) -> bool
+    pub fn may_widen(&self) -> bool
         ensures { result ≡ rules_of.may_widen self.now }
     {
         self.is_voting() && self.outer.is_none()
     }
 
+    /// Whether this peer may nominate: an inner one, once, until the outer circle is invited.
     #[tactic(auto, unfolding(crate::specs::Rules::may_nominate))]
-    fn may_nominate(&self, from: PeerId) -> bool
+    pub fn may_nominate(&self, from: PeerId) -> bool
         ensures { result ≡ rules_of.may_nominate self.now from }
     {
         self.may_widen()
             && has_member(self.inner.as_slice(), from)
             && !has_nominated(&self.nominations, from)
+    }
+
+    /// Whether this peer is of one of the circles that are invited.
+    #[tactic(auto, unfolding(crate::specs::Rules::is_invited))]
+    pub fn is_invited(&self, voter: PeerId) -> bool
+        ensures { result ≡ rules_of.is_invited self.now voter }
+    {
+        has_member(self.inner.as_slice(), voter) || has_outer(&self.outer, voter)
+    }
+
+    /// Whether this peer voted.
+    #[tactic(auto, unfolding(crate::specs::Rules::has_voted))]
+    pub fn has_voted(&self, voter: PeerId) -> bool
+        ensures { result ≡ rules_of.has_voted self.now voter }
+    {
+        has_member(&self.voters, voter)
+    }
+
+    /// Whether this peer may vote with so many hashes: an invited one, once, while votes are open, with one for each block.
+    #[tactic(auto, unfolding(crate::specs::Rules::may_vote))]
+    pub fn may_vote(&self, from: PeerId, hashes: usize) -> bool
+        ensures { result ≡ rules_of.may_vote self.now from hashes }
+    {
+        self.is_voting()
+            && self.is_invited(from)
+            && !self.has_voted(from)
+            && hashes == self.tally.ballot().count as usize
+    }
+
+    /// Notes that a peer nominated these.
+    pub fn nominated(&mut self, voter: PeerId, nominees: Ids) -> Result<(), OutOfMemory>
+        ensures ok { OnOk result (self.new ≡ nominated self.old voter nominees) }
+        ensures err { OnErr result (self.new ≡ self.old) }
+    {
+        self.nominations.push(Nomination { voter, nominees })?;
+        Ok(())
+    }
+
+    /// Notes that the outer circle is invited. The one that was invited first stays.
+    pub fn widened(&mut self, outer: Ids)
+        ensures { self.new ≡ widened self.old outer }
+    {
+        if self.outer.is_none() {
+            self.outer = Some(outer);
+        }
+    }
+
+    /// Notes the vote of a peer that hasn't voted: that of an inner one is counted, any other is kept beside.
+    pub fn voted(&mut self, voter: PeerId, hashes: Hashes) -> Result<(), OutOfMemory>
+        requires new { rules_of.has_voted self.old voter ≡ false }
+        requires whole { length hashes ≡ self.old.tally.ballot.count }
+        ensures ok { OnOk result (self.new ≡ voted self.old voter hashes) }
+        ensures err { OnErr result (self.new ≡ self.old) }
+    {
+        if has_member(self.inner.as_slice(), voter) {
+            counts::add_inner(&mut self.tally, &mut self.voters, voter, hashes)?;
+            Ok(())
+        } else {
+            counts::add_outer(&mut self.outer_votes, &mut self.voters, voter, hashes)?;
+            Ok(())
+        }
+    }
+
+    /// Notes that voting ended.
+    pub fn shut_now(&mut self)
+        ensures { self.new ≡ shut_now self.old }
+    {
+        self.shut = true;
+    }
+
+    /// Notes that the poll ended, after voting did.
+    pub fn closed(&mut self)
+        requires { self.old.shut ≡ true }
+        ensures { self.new ≡ polling.closed self.old }
+    {
+        self.closed = true;
+    }
+
+    /// Notes that a voter was asked for a block, and is waited for.
+    pub fn asked(&mut self, block: u16, voter: PeerId) -> Result<(), OutOfMemory>
+        requires ended { self.old.shut ≡ true }
+        requires idle { self.old.suppliers.waiting ≡ false }
+        requires within { block < self.old.tally.ballot.count }
+        ensures ok { OnOk result (self.new ≡ polling.asked self.old block voter) }
+        ensures err { OnErr result (self.new ≡ self.old) }
+    {
+        self.suppliers.asked(block, voter)
+    }
+
+    /// Notes that nobody is waited for any more.
+    pub fn answered(&mut self)
+        ensures { self.new ≡ released self.old }
+    {
+        self.suppliers.answered();
+    }
+
+    /// Forgets the running hashes from block `b` on, as the copy changed there.
+    pub fn forget_from(&mut self, b: u16)
+        ensures { self.new ≡ record self.old { tally = forgotten b self.old.tally } }
+    {
+        self.tally.forget_from(b);
+    }
+
+    /// Notes that block `b` of the copy was replaced by the one that was waited for.
+    pub fn replaced(&mut self, b: u16)
+        ensures { self.new ≡ replaced self.old b }
+    {
+        self.answered();
+        self.forget_from(b);
     }
 
     /// Takes an inner peer's nomination, its first one.
@@ -142,10 +376,7 @@ impl PollSession {
         if !self.may_nominate(from) {
             return Ok(false);
         }
-        self.nominations.push(Nomination {
-            voter: from,
-            nominees: list,
-        })?;
+        self.nominated(from, list)?;
         Ok(true)
     }
 
@@ -157,52 +388,12 @@ impl PollSession {
         if !self.may_widen() {
             return false;
         }
-        self.outer = Some(outer);
+        self.widened(outer);
         true
     }
 
-    #[tactic(auto, unfolding(crate::specs::Rules::is_invited))]
-    fn is_invited(&self, voter: PeerId) -> bool
-        ensures { result ≡ rules_of.is_invited self.now voter }
-    {
-        has_member(self.inner.as_slice(), voter) || has_outer(&self.outer, voter)
-    }
-
-    #[tactic(auto, unfolding(crate::specs::Rules::has_voted))]
-    fn has_voted(&self, voter: PeerId) -> bool
-        ensures { result ≡ rules_of.has_voted self.now voter }
-    {
-        self.votes.has_voted(voter) || has_vote(&self.outer_votes, voter)
-    }
-
-    #[tactic(auto, unfolding(crate::specs::Rules::may_vote))]
-    fn may_vote(&self, from: PeerId, hashes: usize) -> bool
-        ensures { result ≡ rules_of.may_vote self.now from hashes }
-    {
-        self.is_voting()
-            && self.is_invited(from)
-            && !self.has_voted(from)
-            && hashes == self.votes.ballot().count as usize
-    }
-
-    fn take_vote(&mut self, from: PeerId, hashes: Hashes) -> Result<(), OutOfMemory>
-        requires { may_vote self.old from (length hashes) ≡ true }
-        ensures ok { OnOk result (self.new ≡ voted self.old from hashes) }
-        ensures err { OnErr result (self.new ≡ self.old) }
-    {
-        if has_member(self.inner.as_slice(), from) {
-            self.votes.add(from, hashes)?;
-            Ok(())
-        } else {
-            self.outer_votes.push(Vote {
-                voter: from,
-                hashes,
-            })?;
-            Ok(())
-        }
-    }
-
     /// Takes the vote of an invited peer, its first one.
+    #[tactic(auto, using(crate::proofs::Soundness::vote_new, crate::proofs::Soundness::vote_whole))]
     pub fn vote(&mut self, from: PeerId, hashes: Hashes) -> Result<bool, OutOfMemory>
         ensures taken { IfOk result (λ taken. taken ≡ may_vote self.old from (length hashes)) }
         ensures after { IfOk result (λ taken. self.new ≡ (if taken then voted self.old from hashes else self.old)) }
@@ -211,7 +402,7 @@ impl PollSession {
         if !self.may_vote(from, hashes.as_slice().len()) {
             return Ok(false);
         }
-        self.take_vote(from, hashes)?;
+        self.voted(from, hashes)?;
         Ok(true)
     }
 
@@ -223,8 +414,8 @@ impl PollSession {
         if !self.is_voting() {
             return false;
         }
-        self.shut = true;
-        self.closed = self.votes.is_inquorate();
+        self.shut_now();
+        self.closed = self.is_inquorate();
         true
     }
 
@@ -240,14 +431,7 @@ impl PollSession {
         ensures lost { IsKept result self.new.tally.kept }
         ensures cache { IsCacheOf self.new.tally (C.blocks c.now) }
     {
-        self.votes.verdict(c)
-    }
-
-    /// For how many blocks running hashes are kept.
-    pub fn kept(&self) -> u16
-        ensures { result ≡ self.now.tally.kept }
-    {
-        self.votes.kept()
+        counts::verdict_counted::<C, Brand>(&mut self.tally, c, Blank::new(1))
     }
 
     /// The outer voters that are for a copy at its last block, in order of their votes.
@@ -255,54 +439,41 @@ impl PollSession {
         requires { length (C.blocks c.now) ≡ self.now.tally.ballot.count }
         ensures { IfOk result (λ ids. ids ≡ rules_of.outer_for self.now (C.blocks c.now)) }
     {
-        for_counted::<C, Brand>(
+        counts::for_counted::<C, Brand>(
             self.alloc,
-            self.votes.ballot(),
+            self.tally.ballot(),
             &self.outer_votes,
             c,
-            self.votes.ballot().count - 1,
+            self.tally.ballot().count - 1,
             Blank::new(1),
         )
     }
 
+    /// The inner voters against the copy of the last verdict at block `b`, in order of their votes.
+    pub fn against(&self, b: u16) -> Result<Ids, OutOfMemory>
+        requires { b < self.now.tally.kept }
+        ensures { (blocks : List (List ℕ)) → IsCacheOf self.now.tally blocks
+            → IfOk result (λ ids. ids ≡ voters_against self.now.tally.ballot self.now.tally.votes blocks b) }
+    {
+        self.tally.against(self.alloc, b)
+    }
+
     /// A reserved copy of the session's tally, with the running hashes of its last verdict.
     pub fn tally(&self) -> Result<Tally, OutOfMemory>
-        ensures same { IfOk result (λ t. t ≡ record self.now.tally { room = t.room }) }
+        ensures same { IfOk result (λ t. t ≡ roomed_as t self.now.tally) }
         ensures reserved { IfOk result (λ t. IsReserved t) }
     {
-        self.votes.copy(self.alloc)
+        self.tally.copy(self.alloc)
     }
 
     /// Puts a tally of the same votes in the place of the session's.
+    #[tactic(auto, using(crate::proofs::Soundness::sound_tally))]
     pub fn put_tally(&mut self, t: Tally)
         requires reserved { IsReserved t }
         requires same { IsSame t self.old.tally }
         ensures { self.new ≡ record self.old { tally = t } }
     {
-        self.votes.put(t);
-    }
-
-    fn close(&mut self, outcome: Outcome) -> Next
-        requires ended { self.old.shut ≡ true }
-        requires idle { self.old.suppliers.waiting ≡ false }
-        ensures next { result ≡ Next.Close outcome }
-        ensures after { self.new ≡ polling.closed self.old }
-    {
-        self.closed = true;
-        Next::Close(outcome)
-    }
-
-    fn ask(&mut self, block: u16, voter: PeerId) -> Result<Next, OutOfMemory>
-        requires ended { self.old.shut ≡ true }
-        requires running { self.old.closed ≡ false }
-        requires idle { self.old.suppliers.waiting ≡ false }
-        requires within { block < self.old.tally.ballot.count }
-        ensures next { IfOk result (λ next. next ≡ Next.Ask block voter) }
-        ensures after { OnOk result (self.new ≡ polling.asked self.old block voter) }
-        ensures err { OnErr result (self.new ≡ self.old) }
-    {
-        self.suppliers.asked(block, voter)?;
-        Ok(Next::Ask { block, voter })
+        self.tally = t;
     }
 
     fn find_supplier(&self, block: u16) -> Result<Option<PeerId>, OutOfMemory>
@@ -310,31 +481,29 @@ impl PollSession {
         ensures { (blocks : List (List ℕ)) → IsCacheOf self.now.tally blocks
             → IfOk result (λ found. found ≡ rules_of.candidate self.now blocks block) }
     {
-        let against = self.votes.against(self.alloc, block)?;
+        let against = self.against(block)?;
         Ok(self.suppliers.next(block, against.as_slice()))
     }
 
-    // A block at which the copy lost.
-    fn repair(&mut self, block: u16) -> Result<Next, OutOfMemory>
-        requires ended { self.old.shut ≡ true }
-        requires running { self.old.closed ≡ false }
-        requires idle { self.old.suppliers.waiting ≡ false }
-        requires kept { block < self.old.tally.kept }
-        ensures next { (blocks : List (List ℕ)) → IsCacheOf self.old.tally blocks
-            → IfOk result (λ next. next ≡ rules_of.asking block (rules_of.candidate self.old blocks block)) }
-        ensures after { IfOk result (λ next. self.new ≡ moved self.old next) }
-        ensures err { OnErr result (self.new ≡ self.old) }
+    /// What follows from the last verdict on a copy: the poll ends, or a voter against the block at which the copy lost is
+    /// asked for it.
+    pub fn next_of(&self, v: Verdict) -> Result<Next, OutOfMemory>
+        requires { IsKept v self.now.tally.kept }
+        ensures next { (blocks : List (List ℕ)) → IsCacheOf self.now.tally blocks
+            → IfOk result (λ next. next ≡ next_of self.now v blocks) }
+        ensures within { IfOk result (AsksWithin self.now.tally.ballot.count) }
     {
         // Its clause says that no more blocks are kept than the copy has.
-        let _kept = self.votes.kept();
-        match self.find_supplier(block)? {
-            Some(voter) => self.ask(block, voter),
-            None => Ok(self.close(Outcome::NoSupplier { block })),
+        let _kept = self.tally.kept();
+        match v {
+            Verdict::Inquorate => Ok(Next::Close(Outcome::Inquorate)),
+            Verdict::Agreed => Ok(Next::Close(Outcome::Agreed)),
+            Verdict::Split { block } => Ok(Next::Close(Outcome::Split { block })),
+            Verdict::Loss { block } => Ok(asking(block, self.find_supplier(block)?)),
         }
     }
 
-    /// What follows from the last verdict on a copy, once voting ended and while nobody is waited for: the poll ends, or
-    /// a voter against the block at which the copy lost is asked for it.
+    /// Does what follows from the last verdict on a copy, once voting ended and while nobody is waited for.
     pub fn judge(&mut self, v: Verdict) -> Result<Next, OutOfMemory>
         requires ended { self.old.shut ≡ true }
         requires running { self.old.closed ≡ false }
@@ -345,12 +514,12 @@ impl PollSession {
         ensures after { IfOk result (λ next. self.new ≡ moved self.old next) }
         ensures err { OnErr result (self.new ≡ self.old) }
     {
-        match v {
-            Verdict::Inquorate => Ok(self.close(Outcome::Inquorate)),
-            Verdict::Agreed => Ok(self.close(Outcome::Agreed)),
-            Verdict::Split { block } => Ok(self.close(Outcome::Split { block })),
-            Verdict::Loss { block } => self.repair(block),
+        let next = self.next_of(v)?;
+        match next {
+            Next::Close(_) => self.closed(),
+            Next::Ask { block, voter } => self.asked(block, voter)?,
         }
+        Ok(next)
     }
 
     #[tactic(auto, unfolding(crate::specs::Rules::is_asked))]
@@ -364,59 +533,37 @@ impl PollSession {
         }
     }
 
-    fn release(&mut self)
-        ensures { self.new ≡ released self.old }
-    {
-        self.suppliers.answered();
-    }
-
-    fn replace(&mut self, b: u16)
-        ensures { self.new ≡ polling.replaced self.old b }
-    {
-        self.suppliers.answered();
-        self.votes.forget_from(b);
-    }
-
-    // The answer to a request.
-    fn judge_block<C: Contents>(&mut self, b: u16, bytes: &[u8], c: &C) -> Answer
-        requires within { b < self.old.tally.ballot.count }
+    /// What is to become of a block that a peer sent.
+    pub fn answer_of<C: Contents>(&mut self, from: PeerId, b: u16, bytes: &[u8], c: &C) -> Answer
         requires count { length (C.blocks c.now) ≡ self.old.tally.ballot.count }
         requires cache { IsCacheOf self.old.tally (C.blocks c.now) }
-        ensures answer { result ≡ judgment (said self.old b bytes.now (C.blocks c.now)) }
-        ensures after { self.new ≡ answered self.old b result }
+        ensures answer { result ≡ answer_of self.old from b bytes.now (C.blocks c.now) }
+        ensures same { self.new ≡ self.old }
     {
-        match self.votes.try_block(c, b, bytes) {
-            At::Win => {
-                self.replace(b);
-                Answer::Replace
-            }
-            At::Loss | At::Split => {
-                self.release();
-                Answer::Bad
-            }
+        if !self.is_asked(from, b) {
+            return Answer::NotAsked;
+        }
+        match counts::at_counted::<C, Brand>(&mut self.tally, c, b, bytes, Blank::new(1)) {
+            At::Win => Answer::Replace,
+            At::Loss | At::Split => Answer::Bad,
         }
     }
 
-    /// What becomes of a block that a peer sent. The caller puts it in at `Replace`: the session has forgotten its running
-    /// hashes from there on.
+    /// Does what becomes of a block that a peer sent. The caller puts it in at `Replace`: the session has forgotten its
+    /// running hashes from there on.
     pub fn answer<C: Contents>(&mut self, from: PeerId, b: u16, bytes: &[u8], c: &C) -> Answer
         requires count { length (C.blocks c.now) ≡ self.old.tally.ballot.count }
         requires cache { IsCacheOf self.old.tally (C.blocks c.now) }
         ensures answer { result ≡ answer_of self.old from b bytes.now (C.blocks c.now) }
         ensures after { self.new ≡ answered self.old b result }
     {
-        if !self.is_asked(from, b) {
-            return Answer::NotAsked;
+        let answer = self.answer_of(from, b, bytes, c);
+        match answer {
+            Answer::Replace => self.replaced(b),
+            Answer::Bad => self.answered(),
+            Answer::NotAsked => {}
         }
-        self.judge_block(b, bytes, c)
-    }
-
-    /// The block and the voter of the request that isn't answered, or `None` where nobody is waited for.
-    pub fn unanswered(&self) -> Option<(u16, PeerId)>
-        ensures last { result ≡ awaited self.now.suppliers }
-        ensures none { IsNone result ↔ (self.now.suppliers.waiting ≡ false) }
-    {
-        self.suppliers.unanswered()
+        answer
     }
 
     /// Ends the waiting for the block and the voter that it gives.
@@ -425,9 +572,19 @@ impl PollSession {
         ensures none { IsNone result ↔ (self.old.suppliers.waiting ≡ false) }
         ensures after { self.new ≡ released self.old }
     {
-        let request = self.suppliers.unanswered();
-        self.release();
+        let request = self.unanswered();
+        self.answered();
         request
+    }
+}
+
+// A voter is asked for the block, or without one the poll ends.
+fn asking(block: u16, voter: Option<PeerId>) -> Next
+    ensures { result ≡ rules_of.asking block voter }
+{
+    match voter {
+        Some(voter) => Next::Ask { block, voter },
+        None => Next::Close(Outcome::NoSupplier { block }),
     }
 }
 
@@ -446,24 +603,4 @@ fn has_outer(outer: &Option<Ids>, voter: PeerId) -> bool
         Some(ids) => has_member(ids.as_slice(), voter),
         None => false,
     }
-}
-
-fn has_vote(votes: &[Vote], voter: PeerId) -> bool
-    ensures { result ≡ keeping.has_voted votes.now voter }
-{
-    votes.iter().any(|v| v.voter == voter)
-}
-
-fn for_counted<C: Contents, L: Ledger>(
-    alloc: Global,
-    ballot: &Ballot,
-    votes: &[Vote],
-    c: &C,
-    b: u16,
-    blank: Blank,
-) -> Result<Ids, OutOfMemory>
-    requires { Opens blank L.name L.parts }
-    ensures { IfOk result (λ ids. ids ≡ voters_for ballot.now votes.now (C.blocks c.now) b) }
-{
-    for_of(alloc, ballot, votes, c, b, &mut Steps::<L>::open(blank))
 }

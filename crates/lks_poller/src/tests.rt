@@ -86,18 +86,20 @@ fn cast(session: &mut PollSession, alloc: Global, voter: u16, copy: &Pair) -> Re
     Ok(session.vote(voter, hashes)?)
 }
 
+fn six(alloc: Global) -> Result<Ids, OutOfMemory> {
+    Ok(Ids::from_vec(vec![in alloc; 6]?))
+}
+
 fn name(session: &mut PollSession, alloc: Global, voter: u16) -> Result<bool, Fail>
     ensures { session.new.tally ≡ session.old.tally }
 {
-    let nominees = Ids::from_vec(vec![in alloc; 6]?);
-    Ok(session.nominate(voter, nominees)?)
+    Ok(session.nominate(voter, six(alloc)?)?)
 }
 
 fn widen(session: &mut PollSession, alloc: Global) -> Result<bool, Fail>
     ensures { session.new.tally ≡ session.old.tally }
 {
-    let outer = Ids::from_vec(vec![in alloc; 6]?);
-    Ok(session.widen(outer))
+    Ok(session.widen(six(alloc)?))
 }
 
 fn end(session: &mut PollSession) -> bool
@@ -250,6 +252,121 @@ fn widening(rt: HostRuntime) -> Result<(), Fail> {
         Act::At(Stage::Closed),
     ];
     play_all(&rt, rt.alloc(), &acts)
+}
+
+// What a caller notes, or asks, by itself.
+#[derive(Drop)]
+enum Entry {
+    Nominated(u16),
+    Widened,
+    Voted(u16),
+    Shut,
+    Asked(u16),
+    Answered,
+    Replaced([u8; 1]),
+    Next(Next),
+    Answer(u16, [u8; 1], Answer),
+}
+
+fn note_vote(session: &mut PollSession, alloc: Global, voter: u16, copy: &Pair) -> Result<(), Fail>
+    ensures ballot { session.new.tally.ballot ≡ session.old.tally.ballot }
+    ensures cache { (blocks : List (List ℕ)) → IsCacheOf session.old.tally blocks → IsCacheOf session.new.tally blocks }
+{
+    let hashes = hashes_of(alloc, voter, copy)?;
+    if session.has_voted(voter) || hashes.as_slice().len() != session.count() as usize {
+        return Err(Fail::new("no vote"));
+    }
+    Ok(session.voted(voter, hashes)?)
+}
+
+fn note_request(session: &mut PollSession, voter: u16) -> Result<(), Fail>
+    requires { session.old.tally.ballot.count ≡ 2 }
+    ensures { session.new.tally ≡ session.old.tally }
+{
+    match session.stage() {
+        Stage::Shut => Ok(session.asked(1, voter)?),
+        _ => Err(Fail::new("no request")),
+    }
+}
+
+fn note_repair(session: &mut PollSession, bytes: [u8; 1], copy: &mut Pair)
+    requires count { session.old.tally.ballot.count ≡ 2 }
+    requires cache { IsCacheOf session.old.tally ((65 ∷ []) ∷ copy.old.0 ∷ []) }
+    ensures count { session.new.tally.ballot.count ≡ 2 }
+    ensures cache { IsCacheOf session.new.tally ((65 ∷ []) ∷ copy.new.0 ∷ []) }
+{
+    session.replaced(1);
+    copy.0 = bytes;
+}
+
+fn foresee(session: &mut PollSession, copy: &Pair) -> Result<Next, OutOfMemory>
+    requires count { session.old.tally.ballot.count ≡ 2 }
+    requires cache { IsCacheOf session.old.tally ((65 ∷ []) ∷ copy.now.0 ∷ []) }
+    ensures count { session.new.tally.ballot.count ≡ 2 }
+    ensures cache { IsCacheOf session.new.tally ((65 ∷ []) ∷ copy.now.0 ∷ []) }
+{
+    let verdict = session.verdict(copy);
+    session.next_of(verdict)
+}
+
+// Votes are over a copy whose second block is `43`.
+fn note<R: Abort>(
+    rt: &R,
+    alloc: Global,
+    session: &mut PollSession,
+    copy: &mut Pair,
+    entry: &Entry,
+) -> Result<(), Fail>
+    requires count { session.old.tally.ballot.count ≡ 2 }
+    requires cache { IsCacheOf session.old.tally ((65 ∷ []) ∷ copy.old.0 ∷ []) }
+    ensures count { session.new.tally.ballot.count ≡ 2 }
+    ensures cache { IsCacheOf session.new.tally ((65 ∷ []) ∷ copy.new.0 ∷ []) }
+{
+    match entry {
+        Entry::Nominated(voter) => session.nominated(*voter, six(alloc)?)?,
+        Entry::Widened => session.widened(six(alloc)?),
+        Entry::Voted(voter) => note_vote(session, alloc, *voter, &Pair(*b"C"))?,
+        Entry::Shut => session.shut_now(),
+        Entry::Asked(voter) => note_request(session, *voter)?,
+        Entry::Answered => session.answered(),
+        Entry::Replaced(bytes) => note_repair(session, *bytes, copy),
+        Entry::Next(want) => assert_eq!(rt; foresee(session, copy)?, *want),
+        Entry::Answer(from, bytes, want) => {
+            assert_eq!(rt; session.answer_of(*from, 1, bytes, copy), *want)
+        }
+    }
+    Ok(())
+}
+
+#[test]
+fn noted(rt: HostRuntime) -> Result<(), Fail> {
+    let asked = |voter| Entry::Next(Next::Ask { block: 1, voter });
+    let entries = [
+        Entry::Nominated(2),
+        Entry::Widened,
+        Entry::Voted(6),
+        Entry::Voted(2),
+        Entry::Voted(4),
+        Entry::Voted(3),
+        Entry::Shut,
+        asked(2),
+        Entry::Asked(2),
+        Entry::Answer(2, *b"D", Answer::Bad),
+        Entry::Answered,
+        Entry::Answer(2, *b"C", Answer::NotAsked),
+        asked(4),
+        Entry::Asked(4),
+        Entry::Answer(4, *b"C", Answer::Replace),
+        Entry::Replaced(*b"C"),
+        Entry::Next(Next::Close(Outcome::Agreed)),
+    ];
+    let mut copy = Pair(*b"B");
+    let mut session = opened(rt.alloc())?;
+    for entry in &entries {
+        note(&rt, rt.alloc(), &mut session, &mut copy, entry)?;
+    }
+    assert_eq!(rt; session.voters(), [6, 2, 4, 3].as_slice());
+    Ok(())
 }
 
 #[test]

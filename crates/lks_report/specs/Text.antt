@@ -60,7 +60,21 @@ poll_line peer notes number au =
 -- the line of the poll that a note opens
 unfoldable pub opened_line : ℕ → List Note → Note → List ℕ
 opened_line peer notes (Opened number au) = poll_line peer notes number au
-opened_line peer notes _ = []
+opened_line peer notes (Nominated number voter) = []
+opened_line peer notes (Outer number count) = []
+opened_line peer notes (VoteIn number voter inner) = []
+opened_line peer notes (Shut number) = []
+opened_line peer notes (Asked number block voter) = []
+opened_line peer notes (RepairBad number block voter) = []
+opened_line peer notes (Replaced number au block size) = []
+opened_line peer notes (Closed number outcome) = []
+opened_line peer notes (Overdue au) = []
+opened_line peer notes (Joined poll au low) = []
+opened_line peer notes (Committed poll version) = []
+opened_line peer notes (Voted poll) = []
+opened_line peer notes (Served poll block) = []
+opened_line peer notes (Ended poll) = []
+opened_line peer notes (Tuned quorum minority repairs) = []
 
 -- the polls of an honest peer, in the order in which they were opened
 unfoldable pub peer_polls : List Entry → PeerPlan → List ℕ

@@ -120,7 +120,21 @@ fn put_opened(out: &mut String, peer: PeerId, notes: &[Note], note: &Note) -> Re
 {
     match *note {
         Note::Opened { number, au } => put_poll(out, peer, notes, number, au),
-        _ => Ok(()),
+        Note::Nominated { .. }
+        | Note::Outer { .. }
+        | Note::VoteIn { .. }
+        | Note::Shut { .. }
+        | Note::Asked { .. }
+        | Note::RepairBad { .. }
+        | Note::Replaced { .. }
+        | Note::Closed { .. }
+        | Note::Overdue { .. }
+        | Note::Joined { .. }
+        | Note::Committed { .. }
+        | Note::Voted { .. }
+        | Note::Served { .. }
+        | Note::Ended { .. }
+        | Note::Tuned { .. } => Ok(()),
     }
 }
 

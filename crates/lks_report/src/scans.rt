@@ -117,7 +117,22 @@ fn outcome_in(note: &Note, poll: u32) -> Option<Outcome>
 {
     match *note {
         Note::Closed { number, outcome } if number == poll => Some(outcome),
-        _ => None,
+        Note::Opened { .. }
+        | Note::Nominated { .. }
+        | Note::Outer { .. }
+        | Note::VoteIn { .. }
+        | Note::Shut { .. }
+        | Note::Asked { .. }
+        | Note::RepairBad { .. }
+        | Note::Replaced { .. }
+        | Note::Closed { .. }
+        | Note::Overdue { .. }
+        | Note::Joined { .. }
+        | Note::Committed { .. }
+        | Note::Voted { .. }
+        | Note::Served { .. }
+        | Note::Ended { .. }
+        | Note::Tuned { .. } => None,
     }
 }
 

@@ -9,7 +9,8 @@ use Rattle.lks_tally.specs.declared.ballots.Verdict.{Verdict}
 use Rattle.lks_tally.specs.declared.ballots.Verdict.TheVariants.{Inquorate, Agreed, Loss, Split}
 use Rattle.lks_tally.specs.Rows.{rows_of}
 
--- a poll's votes; for how many blocks the running hashes of all votes are kept, and these; and for how many there is room
+-- a poll's votes; for how many blocks the running hashes of all votes are kept, and these; and for how many hashes and
+-- votes there is room
 pub record Tallied : Type 0 where
   pub ballot : Ballot
   pub limits : Limits
@@ -17,14 +18,23 @@ pub record Tallied : Type 0 where
   pub kept : ℕ
   pub hashes : List (List ℕ)
   pub room : ℕ
+  pub vote_room : ℕ
 
 -- the hashes that are kept are those over these blocks
 abbrev pub IsCacheOf : Tallied → List (List ℕ) → Type 0
 IsCacheOf t blocks = t.hashes ≡ rows_of t.ballot blocks t.votes t.kept
 
--- there is room for the hashes of as many votes as an inner circle casts at most
+-- there is room for as many votes as an inner circle casts at most, and for their hashes
 abbrev pub IsReserved : Tallied → Type 0
-IsReserved t = MOST_CIRCLE * t.ballot.count ≤ t.room
+IsReserved t = (MOST_CIRCLE * t.ballot.count ≤ t.room) × (MOST_CIRCLE ≤ t.vote_room)
+
+-- no room is lost
+abbrev pub KeepsRooms : Tallied → Tallied → Type 0
+KeepsRooms old new = (old.room ≤ new.room) × (old.vote_room ≤ new.vote_room)
+
+-- the same but for the rooms, which are those of u
+abbrev pub roomed_as : Tallied → Tallied → Tallied
+roomed_as u t = record t { room = u.room; vote_room = u.vote_room }
 
 -- the same poll with the same numbers and votes
 abbrev pub IsSame : Tallied → Tallied → Type 0

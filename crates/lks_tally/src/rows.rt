@@ -20,18 +20,6 @@ pub struct Rows {
     pub hashes: Vec<[u8; 32]>,
 }
 
-// Puts a hash where there is room.
-fn put(hashes: &mut Vec<[u8; 32]>, hash: [u8; 32])
-    requires { vec_len hashes.old < vec_capacity hashes.old }
-    ensures items { hashes.new.items ≡ hashes.old.items ++ hash ∷ [] }
-    ensures room { vec_capacity hashes.old ≤ vec_capacity hashes.new }
-{
-    match hashes.push(hash) {
-        Ok(()) => {}
-        Err(_) => unreachable!(),
-    }
-}
-
 /// The running hash before block `b` of the vote at place `i` among `width`.
 pub fn head_before(
     ballot: &Ballot,
@@ -72,7 +60,7 @@ fn push_row<C: Contents, L: Ledger>(
     let block = copy.block(b);
     for (i, vote) in votes.iter().enumerate() {
         let head = head_before(ballot, vote.voter, votes.len(), hashes, b, i);
-        put(hashes, Chain::start(second, head).add(block, steps));
+        hashes.push_reserved(Chain::start(second, head).add(block, steps));
     }
 }
 

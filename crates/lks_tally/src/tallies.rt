@@ -1,8 +1,8 @@
 //! The tally of a poll: its votes, and the running hashes that it keeps from one verdict to the next.
 
-ghost use Rattle.std.specs.Prelude.{◌≡◌, ℕ, ◌+◌, ◌*◌, ◌-◌, ◌<◌, ◌≤◌, ◌≢◌, ◌↔◌, List, [], ◌∷◌, length, min, slice_set, IsTrue, IfOk, OnOk, OnErr, true, false};
+ghost use Rattle.std.specs.Prelude.{◌≡◌, ℕ, ◌+◌, ◌*◌, ◌-◌, ◌<◌, ◌≤◌, ◌≢◌, ◌↔◌, List, [], ◌∷◌, length, min, slice_set, vec_len, vec_capacity, IsOk, IsTrue, IfOk, OnOk, OnErr, true, false};
 ghost use Rattle.lks_tally.specs.Counting.{voters_against, verdict_at, verdict_on};
-ghost use Rattle.lks_tally.specs.Keeping.{IsCacheOf, IsReserved, IsSame, has_voted, voted, forgotten, kept_after};
+ghost use Rattle.lks_tally.specs.Keeping.{IsCacheOf, IsReserved, IsSame, KeepsRooms, has_voted, voted, forgotten, kept_after, roomed_as};
 
 use crate::ballots::{At, Ballot, Verdict, Vote};
 use crate::rows::Rows;
@@ -44,7 +44,7 @@ impl Model for Tally {
 
     ghost Value = { Tallied };
 
-    ghost view = { λ a. record { ballot = a.ballot; limits = a.limits; votes = a.votes.items; kept = a.rows.count; hashes = a.rows.hashes.items; room = vec_capacity a.rows.hashes } };
+    ghost view = { λ a. record { ballot = a.ballot; limits = a.limits; votes = a.votes.items; kept = a.rows.count; hashes = a.rows.hashes.items; room = vec_capacity a.rows.hashes; vote_room = vec_capacity a.votes } };
 
     ghost invariant = { λ a. (a.rows.count ≤ a.ballot.count) × (length a.rows.hashes.items ≡ a.rows.count * length a.votes.items) };
 }
@@ -85,11 +85,12 @@ impl Tally {
         }
     }
 
-    /// Takes room for the votes of a whole inner circle and their running hashes, so that verdicts take no memory.
+    /// Takes room for the votes of a whole inner circle and their running hashes: votes that fit, and verdicts, then take no
+    /// memory.
     pub fn reserve(&mut self) -> Result<(), OutOfMemory>
         ensures ok { OnOk result (IsReserved self.new) }
-        ensures same { self.new ≡ record self.old { room = self.new.room } }
-        ensures room { self.old.room ≤ self.new.room }
+        ensures same { self.new ≡ roomed_as self.new self.old }
+        ensures rooms { KeepsRooms self.old self.new }
     {
         let most = MOST_CIRCLE as usize;
         self.votes.try_reserve(most)?;
@@ -99,12 +100,14 @@ impl Tally {
         Ok(())
     }
 
-    /// Takes a vote, which is to have one hash a block, and forgets what was kept.
+    /// Takes a vote, which is to have one hash a block, and forgets what was kept. It takes no memory where there is room.
     pub fn add_vote(&mut self, voter: PeerId, hashes: Hashes) -> Result<(), VoteFault>
-        ensures ok { OnOk result (self.new ≡ voted self.old (record { voter = voter; hashes = hashes })) }
+        ensures ok { OnOk result (self.new ≡ record (voted self.old (record { voter = voter; hashes = hashes })) { vote_room = self.new.vote_room }) }
         ensures err { OnErr result (self.new ≡ self.old) }
         ensures twice { (result ≡ Err VoteFault.Twice) ↔ IsTrue (has_voted self.old.votes voter) }
         ensures wrong_length { (result ≡ Err VoteFault.Length) ↔ ((has_voted self.old.votes voter ≡ false) × (length hashes ≢ self.old.ballot.count)) }
+        ensures rooms { KeepsRooms self.old self.new }
+        ensures roomy { length self.old.votes < self.old.vote_room → (self.new.vote_room ≡ self.old.vote_room) × (result ≢ Err VoteFault.Memory) }
     {
         if counts::has_voted(&self.votes, voter) {
             return Err(VoteFault::Twice);
@@ -112,10 +115,10 @@ impl Tally {
         if hashes.as_slice().len() != self.ballot.count as usize {
             return Err(VoteFault::Length);
         }
-        match self.votes.push(Vote { voter, hashes }) {
-            Ok(()) => {}
-            Err(_) => return Err(VoteFault::Memory),
+        if make_place(&mut self.votes).is_err() {
+            return Err(VoteFault::Memory);
         }
+        self.votes.push_reserved(Vote { voter, hashes });
         self.rows.count = 0;
         self.rows.hashes.clear();
         Ok(())
@@ -130,7 +133,7 @@ impl Tally {
         requires cache { IsCacheOf self.old (C.blocks c.now) }
         ensures verdict { result ≡ verdict_on self.old.limits.quorum self.old.limits.minority self.old.ballot self.old.votes (C.blocks c.now) }
         ensures same { IsSame self.new self.old }
-        ensures room { self.old.room ≤ self.new.room }
+        ensures rooms { KeepsRooms self.old self.new }
         ensures kept { self.new.kept ≡ kept_after result self.old.kept self.old.ballot.count }
         ensures within { self.new.kept ≤ self.old.ballot.count }
         ensures cache { IsCacheOf self.new (C.blocks c.now) }
@@ -186,6 +189,27 @@ impl Tally {
         }
     }
 
+    /// What all votes of the poll are about.
+    pub fn ballot(&self) -> &Ballot
+        ensures { result.now ≡ self.now.ballot }
+    {
+        &self.ballot
+    }
+
+    /// The numbers that decide the poll.
+    pub fn limits(&self) -> Limits
+        ensures { result ≡ self.now.limits }
+    {
+        self.limits
+    }
+
+    /// The votes, in the order in which they were taken.
+    pub fn votes(&self) -> &[Vote]
+        ensures { result.now ≡ self.now.votes }
+    {
+        &self.votes
+    }
+
     /// For how many blocks, from the first one on, the running hashes of all votes are kept.
     pub fn kept(&self) -> u16
         ensures kept { result ≡ self.now.kept }
@@ -205,7 +229,7 @@ impl Tally {
 
     /// A reserved copy, with the running hashes that are kept.
     pub fn copy(&self, alloc: Global) -> Result<Tally, OutOfMemory>
-        ensures same { IfOk result (λ t. t ≡ record self.now { room = t.room }) }
+        ensures same { IfOk result (λ t. t ≡ roomed_as t self.now) }
         ensures reserved { IfOk result (λ t. IsReserved t) }
     {
         let mut copy = Tally {
@@ -230,4 +254,18 @@ impl Tally {
         let heads = rows::row(&self.rows.hashes, self.votes.len(), b);
         counts::voters_of_others(alloc, &self.votes, heads, b)
     }
+}
+
+// Takes room for one vote more where there is none.
+fn make_place(votes: &mut Vec<Vote>) -> Result<(), OutOfMemory>
+    ensures items { votes.new.items ≡ votes.old.items }
+    ensures ok { OnOk result (vec_len votes.new < vec_capacity votes.new) }
+    ensures err { OnErr result (vec_capacity votes.new ≡ vec_capacity votes.old) }
+    ensures room { vec_capacity votes.old ≤ vec_capacity votes.new }
+    ensures roomy { vec_len votes.old < vec_capacity votes.old → (vec_capacity votes.new ≡ vec_capacity votes.old) × IsOk result }
+{
+    if votes.len() == votes.capacity() {
+        votes.try_reserve(1)?;
+    }
+    Ok(())
 }

@@ -1,8 +1,8 @@
 //! Verdicts of small polls on the blocks `41` and `42`, with a quorum of 3 and at most 1 vote in a minority.
-ghost use Rattle.std.specs.Prelude.{◌≡◌, ◌≤◌, [], ◌∷◌, length, IfOk};
+ghost use Rattle.std.specs.Prelude.{◌≡◌, ◌≤◌, ◌+◌, ◌*◌, ◌-◌, [], ◌∷◌, length, IfOk};
 ghost use Rattle.lks_base.specs.declared.limits.TheConstants.{MOST_CIRCLE};
 ghost use Rattle.lks_hash.specs.Counting.{Opens};
-ghost use Rattle.lks_tally.specs.Keeping.{IsReserved};
+ghost use Rattle.lks_tally.specs.Keeping.{IsCacheOf, IsReserved, IsSame};
 
 use super::*;
 use crate::counts;
@@ -103,7 +103,7 @@ fn tally_of<C: Contents, L: Ledger>(
     steps: &mut Steps<L>,
 ) -> Result<Tally, Fail>
     requires { length copies.now ≤ MOST_CIRCLE }
-    ensures { IfOk result (λ t. (IsReserved t) × (length t.votes ≤ MOST_CIRCLE) × (t.ballot.count ≡ count) × (t.kept ≡ 0) × (t.hashes ≡ [])) }
+    ensures { IfOk result (λ t. (IsReserved t) × (length t.votes ≡ length copies.now) × (t.ballot.count ≡ count) × (t.kept ≡ 0) × (t.hashes ≡ [])) }
 {
     let q = ballot_of(kind, count);
     let mut tally = Tally::new(alloc, &RULES, q.poll, q.au, q.kind, q.nonce, count);
@@ -203,6 +203,37 @@ fn is_copied(alloc: Global, tally: &Tally) -> Result<bool, Fail> {
     Ok(copy.same(tally) && copy.kept() == tally.kept())
 }
 
+// The verdict of three votes: a link for each of them at each block whose hashes aren't kept.
+fn verdict_linked<L: Ledger>(tally: &mut Tally, copy: &Pair, steps: &mut Steps<L>) -> Verdict
+    requires reserved { IsReserved tally.old }
+    requires three { length tally.old.votes ≡ 3 }
+    requires count { tally.old.ballot.count ≡ 2 }
+    requires cache { IsCacheOf tally.old ((65 ∷ []) ∷ copy.now.0 ∷ []) }
+    ensures same { IsSame tally.new tally.old }
+    ensures reserved { IsReserved tally.new }
+    ensures cache { IsCacheOf tally.new ((65 ∷ []) ∷ copy.now.0 ∷ []) }
+    ensures links { steps.new ≤ steps.old + 3 * (2 - tally.old.kept) }
+{
+    tally.verdict(copy, steps)
+}
+
+// What three votes say at the second block once hashes of the first are kept: a link for each.
+fn second_linked<L: Ledger>(
+    tally: &mut Tally,
+    copy: &Pair,
+    bytes: &[u8],
+    steps: &mut Steps<L>,
+) -> At
+    requires three { length tally.old.votes ≡ 3 }
+    requires count { tally.old.ballot.count ≡ 2 }
+    requires kept { 1 ≤ tally.old.kept }
+    requires cache { IsCacheOf tally.old ((65 ∷ []) ∷ copy.now.0 ∷ []) }
+    ensures same { tally.new ≡ tally.old }
+    ensures links { steps.new ≤ steps.old + 3 }
+{
+    tally.try_block(copy, 1, bytes, steps)
+}
+
 // Three votes over `41,43`, on a copy `41,42` whose second block is repaired.
 fn repair_counted<L: Ledger, R: Abort>(rt: &R, blank: Blank, alloc: Global) -> Result<(), Fail>
     requires { Opens blank L.name L.parts }
@@ -213,14 +244,20 @@ fn repair_counted<L: Ledger, R: Abort>(rt: &R, blank: Blank, alloc: Global) -> R
     let bad = Pair(*b"B");
     let votes = [voted, voted, voted];
     let mut tally = tally_of(alloc, kind, kind, 2, &votes, &mut steps)?;
-    assert_eq!(rt; tally.verdict(&bad, &mut steps), Verdict::Loss { block: 1 });
+    assert_eq!(rt;
+        verdict_linked(&mut tally, &bad, &mut steps),
+        Verdict::Loss { block: 1 }
+    );
     assert_eq!(rt; tally.kept(), 2);
     assert_eq!(rt; tally.against(alloc, 1)?.as_slice(), [2, 3, 4].as_slice());
     assert_eq!(rt; tally.against(alloc, 0)?.as_slice(), [].as_slice());
-    assert_eq!(rt; tally.try_block(&bad, 1, b"D", &mut steps), At::Loss);
-    assert_eq!(rt; tally.try_block(&bad, 1, b"C", &mut steps), At::Win);
+    assert_eq!(rt; second_linked(&mut tally, &bad, b"D", &mut steps), At::Loss);
+    assert_eq!(rt; second_linked(&mut tally, &bad, b"C", &mut steps), At::Win);
     tally.forget_from(1);
-    assert_eq!(rt; tally.verdict(&voted, &mut steps), Verdict::Agreed);
+    assert_eq!(rt;
+        verdict_linked(&mut tally, &voted, &mut steps),
+        Verdict::Agreed
+    );
     let again = tally_of(alloc, kind, kind, 2, &votes, &mut steps)?;
     assert!(rt; tally.same(&again));
     assert!(rt; is_copied(alloc, &tally)?);

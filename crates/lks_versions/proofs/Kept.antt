@@ -3,8 +3,8 @@ use Rattle.std.proofs.Common.{◌≡◌, ℕ, ◌<◌, ◌≤◌, inl, inr, List
 use Rattle.std.specs.Prelude.{slice_index_or, slice_set}
 use Rattle.lks_blocks.specs.Block.{Block}
 use Rattle.lks_versions.specs.declared.versions.Pin.{Pin}
-use Rattle.lks_versions.specs.Shelf.{Shelf, IsKept}
-use Rattle.lks_versions.specs.Whole.{IsWhole, IsCounted}
+use Rattle.lks_versions.specs.Shelf.{Shelf, IsKept, current_of, version_of}
+use Rattle.lks_versions.specs.Whole.{IsWhole, IsCounted, deposit_of}
 use Rattle.lks_versions.proofs.PinLaws.{pin_of-within}
 
 kept_in : (s : Shelf) (k : ℕ) → IsKept s k → 0 < length s.lists → IsWhole s.lists s.pins → k < length s.lists
@@ -18,13 +18,22 @@ kept_within s k deposit later pins is kept whole =
     let within : k < length (deposit ∷ later) = kept_in seen k (subst (λ s. IsKept s k) (sym is) kept) (omega arith) whole in
     omega arith
 
+-- each version has as many blocks as the deposit
+pub count_at : (lists : List (List Block)) (pins : List Pin) (k : ℕ) (list : List Block) → IsWhole lists pins → k < length lists → list ≡ slice_index_or lists k [] → length list ≡ length (deposit_of lists)
+count_at lists pins k list whole within is = ap length is ∙ whole.same k [] within
+
 pub counted_at : (lists : List (List Block)) (pins : List Pin) (k : ℕ) (list : List Block) → IsWhole lists pins → k < length lists → list ≡ slice_index_or lists k [] → IsCounted list
-counted_at lists pins k list whole within is = subst IsCounted (sym is) (whole.counted k [] within)
+counted_at lists pins k list whole within is =
+    let same = count_at lists pins k list whole within is in
+    (omega (arith, same, whole.counted.0), omega (arith, same, whole.counted.1))
+
+pub count_each : (deposit : List Block) (later : List (List Block)) (pins : List Pin) (s : Shelf) → record { lists = deposit ∷ later; pins = pins } ≡ s → IsWhole (deposit ∷ later) pins
+    → (k : ℕ) → k ≤ current_of s → length (version_of s k) ≡ length deposit
+count_each deposit later pins s is whole =
+    let P : Shelf → Type 0 = λ s. (k : ℕ) → k ≤ current_of s → length (version_of s k) ≡ length deposit in
+    subst P is (λ k within. whole.same k [] (omega arith))
 
 -- a list with another block in a place
-pub counted_set : (lists : List (List Block)) (pins : List Pin) (k : ℕ) (list after : List Block) (b : ℕ) (block : Block) → IsWhole lists pins → k < length lists
-    → list ≡ slice_index_or lists k [] → after ≡ slice_set list b block → IsCounted after
-counted_set lists pins k list after b block whole within is set =
-    let counted = counted_at lists pins k list whole within is in
-    let same : length after ≡ length list = ap length set ∙ length-set list b block in
-    (omega (arith, same, counted.0), omega (arith, same, counted.1))
+pub count_set : (lists : List (List Block)) (pins : List Pin) (k : ℕ) (list after : List Block) (b : ℕ) (block : Block) → IsWhole lists pins → k < length lists
+    → list ≡ slice_index_or lists k [] → after ≡ slice_set list b block → length after ≡ length (deposit_of lists)
+count_set lists pins k list after b block whole within is set = ap length set ∙ length-set list b block ∙ count_at lists pins k list whole within is

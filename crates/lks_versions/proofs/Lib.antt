@@ -1,3 +1,4 @@
 pub mod Kept
 pub mod PinLaws
+pub mod Replaced
 pub mod Wholes

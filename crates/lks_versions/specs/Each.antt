@@ -3,7 +3,6 @@ use Rattle.std.specs.Prelude.{◌≡◌, ℕ, zero, suc, List, [], ◌∷◌, �
 use Rattle.std.proofs.Common.{sym, ap, refl, subst}
 use Rattle.std.proofs.lemmas.List.Elements.{All-nil, All-cons, All-head, All-tail, All-push}
 use Rattle.lks_blocks.specs.Block.{Block, AllOf, all_none, all_set}
-use Rattle.lks_versions.specs.declared.versions.Pin.{Pin}
 use Rattle.lks_versions.specs.Shelf.{Shelf, version_of, newest_of, current_of, replaced}
 
 -- each block of each version is of this pool
@@ -11,11 +10,9 @@ unfoldable pub EachOf : List ℕ → List (List Block) → Type 0
 EachOf pool lists = All (λ (list : List Block). AllOf pool list) lists
 
 -- of a deposit
-pub each_one : (pool : List ℕ) (s : Shelf) (list : List Block) (pins : List Pin) → s ≡ record { lists = list ∷ []; pins = pins } → AllOf pool list → EachOf pool s.lists
+pub each_one : (pool : List ℕ) (lists : List (List Block)) (list : List Block) → lists ≡ list ∷ [] → AllOf pool list → EachOf pool lists
 unfolding EachOf
-each_one pool s list pins is of =
-    let P : Shelf → Type 0 = λ s. EachOf pool s.lists in
-    subst P (sym is) (All-cons (AllOf pool) list [] of (All-nil (AllOf pool)))
+each_one pool lists list is of = subst (EachOf pool) (sym is) (All-cons (AllOf pool) list [] of (All-nil (AllOf pool)))
 
 -- of one version more
 pub each_put : (pool : List ℕ) (lists after : List (List Block)) (list : List Block) → after ≡ lists ++ list ∷ [] → EachOf pool lists → AllOf pool list → EachOf pool after
@@ -31,6 +28,9 @@ each_in pool (list ∷ lists) (suc k) each = each_in pool lists k (All-tail (All
 -- of the blocks that a version names
 pub each_at : (pool : List ℕ) (s : Shelf) (k : ℕ) (list : List Block) → list ≡ version_of s k → EachOf pool s.lists → AllOf pool list
 each_at pool s k list is each = subst (AllOf pool) (sym is) (each_in pool s.lists k each)
+
+pub each_newest : (pool : List ℕ) (s : Shelf) (list : List Block) → list ≡ newest_of s → EachOf pool s.lists → AllOf pool list
+each_newest pool s list is each = each_at pool s (current_of s) list is each
 
 -- of what a replacement leaves
 pub each_replaced : (pool : List ℕ) (old new : Shelf) (b : ℕ) (block : Block) → new ≡ replaced old b block → block.pool ≡ pool → EachOf pool old.lists → EachOf pool new.lists

@@ -18,8 +18,10 @@
 //! ```
 #![tactic(auto)]
 
+mod newest;
 #[cfg(test)]
 mod tests;
 mod versions;
 
+pub use newest::Newest;
 pub use versions::{PinTag, Versions};

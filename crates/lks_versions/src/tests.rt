@@ -7,7 +7,7 @@ ghost use Rattle.lks_versions.specs.Pins.{pin_of};
 ghost use Rattle.lks_versions.specs.Shelf.{IsKept, current_of, newest_of};
 
 use super::*;
-use lks_base::{OutOfMemory, PollName};
+use lks_base::{Bytes, Contents, PollName};
 use lks_blocks::{BlockPool, BlockRef};
 use std::alloc::{AllocError, Global};
 use std::sync::Wait;
@@ -53,40 +53,29 @@ fn same_at(pool: &BlockPool, versions: &Versions, a: u32, b: u32) -> Result<bool
     Ok(pool.same_blocks(first.as_slice(), second.as_slice()))
 }
 
-fn block<R: Wait>(rt: &R, alloc: Global, pool: &BlockPool, bytes: &[u8]) -> Result<BlockRef, Fail>
-    ensures { IfOk result (λ r. r.pool ≡ pool.now) }
-{
-    Ok(pool.put(rt, bytes.to_vec(alloc)?)?)
-}
-
 /// A copy of two blocks.
-fn deposited(
-    alloc: Global,
-    pool: &BlockPool,
-    first: BlockRef,
-    second: BlockRef,
-) -> Result<Versions, Fail>
-    requires first { first.pool ≡ pool.now }
-    requires second { second.pool ≡ pool.now }
+#[tactic(auto, using(lks_blocks::proofs::Bytes::bytes_count))]
+fn deposited<R: Wait>(rt: &R, alloc: Global, pool: &BlockPool) -> Result<Versions, Fail>
     ensures of { IfOk result (λ v. EachOf pool.now v.lists) }
     ensures count { IfOk result (λ v. length (newest_of v) ≡ 2) }
     ensures current { IfOk result (λ v. current_of v ≡ 0) }
     ensures pins { IfOk result (λ v. v.pins ≡ []) }
 {
-    let _ = pool;
-    Ok(Versions::deposit(alloc, vec![in alloc; first, second]?))
+    let first = Bytes::from_vec(b"A".to_vec(alloc)?);
+    let second = Bytes::from_vec(b"bc".to_vec(alloc)?);
+    let blocks = vec![in alloc; first, second]?;
+    Ok(Versions::put(alloc, rt, pool, blocks.as_slice())?)
 }
 
 /// Pins the deposit, and puts a block in the place of its last one.
-#[tactic(auto, using(crate::specs::Each::each_replaced))]
-fn pinned_and_replaced(
+fn pinned_and_replaced<R: Wait>(
+    rt: &R,
+    alloc: Global,
     pool: &BlockPool,
     versions: &mut Versions,
     poll: PollName,
-    r: BlockRef,
 ) -> Result<(), Fail>
     requires of { EachOf pool.now versions.old.lists }
-    requires block { r.pool ≡ pool.now }
     requires count { length (newest_of versions.old) ≡ 2 }
     requires current { current_of versions.old ≡ 0 }
     requires free { IsNone (pin_of poll versions.old.pins) }
@@ -94,12 +83,9 @@ fn pinned_and_replaced(
     ensures pinned { IfOk result (λ _. IsKept versions.new 0) }
     ensures newest { IfOk result (λ _. IsKept versions.new 1) }
 {
-    let _ = pool;
     versions.pin(poll)?;
-    match versions.replace(1, r) {
-        Ok(_number) => Ok(()),
-        Err(_back) => Err(Fail::from(OutOfMemory)),
-    }
+    versions.replace_bytes(alloc, rt, pool, 1, b"D")?;
+    Ok(())
 }
 
 const POLL: PollName = PollName {
@@ -113,12 +99,21 @@ fn prepared<R: Wait>(rt: &R, alloc: Global, pool: &BlockPool) -> Result<Versions
     ensures pinned { IfOk result (λ v. IsKept v 0) }
     ensures newest { IfOk result (λ v. IsKept v 1) }
 {
-    let first = block(rt, alloc, pool, b"A")?;
-    let second = block(rt, alloc, pool, b"bc")?;
-    let other = block(rt, alloc, pool, b"D")?;
-    let mut versions = deposited(alloc, pool, first, second)?;
-    pinned_and_replaced(pool, &mut versions, POLL, other)?;
+    let mut versions = deposited(rt, alloc, pool)?;
+    pinned_and_replaced(rt, alloc, pool, &mut versions, POLL)?;
     Ok(versions)
+}
+
+/// The bytes that a poll reads, block by block.
+fn newest_text(alloc: Global, pool: &BlockPool, versions: &Versions) -> Result<Vec<u8>, Fail>
+    requires { EachOf pool.now versions.now.lists }
+{
+    let newest = versions.newest(pool);
+    let mut text = Vec::new(alloc);
+    for b in 0..newest.count() {
+        text.extend_from_slice(newest.block(b))?;
+    }
+    Ok(text)
 }
 
 /// Whether the deposit is as it was, and the next version has the new block.
@@ -157,5 +152,14 @@ fn a_pinned_version_stays(rt: HostRuntime) -> Result<(), Fail> {
     assert!(rt; is_pinned(&versions));
     assert!(rt; is_free_after(&mut versions));
     assert!(rt; pool.reads() == 4);
+    Ok(())
+}
+
+#[test]
+fn a_poll_reads_each_block_once(rt: HostRuntime) -> Result<(), Fail> {
+    let pool = BlockPool::new(rt.alloc())?;
+    let versions = prepared(&rt, rt.alloc(), &pool)?;
+    assert!(rt; newest_text(rt.alloc(), &pool, &versions)?.as_slice() == b"AD".as_slice());
+    assert!(rt; pool.reads() == 2);
     Ok(())
 }

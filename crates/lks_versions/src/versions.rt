@@ -1,15 +1,19 @@
 //! The versions of a copy.
 
-ghost use Rattle.std.specs.Prelude.{◌≡◌, ◌≢◌, ℕ, ◌<◌, ◌≤◌, ◌+◌, ◌-◌, ◌^◌, List, [], ◌∷◌, ◌++◌, IsNone, IfOk, IfErr, OnOk, OnErr, length, vec_len, slice_index_or, slice_set};
+ghost use Rattle.std.specs.Prelude.{◌≡◌, ◌≢◌, ℕ, ◌<◌, ◌≤◌, ◌+◌, ◌-◌, ◌^◌, List, [], ◌∷◌, ◌++◌, IsNone, IfOk, IfErr, OnOk, OnErr, length, vec_len, slice_get, slice_index_or, slice_set, Some};
 ghost use Rattle.lks_base.specs.declared.names.PollName.{PollName};
+ghost use Rattle.lks_blocks.specs.Block.{Block, AllOf, bytes_of};
+ghost use Rattle.lks_versions.specs.Each.{EachOf};
 ghost use Rattle.lks_versions.specs.Pins.{pin_of, pins_with, pins_without};
-ghost use Rattle.lks_versions.specs.Shelf.{current_of, newest_of, version_of, first_index, replaced, IsKept};
+ghost use Rattle.lks_versions.specs.Shelf.{current_of, newest_of, version_of, first_index, replaced, IsKept, IsReplaced};
 ghost use Rattle.lks_versions.specs.Whole.{IsCounted};
 
-use lks_base::{OutOfMemory, PollName};
-use lks_blocks::{BlockRef, Refs};
+use crate::newest::Newest;
+use lks_base::{Bytes, OutOfMemory, PollName};
+use lks_blocks::{BlockPool, BlockRef, Refs};
 use std::alloc::Global;
 use std::marker::Model;
+use std::sync::Wait;
 
 /// A version of a deposit. Contents that are deposited anew in the same pool have other indexes there, so a tag of an
 /// earlier deposit is not taken for one of a later.
@@ -63,11 +67,63 @@ impl Versions {
         }
     }
 
+    /// Puts the blocks of a copy into the pool, and deposits it.
+    #[tactic(auto, using(crate::specs::Each::each_one))]
+    pub fn put<R: Wait>(
+        alloc: Global,
+        rt: &R,
+        pool: &BlockPool,
+        blocks: &[Bytes],
+    ) -> Result<Versions, OutOfMemory>
+        requires some { 1 ≤ length blocks.now }
+        requires few { length blocks.now ≤ 65535 }
+        ensures bytes { IfOk result (λ v. bytes_of (newest_of v) ≡ blocks.now) }
+        ensures current { IfOk result (λ v. current_of v ≡ 0) }
+        ensures pins { IfOk result (λ v. v.pins ≡ []) }
+        ensures of { IfOk result (λ v. EachOf pool.now v.lists) }
+    {
+        let refs = put_each(alloc, rt, pool, blocks)?;
+        Ok(Versions::deposit(alloc, refs))
+    }
+
     /// The number of the newest version, which is the number of replacements.
     pub fn current(&self) -> u32
         ensures { result ≡ current_of self.now }
     {
         self.later.len() as u32
+    }
+
+    /// The number of blocks, which is the same in each version.
+    pub fn count(&self) -> u16
+        ensures newest { result ≡ length (newest_of self.now) }
+        ensures each { (k : ℕ) → k ≤ current_of self.now → length (version_of self.now k) ≡ result }
+        ensures some { 1 ≤ result }
+    {
+        self.deposit.as_slice().len() as u16
+    }
+
+    /// Block `b` of the newest version.
+    pub fn block(&self, b: u16) -> &BlockRef
+        requires { b < length (newest_of self.now) }
+        ensures { slice_get (newest_of self.now) b ≡ Some result.now }
+    {
+        &self.newest_refs()[b as usize]
+    }
+
+    /// The newest version as a poll reads it.
+    #[tactic(auto, using(crate::specs::Each::each_newest))]
+    pub fn newest<'a>(&'a self, pool: &'a BlockPool) -> Newest<'a>
+        requires { EachOf pool.now self.now.lists }
+        ensures { result ≡ bytes_of (newest_of self.now) }
+    {
+        Newest::new(pool, self.newest_refs())
+    }
+
+    fn newest_refs(&self) -> &[BlockRef]
+        ensures newest { result.now ≡ newest_of self.now }
+        ensures few { length result.now ≤ 65535 }
+    {
+        list_at(&self.deposit, self.later.as_slice(), self.current()).as_slice()
     }
 
     /// Pins the newest version for the session of a poll, and gives its number.
@@ -125,6 +181,35 @@ impl Versions {
         Ok(current + 1)
     }
 
+    /// Puts bytes into the pool, and the reference to them in the place of block `b`: a version more, whose number it
+    /// gives, as by `replace`.
+    #[tactic(auto, using(crate::proofs::Replaced::bytes_replaced, crate::specs::Each::each_replaced))]
+    pub fn replace_bytes<R: Wait>(
+        &mut self,
+        alloc: Global,
+        rt: &R,
+        pool: &BlockPool,
+        b: u16,
+        bytes: &[u8],
+    ) -> Result<u32, OutOfMemory>
+        requires block { b < length (newest_of self.old) }
+        requires room { current_of self.old < 4294967295 }
+        ensures number { IfOk result (λ k. k ≡ current_of self.old + 1) }
+        ensures lists { OnOk result (IsReplaced pool.now self.old self.new b bytes.now) }
+        ensures current { OnOk result (current_of self.new ≡ current_of self.old + 1) }
+        ensures bytes { OnOk result (bytes_of (newest_of self.new) ≡ slice_set (bytes_of (newest_of self.old)) b bytes.now) }
+        ensures kept { (k : ℕ) → k ≤ current_of self.old → version_of self.new k ≡ version_of self.old k }
+        ensures pins { self.new.pins ≡ self.old.pins }
+        ensures of { EachOf pool.now self.old.lists → EachOf pool.now self.new.lists }
+        ensures err { OnErr result (self.new ≡ self.old) }
+    {
+        let r = put_block(alloc, rt, pool, bytes)?;
+        match self.replace(b, r) {
+            Ok(number) => Ok(number),
+            Err(_back) => Err(OutOfMemory),
+        }
+    }
+
     /// The blocks of the newest version, or of one that is pinned.
     pub fn refs(&self, version: u32) -> Result<Vec<BlockRef>, OutOfMemory>
         requires { IsKept self.now version }
@@ -144,6 +229,39 @@ impl Versions {
             version,
         }
     }
+}
+
+fn put_block<R: Wait>(
+    alloc: Global,
+    rt: &R,
+    pool: &BlockPool,
+    bytes: &[u8],
+) -> Result<BlockRef, OutOfMemory>
+    ensures pool { IfOk result (λ r. r.pool ≡ pool.now) }
+    ensures bytes { IfOk result (λ r. r.bytes ≡ bytes.now) }
+{
+    match pool.put(rt, bytes.to_vec(alloc)?) {
+        Ok(r) => Ok(r),
+        Err(_back) => Err(OutOfMemory),
+    }
+}
+
+/// References to these blocks, put into the pool in order.
+#[tactic(auto, using(lks_blocks::proofs::Bytes::bytes_push, lks_blocks::specs::Block::all_push, lks_blocks::specs::Block::all_none))]
+fn put_each<R: Wait>(
+    alloc: Global,
+    rt: &R,
+    pool: &BlockPool,
+    blocks: &[Bytes],
+) -> Result<Vec<BlockRef>, OutOfMemory>
+    ensures bytes { IfOk result (λ refs. bytes_of refs.items ≡ blocks.now) }
+    ensures of { IfOk result (λ refs. AllOf pool.now refs.items) }
+{
+    let mut refs = Vec::new(alloc);
+    for bytes in blocks {
+        refs.push(put_block(alloc, rt, pool, bytes.as_slice())?)?;
+    }
+    Ok(refs)
 }
 
 fn list_at<'a>(deposit: &'a Refs, later: &'a [Refs], version: u32) -> &'a Refs

@@ -22,6 +22,7 @@ use Rattle.lks_world.specs.Begun.{HaveBegun}
 use Rattle.lks_world.specs.Hosts.{peers_of, AreReady, IsHostAt}
 use Rattle.lks_world.specs.Follows.{kept, done_within, done}
 use Rattle.lks_world.specs.declared.states.State.{State}
+use Rattle.lks_world.specs.Seats.{hosts_of}
 use Rattle.lks_world.specs.States.{events_of, events_in, IsStateOf, Becomes, Extends}
 
 kept_room : (history : List Event) (e : Event) → length history < MOST_EVENTS → kept history e ≡ history ++ e ∷ []
@@ -86,13 +87,13 @@ module _ {D : Type 0} (f : Face D) where
   extends_by plan s t more is events = record { more = more; events = events; happened = is.happened; entries = is.entries }
 
   -- the state with which a world begins
-  pub begun : (plan : Plan) (s : State D) → peers_of s.hosts.items ≡ map (standing_of plan) (filter is_honest plan.peers) → s.bag.items ≡ [] → s.pending.items ≡ [] → s.history.items ≡ [] → s.tick ≡ 0
-      → ((place : ℕ) (h : Host D) → slice_get s.hosts.items place ≡ Some h → IsHostAt f (batches_at place plan []) 0 h) → IsStateOf f plan s
+  pub begun : (plan : Plan) (s : State D) → peers_of (hosts_of s.seats.items) ≡ map (standing_of plan) (filter is_honest plan.peers) → s.bag.items ≡ [] → s.pending.items ≡ [] → s.history.items ≡ [] → s.tick ≡ 0
+      → ((place : ℕ) (h : Host D) → slice_get (hosts_of s.seats.items) place ≡ Some h → IsHostAt f (batches_at place plan []) 0 h) → IsStateOf f plan s
   begun plan s peers bag pending history tick hosts =
       let events : events_in s ≡ [] = ap (map (λ (e : Entry). e.event)) history in
       record {
         happened = subst (IsHistory plan) (sym events) (no_events plan);
-        world = (λ i. record { peers = peers_of s.hosts.items; bag = bag i; tick = tick i }) ∙ begun_world plan (peers_of s.hosts.items) peers ∙ ap (world plan) (sym events);
+        world = (λ i. record { peers = peers_of (hosts_of s.seats.items); bag = bag i; tick = tick i }) ∙ begun_world plan (peers_of (hosts_of s.seats.items)) peers ∙ ap (world plan) (sym events);
         entries = history ∙ begun_entries plan ∙ ap (entries plan) (sym events);
         pending = pending ∙ begun_pending plan ∙ ap (waiting plan) (sym events);
         clock = omega (arith, tick);
@@ -119,7 +120,7 @@ module _ {D : Type 0} (f : Face D) where
       }
 
   -- while there is room for an event, each host can take a step, and the clock can move on
-  pub can_step : (plan : Plan) (s : State D) → IsStateOf f plan s → 0 < MOST_EVENTS - length s.history.items → AreReady f s.hosts.items
+  pub can_step : (plan : Plan) (s : State D) → IsStateOf f plan s → 0 < MOST_EVENTS - length s.history.items → AreReady f (hosts_of s.seats.items)
   can_step plan s is room place h at =
       let host = is.hosts place h at in
       let most : MOST_EVENTS ≡ 4096 = refl in

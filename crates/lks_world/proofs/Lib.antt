@@ -1,6 +1,5 @@
 mod BeginLaws
 pub mod CountLaws
-pub mod DiskLaws
 mod Following
 mod FuseLaws
 mod Hashed
@@ -9,9 +8,9 @@ mod HostLaws
 mod Keeping
 mod NextLaws
 mod OwnSteps
-mod PlaceLaws
 mod ReadyLaws
 mod Sayings
+mod SeatLaws
 mod Sending
 pub mod ServingLaws
 mod StateLaws

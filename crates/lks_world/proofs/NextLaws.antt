@@ -22,6 +22,7 @@ use Rattle.lks_world.specs.Hosts.{peers_of}
 use Rattle.lks_world.specs.declared.settling.Course.{Course}
 use Rattle.lks_world.specs.declared.settling.Course.TheVariants.{Settling, Delivering, Finishing}
 use Rattle.lks_world.specs.declared.states.State.{State}
+use Rattle.lks_world.specs.Seats.{hosts_of}
 use Rattle.lks_world.specs.States.{world_in, events_in, IsStateOf, Becomes, next_of, own_steps}
 
 first_is : (waiting : List ℕ) (steps : List PeerStep) (i : ℕ) → slice_get waiting 0 ≡ Some i → Some (Delivery i) ≡ first_due waiting steps
@@ -41,17 +42,17 @@ none_waits [] e = refl
 none_waits (j ∷ js) e = absurd cc
 
 module _ {D : Type 0} (f : Face D) (plan : Plan) (s : State D) (is : IsStateOf f plan s) where
-  course_is : (course : Course) → first_due s.pending.items (own_steps course (peers_of s.hosts.items)) ≡ next_of course plan (events_in s)
+  course_is : (course : Course) → first_due s.pending.items (own_steps course (peers_of (hosts_of s.seats.items))) ≡ next_of course plan (events_in s)
   unfolding next_to_settle next_to_deliver next_to_finish ready turns
   course_is Settling = λ i. first_due (is.pending i) (own_steps Settling (is.world i).peers)
   course_is Delivering = λ i. first_due (is.pending i) []
   course_is Finishing = λ i. first_due (is.pending i) (own_steps Finishing (is.world i).peers)
 
   pub delivers_first : (course : Course) (i : ℕ) → slice_get s.pending.items 0 ≡ Some i → Some (Delivery i) ≡ next_of course plan (events_in s)
-  delivers_first course i first = first_is s.pending.items (own_steps course (peers_of s.hosts.items)) i first ∙ course_is course
+  delivers_first course i first = first_is s.pending.items (own_steps course (peers_of (hosts_of s.seats.items))) i first ∙ course_is course
 
-  pub own_first : (course : Course) → slice_get s.pending.items 0 ≡ None → first_own (own_steps course (peers_of s.hosts.items)) ≡ next_of course plan (events_in s)
-  own_first course none = own_is s.pending.items (own_steps course (peers_of s.hosts.items)) none ∙ course_is course
+  pub own_first : (course : Course) → slice_get s.pending.items 0 ≡ None → first_own (own_steps course (peers_of (hosts_of s.seats.items))) ≡ next_of course plan (events_in s)
+  own_first course none = own_is s.pending.items (own_steps course (peers_of (hosts_of s.seats.items))) none ∙ course_is course
 
   -- what comes next on a course may happen
 

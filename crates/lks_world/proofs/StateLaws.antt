@@ -24,7 +24,9 @@ use Rattle.lks_law.specs.Entries.{entry_of, entries}
 use Rattle.lks_law.proofs.Happening.{history_more}
 use Rattle.lks_law.specs.Histories.{IsHistory, MayStep, MayForge, MayHappen}
 use Rattle.lks_law.specs.World.{World, world, happens, after_step, sent, effect_of, deed_of, sent_by, actor_of}
+use Rattle.lks_world.specs.declared.seats.Seat.{Seat}
 use Rattle.lks_world.specs.declared.states.State.{State}
+use Rattle.lks_world.specs.Seats.{hosts_of}
 use Rattle.lks_world.specs.States.{left_after, world_in, sends_in, events_in, IsStateOf, Becomes}
 
 left_by : (p : PeerStep) (waiting : List ℕ) → left_after p waiting ≡ filter (λ i. not (takes_out i (Step p))) waiting
@@ -77,7 +79,7 @@ module _ {D : Type 0} (f : Face D) where
     grown : length t.bag.items ≡ length s.bag.items + k
     untouched : (i : ℕ) → length s.bag.items ≤ i → takes_out i e ≡ false
     clock : t.tick ≤ s.tick + MOST_TICKS
-    on : HaveGoneOn f s.hosts.items t.hosts.items
+    on : HaveGoneOn f (hosts_of s.seats.items) (hosts_of t.seats.items)
 
   more_events : (s t : State D) (e : Event) → t.history.items ≡ s.history.items ++ entry_of (world_in s) e ∷ [] → events_in t ≡ events_in s ++ e ∷ []
   more_events s t e history =
@@ -88,13 +90,13 @@ module _ {D : Type 0} (f : Face D) where
   one_more s t e history = ap length history ∙ length-append s.history.items (entry_of (world_in s) e ∷ [])
 
   host_after : (plan : Plan) (s t : State D) (e : Event) {k : ℕ} → IsStateOf f plan s → Happened s t e k → events_in t ≡ events_in s ++ e ∷ [] → world_in t ≡ world plan (events_in s ++ e ∷ [])
-      → (place : ℕ) (k : Host D) → slice_get t.hosts.items place ≡ Some k → IsHostAt f (batches_at place plan (events_in t)) (length t.history.items) k
+      → (place : ℕ) (k : Host D) → slice_get (hosts_of t.seats.items) place ≡ Some k → IsHostAt f (batches_at place plan (events_in t)) (length t.history.items) k
   host_after plan s t e is happened events worlds place k at =
       let went = happened.on place k at in
       let before = is.hosts place went.host went.there in
-      let older : journal_at place (world plan (events_in s)) ≡ went.host.peer.journal = journal_there (world plan (events_in s)) s.hosts.items place went.host (ap (λ (w : World). w.peers) is.world) went.there in
+      let older : journal_at place (world plan (events_in s)) ≡ went.host.peer.journal = journal_there (world plan (events_in s)) (hosts_of s.seats.items) place went.host (ap (λ (w : World). w.peers) is.world) went.there in
       let newer : journal_at place (happens (world plan (events_in s)) e) ≡ k.peer.journal =
-      journal_there (happens (world plan (events_in s)) e) t.hosts.items place k (ap (λ (w : World). w.peers) (worlds ∙ world_more plan (events_in s) e)) at in
+      journal_there (happens (world plan (events_in s)) e) (hosts_of t.seats.items) place k (ap (λ (w : World). w.peers) (worlds ∙ world_more plan (events_in s) e)) at in
       let batches : with_batch (batches_at place plan (events_in s)) (drop (length went.host.peer.journal) k.peer.journal) ≡ batches_at place plan (events_in t) =
       (λ i. with_batch (batches_at place plan (events_in s)) (drop (length (sym older i)) (sym newer i)))
       ∙ sym (batches_more place plan (events_in s) e) ∙ ap (batches_at place plan) (sym events) in
@@ -137,10 +139,10 @@ module _ {D : Type 0} (f : Face D) where
   became : (plan : Plan) (s t : State D) (e : Event) (k : ℕ) → IsStateOf f plan s → length (events_in s) < MOST_EVENTS → MayHappen plan (world_in s) e → Happened s t e k → Becomes f plan (events_in s ++ e ∷ []) t
   became plan s t e k is room may h = record { state = kept plan s t e k is room may h; events = more_events s t e h.history }
 
-  same_hosts : (s t : State D) → t.hosts.items ≡ s.hosts.items → HaveGoneOn f s.hosts.items t.hosts.items
-  same_hosts s t hosts = subst (HaveGoneOn f s.hosts.items) (sym hosts) (stayed f s.hosts.items)
+  same_hosts : (s t : State D) → t.seats.items ≡ s.seats.items → HaveGoneOn f (hosts_of s.seats.items) (hosts_of t.seats.items)
+  same_hosts s t seats = subst (λ (ss : List (Seat D)). HaveGoneOn f (hosts_of s.seats.items) (hosts_of ss)) (sym seats) (stayed f (hosts_of s.seats.items))
 
-  pub became_step : (plan : Plan) (s t : State D) (p : PeerStep) → IsStateOf f plan s → length (events_in s) < MOST_EVENTS → MayStep plan (world_in s) p → world_in t ≡ happens (world_in s) (Step p) → t.history.items ≡ s.history.items ++ entry_of (world_in s) (Step p) ∷ [] → t.pending.items ≡ left_after p s.pending.items ++ range_with_len (length s.bag.items) (sends_in (world_in s) p) → HaveGoneOn f s.hosts.items t.hosts.items → Becomes f plan (events_in s ++ Step p ∷ []) t
+  pub became_step : (plan : Plan) (s t : State D) (p : PeerStep) → IsStateOf f plan s → length (events_in s) < MOST_EVENTS → MayStep plan (world_in s) p → world_in t ≡ happens (world_in s) (Step p) → t.history.items ≡ s.history.items ++ entry_of (world_in s) (Step p) ∷ [] → t.pending.items ≡ left_after p s.pending.items ++ range_with_len (length s.bag.items) (sends_in (world_in s) p) → HaveGoneOn f (hosts_of s.seats.items) (hosts_of t.seats.items) → Becomes f plan (events_in s ++ Step p ∷ []) t
   became_step plan s t p is room may world history pending on =
       became plan s t (Step p) (sends_in (world_in s) p) is room may (record {
         world = world;
@@ -152,7 +154,7 @@ module _ {D : Type 0} (f : Face D) where
         on = on;
       })
 
-  pub became_forge : (plan : Plan) (s t : State D) (from to : ℕ) (bytes : List ℕ) → IsStateOf f plan s → length (events_in s) < MOST_EVENTS → MayForge plan from to bytes → world_in t ≡ happens (world_in s) (Forge from to bytes) → t.history.items ≡ s.history.items ++ entry_of (world_in s) (Forge from to bytes) ∷ [] → t.pending.items ≡ s.pending.items ++ length s.bag.items ∷ [] → t.hosts.items ≡ s.hosts.items → Becomes f plan (events_in s ++ Forge from to bytes ∷ []) t
+  pub became_forge : (plan : Plan) (s t : State D) (from to : ℕ) (bytes : List ℕ) → IsStateOf f plan s → length (events_in s) < MOST_EVENTS → MayForge plan from to bytes → world_in t ≡ happens (world_in s) (Forge from to bytes) → t.history.items ≡ s.history.items ++ entry_of (world_in s) (Forge from to bytes) ∷ [] → t.pending.items ≡ s.pending.items ++ length s.bag.items ∷ [] → t.seats.items ≡ s.seats.items → Becomes f plan (events_in s ++ Forge from to bytes ∷ []) t
   became_forge plan s t from to bytes is room may world history pending hosts =
       became plan s t (Forge from to bytes) 1 is room may (record {
         world = world;
@@ -164,7 +166,7 @@ module _ {D : Type 0} (f : Face D) where
         on = same_hosts s t hosts;
       })
 
-  pub became_tick : (plan : Plan) (s t : State D) (by : ℕ) → IsStateOf f plan s → length (events_in s) < MOST_EVENTS → 1 ≤ by → by ≤ MOST_TICKS → world_in t ≡ happens (world_in s) (Tick by) → t.history.items ≡ s.history.items ++ entry_of (world_in s) (Tick by) ∷ [] → t.pending.items ≡ s.pending.items → t.hosts.items ≡ s.hosts.items → Becomes f plan (events_in s ++ Tick by ∷ []) t
+  pub became_tick : (plan : Plan) (s t : State D) (by : ℕ) → IsStateOf f plan s → length (events_in s) < MOST_EVENTS → 1 ≤ by → by ≤ MOST_TICKS → world_in t ≡ happens (world_in s) (Tick by) → t.history.items ≡ s.history.items ++ entry_of (world_in s) (Tick by) ∷ [] → t.pending.items ≡ s.pending.items → t.seats.items ≡ s.seats.items → Becomes f plan (events_in s ++ Tick by ∷ []) t
   became_tick plan s t by is room some few world history pending hosts =
       became plan s t (Tick by) 0 is room (some, few) (record {
         world = world;
@@ -176,7 +178,7 @@ module _ {D : Type 0} (f : Face D) where
         on = same_hosts s t hosts;
       })
 
-  pub became_lose : (plan : Plan) (s t : State D) (envelope : ℕ) → IsStateOf f plan s → length (events_in s) < MOST_EVENTS → envelope < length s.bag.items → world_in t ≡ happens (world_in s) (Lose envelope) → t.history.items ≡ s.history.items ++ entry_of (world_in s) (Lose envelope) ∷ [] → t.pending.items ≡ filter (λ i. not (i == envelope)) s.pending.items → t.hosts.items ≡ s.hosts.items → Becomes f plan (events_in s ++ Lose envelope ∷ []) t
+  pub became_lose : (plan : Plan) (s t : State D) (envelope : ℕ) → IsStateOf f plan s → length (events_in s) < MOST_EVENTS → envelope < length s.bag.items → world_in t ≡ happens (world_in s) (Lose envelope) → t.history.items ≡ s.history.items ++ entry_of (world_in s) (Lose envelope) ∷ [] → t.pending.items ≡ filter (λ i. not (i == envelope)) s.pending.items → t.seats.items ≡ s.seats.items → Becomes f plan (events_in s ++ Lose envelope ∷ []) t
   became_lose plan s t envelope is room stands world history pending hosts =
       let same = world ∙ unchanged (world_in s) envelope in
       became plan s t (Lose envelope) 0 is room stands (record {

@@ -5,5 +5,6 @@ pub mod Disks
 pub mod Follows
 pub mod Held
 pub mod Hosts
+pub mod Seats
 pub mod States
 pub mod Worlds

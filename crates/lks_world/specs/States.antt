@@ -1,5 +1,5 @@
 -- The state of a world, and the history that it stands for.
-use Rattle.std.specs.Prelude.{◌≡◌, ◌≤◌, ◌==◌, ◌*◌, ◌++◌, ℕ, true, not, filter, map, Option, Some, List, [], length, slice_get, Result, Ok, Err}
+use Rattle.std.specs.Prelude.{◌≡◌, ◌≤◌, ◌==◌, ◌*◌, ◌++◌, ℕ, true, not, filter, map, Option, Some, List, [], length, slice_get}
 use Rattle.std.specs.List.{flat_map}
 use Rattle.lks_disk.specs.Face.{Face}
 use Rattle.lks_base.specs.declared.entries.Entry.{Entry}
@@ -15,12 +15,14 @@ use Rattle.lks_law.specs.Due.{is_pending, pending, ready_at, turns_at, next_to_s
 use Rattle.lks_law.specs.Entries.{entries}
 use Rattle.lks_law.specs.Histories.{IsHistory}
 use Rattle.lks_law.specs.World.{World, Standing, world, effect_of, deed_of}
-use Rattle.lks_world.specs.Hosts.{peers_of, disks_of, IsHostAt}
-use Rattle.lks_world.specs.declared.faults.WorldFault.{WorldFault}
+use Rattle.lks_world.specs.Hosts.{peers_of, IsHostAt}
+use Rattle.lks_world.specs.Seats.{hosts_of}
 use Rattle.lks_world.specs.declared.settling.Course.{Course}
 use Rattle.lks_world.specs.declared.settling.Course.TheVariants.{Settling, Delivering, Finishing}
 use Rattle.lks_world.specs.declared.settling.Part.{Part}
 use Rattle.lks_world.specs.declared.settling.Part.TheVariants.{Ready, Turns}
+use Rattle.lks_world.specs.declared.seats.Seat.{Seat}
+use Rattle.lks_world.specs.declared.seats.Seat.TheVariants as seat
 use Rattle.lks_world.specs.declared.states.State.{State}
 
 -- the envelopes that still wait after a step: all but the one that it delivers
@@ -38,7 +40,7 @@ left_after (Tune peer quorum minority repairs) waiting = waiting
 left_after (Deliver envelope judged) waiting = filter (λ i. not (i == envelope)) waiting
 
 abbrev pub world_in : {D : Type 0} → State D → World
-world_in s = record { peers = peers_of s.hosts.items; bag = s.bag.items; tick = s.tick }
+world_in s = record { peers = peers_of (hosts_of s.seats.items); bag = s.bag.items; tick = s.tick }
 
 -- how many envelopes a step sends
 unfoldable pub sends_in : World → PeerStep → ℕ
@@ -60,7 +62,7 @@ pub record IsStateOf {D : Type 0} (f : Face D) (plan : Plan) (s : State D) : Typ
   pub pending : s.pending.items ≡ pending plan (events_in s)
   pub clock : s.tick ≤ MOST_TICKS * length s.history.items
   pub fresh : (i : ℕ) → length s.bag.items ≤ i → is_pending (events_in s) i ≡ true
-  pub hosts : (place : ℕ) (h : Host D) → slice_get s.hosts.items place ≡ Some h → IsHostAt f (batches_at place plan (events_in s)) (length s.history.items) h
+  pub hosts : (place : ℕ) (h : Host D) → slice_get (hosts_of s.seats.items) place ≡ Some h → IsHostAt f (batches_at place plan (events_in s)) (length s.history.items) h
 
 -- the state is that of the plan's world after this history
 pub record Becomes {D : Type 0} (f : Face D) (plan : Plan) (history : List Event) (s : State D) : Type 0 where
@@ -80,6 +82,10 @@ abbrev pub steps_of : Part → Standing → List PeerStep
 steps_of Ready = ready_at
 steps_of Turns = turns_at
 
+abbrev pub seat_steps : {D : Type 0} → Part → Seat D → List PeerStep
+seat_steps part (seat.Host h) = steps_of part h.peer
+seat_steps part (seat.Idle d) = []
+
 -- what comes next on each course, and the steps of their own that peers take on it
 
 abbrev pub next_of : Course → Plan → List Event → Option Due
@@ -91,8 +97,3 @@ abbrev pub own_steps : Course → List Standing → List PeerStep
 own_steps Settling peers = flat_map ready_at peers
 own_steps Delivering peers = []
 own_steps Finishing peers = flat_map ready_at peers ++ flat_map turns_at peers
-
--- the disks of the honest peers once a world was to begin: its hosts', or those that were given back
-abbrev pub disks_after : {D : Type 0} → Result (State D) WorldFault → List D → List D
-disks_after (Ok s) left = disks_of s.hosts.items
-disks_after (Err fault) left = left

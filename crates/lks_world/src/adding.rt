@@ -7,7 +7,7 @@ ghost use Rattle.lks_base.specs.declared.limits.TheConstants.{MOST_FORGED_BYTES,
 ghost use Rattle.lks_base.specs.declared.plans.Plan.{Plan};
 ghost use Rattle.lks_law.specs.Histories.{MayStep, WasSent};
 ghost use Rattle.lks_world.specs.Follows.{kept};
-ghost use Rattle.lks_world.specs.Hosts.{Counted};
+ghost use Rattle.lks_world.specs.Seats.{Counted};
 ghost use Rattle.lks_world.specs.States.{IsStateOf, Becomes, Extends, events_in, world_in};
 
 use crate::faults::WorldFault;
@@ -35,7 +35,7 @@ pub fn add_step<D: CrashDisk>(
         OnOk result (Becomes D.face plan (kept (events_in state.old) (events.Step s)) state.new) }
     ensures extends { (plan : Plan) → IsStateOf D.face plan state.old → MayStep plan (world_in state.old) s →
         Extends plan state.old.history.items state.new.history.items }
-    ensures counted { Counted D.face state.old.hosts.items state.new.hosts.items result }
+    ensures counted { Counted D.face state.old.seats.items state.new.seats.items result }
 {
     if room(state) > 0 {
         step(alloc, state, s)?;
@@ -59,7 +59,7 @@ pub fn add_forgery<D: CrashDisk>(
         OnOk result (Becomes D.face plan (kept (events_in state.old) (events.Forge from to bytes)) state.new) }
     ensures extends { (plan : Plan) → IsStateOf D.face plan state.old → has_corrupt plan.peers from ≡ true → has_peer plan.peers to ≡ true → length bytes ≤ MOST_FORGED_BYTES →
         Extends plan state.old.history.items state.new.history.items }
-    ensures hosts { state.new.hosts.items ≡ state.old.hosts.items }
+    ensures seats { state.new.seats.items ≡ state.old.seats.items }
 {
     are_bytes(bytes.as_slice());
     if room(state) > 0 {
@@ -76,7 +76,7 @@ pub fn add_ticks<D: CrashDisk>(state: &mut State<D>, by: u32) -> Result<(), OutO
     ensures becomes { (plan : Plan) → IsStateOf D.face plan state.old →
         OnOk result (Becomes D.face plan (kept (events_in state.old) (events.Tick by)) state.new) }
     ensures extends { (plan : Plan) → IsStateOf D.face plan state.old → Extends plan state.old.history.items state.new.history.items }
-    ensures hosts { state.new.hosts.items ≡ state.old.hosts.items }
+    ensures seats { state.new.seats.items ≡ state.old.seats.items }
 {
     if room(state) > 0 {
         tick(state, by)?;
@@ -90,7 +90,7 @@ pub fn add_loss<D: CrashDisk>(state: &mut State<D>, envelope: u32) -> Result<(),
         OnOk result (Becomes D.face plan (kept (events_in state.old) (events.Lose envelope)) state.new) }
     ensures extends { (plan : Plan) → IsStateOf D.face plan state.old → WasSent (world_in state.old) envelope →
         Extends plan state.old.history.items state.new.history.items }
-    ensures hosts { state.new.hosts.items ≡ state.old.hosts.items }
+    ensures seats { state.new.seats.items ≡ state.old.seats.items }
 {
     if room(state) > 0 {
         lose(state, envelope)?;

@@ -1,37 +1,25 @@
-//! How a world begins: each honest peer gets its host on its disk.
+//! How a world begins: each peer gets its seat, an honest one its host on its disk.
 
-ghost use Rattle.std.specs.Prelude.{◌≡◌, ◌≤◌, ◌<◌, ◌+◌, ◌++◌, [], ℕ, List, Some, None, IfOk, OnOk, OnErr, IsErrOf, IsSome, length, drop, map, filter, option_map, slice_get, vec_len, vec_capacity};
-ghost use Rattle.std.specs.VecDeque.{deque_len, deque_capacity};
+ghost use Rattle.std.specs.Prelude.{◌≡◌, ◌≤◌, ◌<◌, ◌+◌, ◌++◌, ◌∷◌, [], ℕ, List, false, Some, None, IfOk, OnOk, IsErrOf, IsSome, length, map, filter, option_map, reverse, vec_len, vec_capacity};
 ghost use Rattle.lks_base.specs.Checking.{plan_fault};
+ghost use Rattle.lks_base.specs.declared.plans.PeerPlan.{PeerPlan as Planned};
 ghost use Rattle.lks_disk.specs.Counts.{Rose};
 ghost use Rattle.lks_host.specs.Hosted.{answer_of, disk_hosted};
 ghost use Rattle.lks_law.specs.World.{standing_of, is_honest, honest_peer};
-ghost use Rattle.lks_world.specs.Begun.{HasBegun, IsCreated, HaveBegun};
-ghost use Rattle.lks_world.specs.Counts.{fault_in, AreCounted, honest_ids};
-ghost use Rattle.lks_world.specs.Disks.{count_honest};
+ghost use Rattle.lks_world.specs.Begun.{HasBegun, HasBegunAs, HaveBegun, IsSeated, IsServed, disk_seated, fault_seated, disks_after};
+ghost use Rattle.lks_world.specs.Counts.{fault_in, ServesHonest};
 ghost use Rattle.lks_world.specs.Held.{IsFresh, AreFresh};
-ghost use Rattle.lks_world.specs.Hosts.{peers_of, disks_of};
-ghost use Rattle.lks_world.specs.States.{disks_after, IsStateOf};
+ghost use Rattle.lks_world.specs.Hosts.{peers_of};
+ghost use Rattle.lks_world.specs.Seats.{AreSeats, disks_at, hosts_of};
+ghost use Rattle.lks_world.specs.States.{IsStateOf};
 
-use crate::disks::{put, put_first};
 use crate::faults::{WorldFault, blame};
+use crate::seats::{Seat, put, unseat};
 use crate::states::State;
-use lks_base::{PeerId, Plan};
+use lks_base::{PeerId, PeerPlan, Plan};
 use lks_disk::CrashDisk;
 use lks_host::Host;
 use std::alloc::Global;
-use std::collections::VecDeque;
-
-/// Puts the disks of hosts back before the others, where there is room.
-pub fn take_back<D: CrashDisk + Drop>(mut hosts: Vec<Host<D>>, disks: &mut VecDeque<D>)
-    requires { deque_len disks.old + vec_len hosts ≤ deque_capacity disks.old }
-    ensures items { disks.new.items ≡ disks_of hosts.items ++ disks.old.items }
-    ensures room { deque_capacity disks.old ≤ deque_capacity disks.new }
-{
-    while let Some(host) = hosts.pop() {
-        put_first(disks, host.into_disk());
-    }
-}
 
 /// The host of a peer on a fresh disk.
 fn create_host<D: CrashDisk>(
@@ -55,100 +43,121 @@ fn create_host<D: CrashDisk>(
     }
 }
 
-/// Makes the host of a peer on the first disk. Where it is refused, the disk is back in its place.
-fn create_next<D: CrashDisk + Drop>(
+/// The seat of a peer, on a fresh disk.
+fn make_seat<D: CrashDisk>(
     alloc: Global,
     plan: &Plan,
-    id: PeerId,
-    disks: &mut VecDeque<D>,
-    hosts: &mut Vec<Host<D>>,
+    peer: &PeerPlan,
+    disk: D,
+) -> Result<Seat<D>, (D, WorldFault)>
+    requires good { plan_fault plan.now ≡ None }
+    requires planned { peer.now.corrupt ≡ false → honest_peer peer.now.id plan.now ≡ Some peer.now }
+    requires fresh { IsFresh D.face disk }
+    ensures begun { IfOk result (HasBegunAs D.face plan.now peer.now) }
+    ensures served { IsServed D.face peer.now disk (disk_seated result) (fault_seated result) }
+{
+    if peer.corrupt {
+        return Ok(Seat::Idle(disk));
+    }
+    match create_host(alloc, plan, peer.id, disk) {
+        Ok(host) => Ok(Seat::Host(host)),
+        Err((disk, fault)) => Err((disk, fault)),
+    }
+}
+
+/// Makes the next peer's seat on the last disk of the list. Where its host is refused, the disk is back in its place.
+fn seat_next<D: CrashDisk + Drop>(
+    alloc: Global,
+    plan: &Plan,
+    peer: &PeerPlan,
+    disks: &mut Vec<D>,
+    seats: &mut Vec<Seat<D>>,
 ) -> Result<(), WorldFault>
     requires good { plan_fault plan.now ≡ None }
-    requires honest { IsSome (honest_peer id plan.now) }
-    requires some { 0 < deque_len disks.old }
-    requires fresh { AreFresh D.face disks.old.items }
-    requires room { vec_len hosts.old < vec_capacity hosts.old }
-    requires disk_room { deque_len disks.old ≤ deque_capacity disks.old }
-    ensures created { OnOk result (IsCreated D.face plan.now id hosts.old.items hosts.new.items) }
-    ensures rest { OnOk result (disks.new.items ≡ drop 1 disks.old.items) }
-    ensures counted { (ids : List ℕ) → slice_get ids (length hosts.old.items) ≡ Some id →
-        AreCounted D.face ids (disks_of hosts.old.items ++ disks.old.items) (disks_of hosts.new.items ++ disks.new.items) (fault_in result) }
-    ensures one_less { OnOk result (deque_len disks.new + 1 ≡ deque_len disks.old) }
-    ensures len { deque_len disks.new + vec_len hosts.new ≡ deque_len disks.old + vec_len hosts.old }
-    ensures host_room { vec_capacity hosts.old ≤ vec_capacity hosts.new }
-    ensures same_room { deque_capacity disks.old ≤ deque_capacity disks.new }
+    requires planned { peer.now.corrupt ≡ false → honest_peer peer.now.id plan.now ≡ Some peer.now }
+    requires some { 0 < vec_len disks.old }
+    requires fresh { AreFresh D.face (reverse disks.old.items) }
+    requires room { vec_len seats.old < vec_capacity seats.old }
+    ensures seated { OnOk result (IsSeated D.face plan.now peer.now seats.old.items seats.new.items) }
+    ensures fresh { OnOk result (AreFresh D.face (reverse disks.new.items)) }
+    ensures serves { (before after : List Planned) → AreSeats before seats.old.items →
+        ServesHonest D.face (before ++ peer.now ∷ after) (disks_at seats.old.items ++ reverse disks.old.items) (disks_at seats.new.items ++ reverse disks.new.items) (fault_in result) }
+    ensures fuses { map D.face.fused (disks_at seats.new.items ++ reverse disks.new.items) ≡ map D.face.fused (disks_at seats.old.items ++ reverse disks.old.items) }
+    ensures one_less { OnOk result (vec_len disks.new + 1 ≡ vec_len disks.old) }
+    ensures one_more { OnOk result (vec_len seats.new ≡ vec_len seats.old + 1) }
+    ensures len { vec_len disks.new + vec_len seats.new ≡ vec_len disks.old + vec_len seats.old }
+    ensures rooms { (vec_capacity seats.old ≤ vec_capacity seats.new) × (vec_capacity disks.old ≤ vec_capacity disks.new) }
 {
-    let Some(disk) = disks.pop_front() else {
+    let Some(disk) = disks.pop() else {
         unreachable!()
     };
-    match create_host(alloc, plan, id, disk) {
-        Ok(host) => {
-            put(hosts, host);
+    match make_seat(alloc, plan, peer, disk) {
+        Ok(seat) => {
+            put(seats, seat);
             Ok(())
         }
         Err((disk, fault)) => {
-            put_first(disks, disk);
+            put(disks, disk);
             Err(fault)
         }
     }
 }
 
-/// Makes the host of each honest peer, in the plan's order, as long as none is refused.
-fn create_each<D: CrashDisk + Drop>(
+/// Makes the seat of each peer, in the plan's order, as long as no host is refused. The last disk of the list is the first
+/// peer's.
+fn seat_each<D: CrashDisk + Drop>(
     alloc: Global,
     plan: &Plan,
-    disks: &mut VecDeque<D>,
-    hosts: &mut Vec<Host<D>>,
+    disks: &mut Vec<D>,
+    seats: &mut Vec<Seat<D>>,
 ) -> Result<(), WorldFault>
     requires good { plan_fault plan.now ≡ None }
-    requires enough { length disks.old.items ≡ count_honest plan.now.peers }
-    requires fresh { AreFresh D.face disks.old.items }
-    requires none { hosts.old.items ≡ [] }
-    requires room { deque_len disks.old + vec_len hosts.old ≤ vec_capacity hosts.old }
-    requires disk_room { deque_len disks.old + vec_len hosts.old ≤ deque_capacity disks.old }
-    ensures peers { OnOk result (peers_of hosts.new.items ≡ map (standing_of plan.now) (filter is_honest plan.now.peers)) }
-    ensures begun { OnOk result (HaveBegun D.face hosts.new.items) }
-    ensures empty { OnOk result (disks.new.items ≡ []) }
-    ensures counted { AreCounted D.face (honest_ids plan.now.peers) disks.old.items (disks_of hosts.new.items ++ disks.new.items) (fault_in result) }
-    ensures len { deque_len disks.new + vec_len hosts.new ≤ deque_capacity disks.new }
-    ensures same_room { deque_capacity disks.old ≤ deque_capacity disks.new }
+    requires enough { length plan.now.peers ≤ vec_len disks.old }
+    requires fresh { AreFresh D.face (reverse disks.old.items) }
+    requires none { seats.old.items ≡ [] }
+    requires none_there { vec_len seats.old ≡ 0 }
+    requires room { length plan.now.peers ≤ vec_capacity seats.old }
+    ensures seats { OnOk result (AreSeats plan.now.peers seats.new.items) }
+    ensures peers { OnOk result (peers_of (hosts_of seats.new.items) ≡ map (standing_of plan.now) (filter is_honest plan.now.peers)) }
+    ensures begun { OnOk result (HaveBegun D.face (hosts_of seats.new.items)) }
+    ensures serves { ServesHonest D.face plan.now.peers (reverse disks.old.items) (disks_at seats.new.items ++ reverse disks.new.items) (fault_in result) }
+    ensures fuses { map D.face.fused (disks_at seats.new.items ++ reverse disks.new.items) ≡ map D.face.fused (reverse disks.old.items) }
+    ensures len { vec_len disks.new + vec_len seats.new ≤ vec_capacity disks.new }
 {
     for p in plan.peers.as_slice() {
-        if !p.corrupt {
-            create_next(alloc, plan, p.id, disks, hosts)?;
-        }
+        seat_next(alloc, plan, p, disks, seats)?;
     }
     Ok(())
 }
 
-/// The state with which a world begins. Where a host is refused, all disks are given back.
+/// The state with which a world begins. The last disk of the list is the first peer's; those that no peer has are left
+/// there, and where a host is refused, all are.
 pub fn begin<D: CrashDisk + Drop>(
     alloc: Global,
     plan: &Plan,
-    disks: &mut VecDeque<D>,
+    disks: &mut Vec<D>,
 ) -> Result<State<D>, WorldFault>
     requires good { plan_fault plan.now ≡ None }
-    requires enough { length disks.old.items ≡ count_honest plan.now.peers }
-    requires fresh { AreFresh D.face disks.old.items }
-    requires disk_room { deque_len disks.old ≤ deque_capacity disks.old }
+    requires enough { length plan.now.peers ≤ vec_len disks.old }
+    requires fresh { AreFresh D.face (reverse disks.old.items) }
     ensures state { IfOk result (λ state. IsStateOf D.face plan.now state) }
     ensures nothing { IfOk result (λ state. state.history.items ≡ []) }
-    ensures peers { IfOk result (λ state. peers_of state.hosts.items ≡ map (standing_of plan.now) (filter is_honest plan.now.peers)) }
-    ensures empty { OnOk result (disks.new.items ≡ []) }
-    ensures counted { AreCounted D.face (honest_ids plan.now.peers) disks.old.items (disks_after result disks.new.items) (fault_in result) }
-    ensures same_room { deque_capacity disks.old ≤ deque_capacity disks.new }
+    ensures seats { IfOk result (λ state. AreSeats plan.now.peers state.seats.items) }
+    ensures serves { ServesHonest D.face plan.now.peers (reverse disks.old.items) (disks_after result disks.new.items) (fault_in result) }
+    ensures fuses { map D.face.fused (disks_after result disks.new.items) ≡ map D.face.fused (reverse disks.old.items) }
+    ensures room { IfOk result (λ state. vec_len disks.new + length state.seats.items ≤ vec_capacity disks.new) }
 {
-    let mut hosts = Vec::with_capacity(alloc, disks.len())?;
-    match create_each(alloc, plan, disks, &mut hosts) {
+    let mut seats = Vec::with_capacity(alloc, plan.peers.as_slice().len())?;
+    match seat_each(alloc, plan, disks, &mut seats) {
         Ok(()) => Ok(State {
-            hosts,
+            seats,
             bag: Vec::new(alloc),
             pending: Vec::new(alloc),
             history: Vec::new(alloc),
             tick: 0,
         }),
         Err(fault) => {
-            take_back(hosts, disks);
+            unseat(seats, disks);
             Err(fault)
         }
     }

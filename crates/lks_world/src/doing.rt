@@ -7,7 +7,7 @@ ghost use Rattle.lks_effort.specs.Verdicts.{first_byte};
 ghost use Rattle.lks_message.specs.Spelling.{IsWithin};
 ghost use Rattle.lks_script.specs.StepRules.{is_step_of};
 ghost use Rattle.lks_world.specs.Follows.{done, lost, delivered_again, next_event, spoken, IsSaying, MayBeSaid, Performs};
-ghost use Rattle.lks_world.specs.Hosts.{Counted};
+ghost use Rattle.lks_world.specs.Seats.{Counted};
 ghost use Rattle.lks_world.specs.States.{IsStateOf, Becomes, Extends, events_in, next_of};
 
 use crate::adding::{add_forgery, add_loss, add_step, add_ticks, room};
@@ -32,7 +32,7 @@ fn go_on<D: CrashDisk>(
     ensures becomes { (plan : Planned) → IsStateOf D.face plan state.old →
         OnOk result (Becomes D.face plan (done (next_event first_byte (next_of course)) times plan (events_in state.old)) state.new) }
     ensures extends { (plan : Planned) → IsStateOf D.face plan state.old → Extends plan state.old.history.items state.new.history.items }
-    ensures counted { Counted D.face state.old.hosts.items state.new.hosts.items result }
+    ensures counted { Counted D.face state.old.seats.items state.new.seats.items result }
 {
     for turn in 0..times.min(room(state)) {
         match next(state, course) {
@@ -51,7 +51,7 @@ fn lose_first<D: CrashDisk>(state: &mut State<D>) -> Result<(), OutOfMemory>
     ensures becomes { (plan : Planned) → IsStateOf D.face plan state.old →
         OnOk result (Becomes D.face plan (lost plan (events_in state.old)) state.new) }
     ensures extends { (plan : Planned) → IsStateOf D.face plan state.old → Extends plan state.old.history.items state.new.history.items }
-    ensures hosts { state.new.hosts.items ≡ state.old.hosts.items }
+    ensures seats { state.new.seats.items ≡ state.old.seats.items }
 {
     match first_waiting(state) {
         Some(envelope) => add_loss(state, envelope),
@@ -75,7 +75,7 @@ fn deliver_again<D: CrashDisk>(
     ensures becomes { (plan : Planned) → IsStateOf D.face plan state.old →
         OnOk result (Becomes D.face plan (delivered_again first_byte envelope plan (events_in state.old)) state.new) }
     ensures extends { (plan : Planned) → IsStateOf D.face plan state.old → Extends plan state.old.history.items state.new.history.items }
-    ensures counted { Counted D.face state.old.hosts.items state.new.hosts.items result }
+    ensures counted { Counted D.face state.old.seats.items state.new.seats.items result }
 {
     if !was_sent(state, envelope) {
         return Ok(());
@@ -95,7 +95,7 @@ fn speak<D: CrashDisk>(
         OnOk result (Becomes D.face plan (spoken (events_in state.old) said.now) state.new) }
     ensures extends { (plan : Planned) → IsStateOf D.face plan state.old → IfSome said.now (MayBeSaid plan) →
         Extends plan state.old.history.items state.new.history.items }
-    ensures hosts { state.new.hosts.items ≡ state.old.hosts.items }
+    ensures seats { state.new.seats.items ≡ state.old.seats.items }
 {
     let Some(said) = said else {
         return Ok(());
@@ -118,7 +118,7 @@ fn say<D: CrashDisk>(
     ensures state { OnOk result (IsStateOf D.face plan.now state.new) }
     ensures performs { OnOk result (Performs first_byte plan.now (events_in state.old) step.now (events_in state.new)) }
     ensures extends { Extends plan.now state.old.history.items state.new.history.items }
-    ensures hosts { state.new.hosts.items ≡ state.old.hosts.items }
+    ensures seats { state.new.seats.items ≡ state.old.seats.items }
 {
     let said = what_is_said(alloc, plan, step)?;
     speak(alloc, state, &said)
@@ -136,7 +136,7 @@ pub fn do_step<D: CrashDisk>(
     ensures state { OnOk result (IsStateOf D.face plan.now state.new) }
     ensures performs { OnOk result (Performs first_byte plan.now (events_in state.old) step.now (events_in state.new)) }
     ensures extends { Extends plan.now state.old.history.items state.new.history.items }
-    ensures counted { Counted D.face state.old.hosts.items state.new.hosts.items result }
+    ensures counted { Counted D.face state.old.seats.items state.new.seats.items result }
 {
     match step {
         Step::Peer(s) => add_step(alloc, state, *s),

@@ -4,13 +4,13 @@
 mod adding;
 mod beginning;
 mod deeds;
-mod disks;
 mod doing;
 mod faults;
 mod forging;
 mod laws;
 mod notes;
 mod other_events;
+mod seats;
 mod settling;
 mod states;
 mod worlds;

@@ -34,7 +34,7 @@ pub fn forge<D: CrashDisk>(
     to: PeerId,
     bytes: Bytes,
 ) -> Result<(), OutOfMemory>
-    ensures hosts { state.new.hosts.items ≡ state.old.hosts.items }
+    ensures seats { state.new.seats.items ≡ state.old.seats.items }
     ensures world { OnOk result (world_in state.new ≡ happens (world_in state.old) (events.Forge from to bytes)) }
     ensures history { OnOk result (state.new.history.items ≡ state.old.history.items ++ entry_of (world_in state.old) (events.Forge from to bytes) ∷ []) }
     ensures err { OnErr result (state.new.history.items ≡ state.old.history.items) }
@@ -54,7 +54,7 @@ pub fn forge<D: CrashDisk>(
 #[tactic(auto, unfolding(lks_law::specs::World::happens, lks_law::specs::Entries::entry_of))]
 pub fn tick<D: CrashDisk>(state: &mut State<D>, by: u32) -> Result<(), OutOfMemory>
     requires fits { state.old.tick + by ≤ u32.MAX }
-    ensures hosts { state.new.hosts.items ≡ state.old.hosts.items }
+    ensures seats { state.new.seats.items ≡ state.old.seats.items }
     ensures world { OnOk result (world_in state.new ≡ happens (world_in state.old) (events.Tick by)) }
     ensures history { OnOk result (state.new.history.items ≡ state.old.history.items ++ entry_of (world_in state.old) (events.Tick by) ∷ []) }
     ensures err { OnErr result (state.new.history.items ≡ state.old.history.items) }
@@ -67,7 +67,7 @@ pub fn tick<D: CrashDisk>(state: &mut State<D>, by: u32) -> Result<(), OutOfMemo
 /// An envelope is lost, so it doesn't wait any more.
 #[tactic(auto, unfolding(lks_law::specs::World::happens, lks_law::specs::Entries::entry_of))]
 pub fn lose<D: CrashDisk>(state: &mut State<D>, envelope: u32) -> Result<(), OutOfMemory>
-    ensures hosts { state.new.hosts.items ≡ state.old.hosts.items }
+    ensures seats { state.new.seats.items ≡ state.old.seats.items }
     ensures world { OnOk result (world_in state.new ≡ happens (world_in state.old) (events.Lose envelope)) }
     ensures history { OnOk result (state.new.history.items ≡ state.old.history.items ++ entry_of (world_in state.old) (events.Lose envelope) ∷ []) }
     ensures err { OnErr result (state.new.history.items ≡ state.old.history.items) }

@@ -11,14 +11,15 @@ ghost use Rattle.lks_law.specs.Due.{first_own, first_due};
 ghost use Rattle.lks_law.specs.Questions.{question_by, question_in, question_to, question_at, judged, delivery_of, event_of};
 ghost use Rattle.lks_law.specs.World.{message_in, peer_at};
 ghost use Rattle.lks_world.specs.Hosts.{peers_of};
+ghost use Rattle.lks_world.specs.Seats.{hosts_of};
 ghost use Rattle.lks_world.specs.States.{IsStateOf, events_in, next_of, own_steps, steps_of, world_in};
 
 use crate::deeds::read;
-use crate::states::{State, place_of};
+use crate::seats::{Seat, place_of};
+use crate::states::State;
 use lks_base::{Due, Envelope, Judged, Message, OutOfMemory, PeerStep};
 use lks_disk::{CrashDisk, Disk};
 use lks_effort::{Question, begins_with_one};
-use lks_host::Host;
 use std::alloc::Global;
 
 /// The question that a message puts: on the proof of its poll's poller, or of a voter.
@@ -59,12 +60,12 @@ fn question_in(alloc: Global, envelope: &Envelope) -> Result<Option<Question>, O
 /// It is put where an honest peer receives the envelope.
 fn question_to<D: Disk>(
     alloc: Global,
-    hosts: &[Host<D>],
+    seats: &[Seat<D>],
     envelope: &Envelope,
 ) -> Result<Option<Question>, OutOfMemory>
-    ensures { IfOk result (λ q. q ≡ question_to (peer_at envelope.now.to (peers_of hosts.now)) envelope.now) }
+    ensures { IfOk result (λ q. q ≡ question_to (peer_at envelope.now.to (peers_of (hosts_of seats.now))) envelope.now) }
 {
-    match place_of(hosts, envelope.to) {
+    match place_of(seats, envelope.to) {
         Some(_) => question_in(alloc, envelope),
         None => Ok(None),
     }
@@ -80,7 +81,7 @@ fn question_at<D: CrashDisk>(
     ensures { IfOk result (λ q. q ≡ question_at (world_in state.now) envelope) }
 {
     match state.bag.get(envelope as usize) {
-        Some(e) => question_to(alloc, &state.hosts, e),
+        Some(e) => question_to(alloc, &state.seats, e),
         None => Ok(None),
     }
 }
@@ -139,21 +140,12 @@ pub enum Part {
     Turns,
 }
 
-fn first_of_host<D: Disk>(host: &Host<D>, part: Part) -> Option<PeerStep>
-    ensures { result ≡ slice_get (steps_of part host.now.peer) 0 }
-{
-    match part {
-        Part::Ready => host.ready(0),
-        Part::Turns => host.turn(0),
-    }
-}
-
 /// The first of these steps of all peers.
-fn first_step<D: Disk>(hosts: &[Host<D>], part: Part) -> Option<Due>
-    ensures { result ≡ first_own (flat_map (steps_of part) (peers_of hosts.now)) }
+fn first_step<D: Disk>(seats: &[Seat<D>], part: Part) -> Option<Due>
+    ensures { result ≡ first_own (flat_map (steps_of part) (peers_of (hosts_of seats.now))) }
 {
-    for host in hosts {
-        match first_of_host(host, part) {
+    for seat in seats {
+        match seat.first(part) {
             Some(s) => return Some(Due::Own(s)),
             None => {}
         }
@@ -180,23 +172,23 @@ pub enum Course {
 }
 
 /// The first ready work, else the first turn of a peer.
-fn first_until_finished<D: Disk>(hosts: &[Host<D>]) -> Option<Due>
-    ensures { result ≡ first_own (own_steps Course.Finishing (peers_of hosts.now)) }
+fn first_until_finished<D: Disk>(seats: &[Seat<D>]) -> Option<Due>
+    ensures { result ≡ first_own (own_steps Course.Finishing (peers_of (hosts_of seats.now))) }
 {
-    match first_step(hosts, Part::Ready) {
+    match first_step(seats, Part::Ready) {
         Some(due) => Some(due),
-        None => first_step(hosts, Part::Turns),
+        None => first_step(seats, Part::Turns),
     }
 }
 
 /// What is due next on this course where no envelope waits.
-fn first_own<D: Disk>(hosts: &[Host<D>], course: Course) -> Option<Due>
-    ensures { result ≡ first_own (own_steps course (peers_of hosts.now)) }
+fn first_own<D: Disk>(seats: &[Seat<D>], course: Course) -> Option<Due>
+    ensures { result ≡ first_own (own_steps course (peers_of (hosts_of seats.now))) }
 {
     match course {
-        Course::Settling => first_step(hosts, Part::Ready),
+        Course::Settling => first_step(seats, Part::Ready),
         Course::Delivering => None,
-        Course::Finishing => first_until_finished(hosts),
+        Course::Finishing => first_until_finished(seats),
     }
 }
 
@@ -206,6 +198,6 @@ pub fn next<D: CrashDisk>(state: &State<D>, course: Course) -> Option<Due>
 {
     match first_waiting(state) {
         Some(envelope) => Some(Due::Delivery { envelope }),
-        None => first_own(&state.hosts, course),
+        None => first_own(&state.seats, course),
     }
 }

@@ -1,6 +1,6 @@
 //! The state of a world, and what an event does to it.
 
-ghost use Rattle.std.specs.Prelude.{◌≡◌, ◌≤◌, ◌++◌, ◌∷◌, [], ℕ, Some, IfOk, IfSome, MatchOption, OnOk, OnErr, IsErrOf, ◌==◌, length, filter, map, not};
+ghost use Rattle.std.specs.Prelude.{◌≡◌, ◌≤◌, ◌++◌, ◌∷◌, [], ℕ, Some, IfOk, IfSome, OnOk, OnErr, IsErrOf, ◌==◌, length, filter, map, not};
 ghost use Rattle.std.specs.List.{range_with_len};
 ghost use Rattle.lks_base.specs.declared.events.Event.TheVariants as events;
 ghost use Rattle.lks_law.specs.Entries.{notes_at, notes_of, entry_of};
@@ -8,24 +8,26 @@ ghost use Rattle.lks_law.specs.Reaction.{reaction};
 ghost use Rattle.lks_law.specs.World.{Standing, reaction_at, with_records, peer_at, sent_by, actor_of, effect_of, peers_after, happens};
 ghost use Rattle.lks_disk.specs.Counts.{Rose};
 ghost use Rattle.lks_law.specs.Facts.{IsHeard};
-ghost use Rattle.lks_world.specs.Hosts.{peers_of, IsReady, AreReady, GoesOn, HaveGoneOn, Counted, with_added, IsAbsent, StandsAt};
+ghost use Rattle.lks_world.specs.Hosts.{peers_of, IsReady, AreReady, GoesOn, HaveGoneOn, with_added};
+ghost use Rattle.lks_world.specs.Seats.{hosts_of, Counted};
 ghost use Rattle.lks_world.specs.States.{left_after, world_in, sends_in};
 
 use crate::deeds::{Deed, ends_of, make_deed};
 use crate::faults::{WorldFault, blame};
 use crate::notes::notes;
+use crate::seats::{Seat, place_of};
 use lks_base::{
     Entry, Envelope, Event, Input, Note, OutOfMemory, Outgoing, PeerId, PeerStep, Reaction, Seq,
 };
-use lks_disk::{CrashDisk, Disk};
+use lks_disk::CrashDisk;
 use lks_host::Host;
 use std::alloc::Global;
 
-/// The hosts of the honest peers in the plan's order, the bag with the numbers of the envelopes that wait, the
+/// The seats of the peers in the plan's order, the bag with the numbers of the envelopes that wait, the
 /// clock, and what happened.
 #[derive(Drop)]
 pub struct State<D: CrashDisk> {
-    pub hosts: Vec<Host<D>>,
+    pub seats: Vec<Seat<D>>,
     pub bag: Vec<Envelope>,
     pub pending: Vec<u32>,
     pub history: Vec<Entry>,
@@ -47,19 +49,6 @@ fn nothing_done(alloc: Global) -> Done
         notes: Seq::from_vec(Vec::new(alloc)),
         sends: Seq::from_vec(Vec::new(alloc)),
     }
-}
-
-/// The place of the honest peer of this number.
-#[tactic(auto, unfolding(lks_law::specs::World::peer_at))]
-pub fn place_of<D: Disk>(hosts: &[Host<D>], id: PeerId) -> Option<usize>
-    ensures { MatchOption result (IsAbsent id (peers_of hosts.now)) (StandsAt id hosts.now) }
-{
-    for (i, host) in hosts.iter().enumerate() {
-        if host.id() == id {
-            return Some(i);
-        }
-    }
-    None
 }
 
 fn act_as<D: CrashDisk>(
@@ -89,22 +78,25 @@ fn act_as<D: CrashDisk>(
 
 fn act<D: CrashDisk>(
     alloc: Global,
-    hosts: &mut Vec<Host<D>>,
+    seats: &mut Vec<Seat<D>>,
     tick: u32,
     deed: &Deed,
 ) -> Result<Done, WorldFault>
-    requires ready { AreReady D.face hosts.old.items }
+    requires ready { AreReady D.face (hosts_of seats.old.items) }
     requires heard { IsHeard deed.now.input }
-    ensures sends { IfOk result (λ d. d.sends ≡ (reaction_at tick (peer_at deed.now.peer (peers_of hosts.old.items)) deed.now.input).sends) }
-    ensures notes { IfOk result (λ d. d.notes ≡ notes_at (peer_at deed.now.peer (peers_of hosts.old.items)) (reaction_at tick (peer_at deed.now.peer (peers_of hosts.old.items)) deed.now.input).records) }
-    ensures peers { OnOk result (peers_of hosts.new.items ≡ with_records deed.now.peer (reaction_at tick (peer_at deed.now.peer (peers_of hosts.old.items)) deed.now.input).records (peers_of hosts.old.items)) }
-    ensures on { OnOk result (HaveGoneOn D.face hosts.old.items hosts.new.items) }
-    ensures counted { Counted D.face hosts.old.items hosts.new.items result }
+    ensures sends { IfOk result (λ d. d.sends ≡ (reaction_at tick (peer_at deed.now.peer (peers_of (hosts_of seats.old.items))) deed.now.input).sends) }
+    ensures notes { IfOk result (λ d. d.notes ≡ notes_at (peer_at deed.now.peer (peers_of (hosts_of seats.old.items))) (reaction_at tick (peer_at deed.now.peer (peers_of (hosts_of seats.old.items))) deed.now.input).records) }
+    ensures peers { OnOk result (peers_of (hosts_of seats.new.items) ≡ with_records deed.now.peer (reaction_at tick (peer_at deed.now.peer (peers_of (hosts_of seats.old.items))) deed.now.input).records (peers_of (hosts_of seats.old.items))) }
+    ensures on { OnOk result (HaveGoneOn D.face (hosts_of seats.old.items) (hosts_of seats.new.items)) }
+    ensures counted { Counted D.face seats.old.items seats.new.items result }
 {
-    let Some(place) = place_of(hosts, deed.peer) else {
+    let Some(place) = place_of(seats, deed.peer) else {
         return Ok(nothing_done(alloc));
     };
-    act_as(alloc, &mut hosts[place], tick, &deed.input)
+    match &mut seats[place] {
+        Seat::Host(host) => act_as(alloc, host, tick, &deed.input),
+        Seat::Idle(_) => unreachable!(),
+    }
 }
 
 /// Takes an envelope out of those that wait.
@@ -173,20 +165,20 @@ fn send(
 
 fn do_deed<D: CrashDisk>(
     alloc: Global,
-    hosts: &mut Vec<Host<D>>,
+    seats: &mut Vec<Seat<D>>,
     tick: u32,
     deed: &Option<Deed>,
 ) -> Result<Done, WorldFault>
-    requires ready { AreReady D.face hosts.old.items }
+    requires ready { AreReady D.face (hosts_of seats.old.items) }
     requires heard { IfSome deed.now (λ d. IsHeard d.input) }
-    ensures sends { IfOk result (λ d. d.sends ≡ (effect_of tick (peers_of hosts.old.items) deed.now).sends) }
-    ensures notes { IfOk result (λ d. d.notes ≡ notes_of tick (peers_of hosts.old.items) deed.now) }
-    ensures peers { OnOk result (peers_of hosts.new.items ≡ peers_after tick (peers_of hosts.old.items) deed.now) }
-    ensures on { OnOk result (HaveGoneOn D.face hosts.old.items hosts.new.items) }
-    ensures counted { Counted D.face hosts.old.items hosts.new.items result }
+    ensures sends { IfOk result (λ d. d.sends ≡ (effect_of tick (peers_of (hosts_of seats.old.items)) deed.now).sends) }
+    ensures notes { IfOk result (λ d. d.notes ≡ notes_of tick (peers_of (hosts_of seats.old.items)) deed.now) }
+    ensures peers { OnOk result (peers_of (hosts_of seats.new.items) ≡ peers_after tick (peers_of (hosts_of seats.old.items)) deed.now) }
+    ensures on { OnOk result (HaveGoneOn D.face (hosts_of seats.old.items) (hosts_of seats.new.items)) }
+    ensures counted { Counted D.face seats.old.items seats.new.items result }
 {
     match deed {
-        Some(deed) => act(alloc, hosts, tick, deed),
+        Some(deed) => act(alloc, seats, tick, deed),
         None => Ok(nothing_done(alloc)),
     }
 }
@@ -208,17 +200,17 @@ pub fn step<D: CrashDisk>(
     state: &mut State<D>,
     s: PeerStep,
 ) -> Result<(), WorldFault>
-    requires ready { AreReady D.face state.old.hosts.items }
+    requires ready { AreReady D.face (hosts_of state.old.seats.items) }
     ensures world { OnOk result (world_in state.new ≡ happens (world_in state.old) (events.Step s)) }
     ensures history { OnOk result (state.new.history.items ≡ state.old.history.items ++ entry_of (world_in state.old) (events.Step s) ∷ []) }
     ensures err { OnErr result (state.new.history.items ≡ state.old.history.items) }
     ensures pending { OnOk result (state.new.pending.items ≡ left_after s state.old.pending.items ++ range_with_len (length state.old.bag.items) (sends_in (world_in state.old) s)) }
-    ensures on { OnOk result (HaveGoneOn D.face state.old.hosts.items state.new.hosts.items) }
-    ensures counted { Counted D.face state.old.hosts.items state.new.hosts.items result }
+    ensures on { OnOk result (HaveGoneOn D.face (hosts_of state.old.seats.items) (hosts_of state.new.seats.items)) }
+    ensures counted { Counted D.face state.old.seats.items state.new.seats.items result }
 {
     let (from, to) = ends_of(&state.bag, s);
     let deed = make_deed(alloc, &state.bag, s)?;
-    let Done { notes, sends } = do_deed(alloc, &mut state.hosts, state.tick, &deed)?;
+    let Done { notes, sends } = do_deed(alloc, &mut state.seats, state.tick, &deed)?;
     let count = sends.as_slice().len();
     if count > u32::MAX as usize {
         return Err(WorldFault::Memory);

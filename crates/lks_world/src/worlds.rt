@@ -11,16 +11,15 @@ ghost use Rattle.lks_world.specs.Counts.{fault_in, ServesHonest};
 ghost use Rattle.lks_world.specs.Follows.{Performs};
 ghost use Rattle.lks_world.specs.Held.{AreFresh, AreUnfused, HaveBatches};
 
-use crate::beginning::{begin, take_back};
-use crate::disks::{Spare, join, split};
+use crate::beginning::begin;
 use crate::doing::do_step;
 use crate::faults::WorldFault;
+use crate::seats::{turn_round, unseat};
 use crate::states::State;
 use lks_base::{Entry, Plan};
 use lks_disk::CrashDisk;
 use lks_script::Step;
 use std::alloc::Global;
-use std::collections::VecDeque;
 use std::marker::Model;
 
 /// What a world gives back at its end: the history, and all disks in the order in which they were handed in.
@@ -38,9 +37,8 @@ pub struct World<D: CrashDisk> {
     alloc: Global,
     plan: Plan,
     state: State<D>,
-    /// The room for the honest peers' disks.
-    honest: VecDeque<D>,
-    spare: Spare<D>,
+    /// The list of disks that was handed in, with room for all: those that no peer has, the last one first.
+    rest: Vec<D>,
     stopped: Option<WorldFault>,
 }
 
@@ -58,7 +56,11 @@ impl<D: CrashDisk + Drop> World<D> {
     ghost use Rattle.lks_world.specs.Begun.{disks_made, fault_made};
 
     /// A world in which nothing happened yet. The plan is good, and there is a fresh disk for each of its peers.
-    pub fn new(alloc: Global, plan: Plan, disks: Vec<D>) -> Result<World<D>, (Parts<D>, WorldFault)>
+    pub fn new(
+        alloc: Global,
+        plan: Plan,
+        mut disks: Vec<D>,
+    ) -> Result<World<D>, (Parts<D>, WorldFault)>
         requires good { plan_fault plan ≡ None }
         requires enough { length plan.peers ≤ length disks.items }
         requires fresh { AreFresh D.face disks.items }
@@ -68,21 +70,17 @@ impl<D: CrashDisk + Drop> World<D> {
         ensures refused { IfErr result (λ e. (e.0.history.items ≡ []) × AreUnfused D.face e.0.disks.items) }
         ensures disks { ServesHonest D.face plan.peers disks.items (disks_made result) (fault_made result) }
     {
-        let (mut honest, spare) = match split(alloc, plan.peers.as_slice(), disks) {
-            Ok(parts) => parts,
-            Err(disks) => return Err((nothing_done(alloc, disks), WorldFault::Memory)),
-        };
-        match begin(alloc, &plan, &mut honest) {
+        turn_round(&mut disks);
+        match begin(alloc, &plan, &mut disks) {
             Ok(state) => Ok(World {
                 alloc,
                 plan,
                 state,
-                honest,
-                spare,
+                rest: disks,
                 stopped: None,
             }),
             Err(fault) => {
-                let disks = join(plan.peers.as_slice(), honest, spare);
+                turn_round(&mut disks);
                 Err((nothing_done(alloc, disks), fault))
             }
         }
@@ -139,15 +137,13 @@ impl<D: CrashDisk + Drop> World<D> {
         ensures holds { self.stopped ≡ None → HaveBatches D.face self.plan self.history self.disks }
     {
         let World {
-            plan,
             state,
-            mut honest,
-            spare,
+            rest: mut disks,
             ..
         } = self;
-        let State { hosts, history, .. } = state;
-        take_back(hosts, &mut honest);
-        let disks = join(plan.peers.as_slice(), honest, spare);
+        let State { seats, history, .. } = state;
+        unseat(seats, &mut disks);
+        turn_round(&mut disks);
         Parts { history, disks }
     }
 }

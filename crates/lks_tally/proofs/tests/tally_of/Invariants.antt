@@ -1,11 +1,11 @@
-use Rattle.std.proofs.Common.{◌≡◌, ◌≤◌, [], length}
+use Rattle.std.proofs.Common.{◌≡◌, [], length}
 use Rattle.lks_tally.specs.Keeping.{IsReserved}
 use Rattle.lks_tally.proofs.tests.tally_of.Given as goal
 
 abbrev pub invariant-loop-i : goal.invariant-loop-i
 invariant-loop-i g l = record {
   reserved : IsReserved l.tally;
-  few : length l.tally.votes ≤ l.i;
+  all : length l.tally.votes ≡ l.i;
   count : l.tally.ballot.count ≡ l.count;
   kept : l.tally.kept ≡ 0;
   hashes : l.tally.hashes ≡ [];

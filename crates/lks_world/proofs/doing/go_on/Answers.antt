@@ -5,7 +5,7 @@ use Rattle.lks_base.specs.declared.events.Event.TheVariants.{Step}
 use Rattle.lks_base.specs.declared.plans.Plan.{Plan}
 use Rattle.lks_effort.specs.Verdicts.{first_byte}
 use Rattle.lks_law.specs.Entries.{entry_of}
-use Rattle.lks_world.proofs.HostLaws.{counted_start, counted_then}
+use Rattle.lks_world.proofs.SeatLaws.{counted_start, counted_then}
 use Rattle.lks_world.proofs.Keeping.{can_step, room_left, goes_first, goes_on, goes_none, extends_same, extends_by, extends_then}
 use Rattle.lks_world.proofs.NextLaws.{next_may, next_is, none_is}
 use Rattle.lks_world.proofs.StateLaws.{became_step}
@@ -19,7 +19,7 @@ loop-turn-init g c = record {
   goes = λ plan is. goes_first g.D.Disk.face (next_event first_byte (next_of c.args.course)) c.args.times plan c.args.state.now (c.min-turn-end.result - 0) is (omega (arith, c.min-turn-end.ensures, c.room.ensures));
   extends = λ plan is. extends_same g.D.Disk.face plan c.args.state.now c.args.state.now.history.items is refl;
   room = omega (arith, c.min-turn-end.ensures, c.room.ensures);
-  counted = counted_start g.D.Disk.face c.args.state.now.hosts.items;
+  counted = counted_start g.D.Disk.face c.args.state.now.seats.items;
 }
 
 pub step-requires-clause-ready : goal.step-requires-clause-ready
@@ -56,7 +56,7 @@ loop-turn-preserved g c =
           extends_then plan c.args.state.now.history.items s.history.items c.step.new.state.history.items (kept.extends plan is)
           (extends_by g.D.Disk.face plan s c.step.new.state (Step p ∷ []) b.state b.events);
       room = omega (arith, kept.room, ap length c.in_ok-step-in-Some.ensures.history, length-append s.history.items (entry_of (world_in s) (Step p) ∷ []));
-      counted = counted_then g.D.Disk.face c.args.state.now.hosts.items s.hosts.items c.step.new.state.hosts.items (Ok tt) (Ok tt) kept.counted c.in_ok-step-in-Some.ensures.counted;
+      counted = counted_then g.D.Disk.face c.args.state.now.seats.items s.seats.items c.step.new.state.seats.items (Ok tt) (Ok tt) kept.counted c.in_ok-step-in-Some.ensures.counted;
     }
 
 pub returns-in-None-clause-becomes : goal.returns-in-None-clause-becomes
@@ -71,4 +71,4 @@ pub returns-in_err-step-in-Some-clause-counted : goal.returns-in_err-step-in-Som
 returns-in_err-step-in-Some-clause-counted g c =
     let p = err_from_is_err_and c.from_residual-in_err-step-in-Some.result c.from_residual-in_err-step-in-Some.ensures.1 in
     rw (p.1, p.2)
-    (counted_then g.D.Disk.face c.args.state.now.hosts.items c.loop-turn.state.hosts.items c.step.new.state.hosts.items (Ok tt) _ c.loop-turn.invariant.counted c.in_err-step-in-Some.ensures.counted)
+    (counted_then g.D.Disk.face c.args.state.now.seats.items c.loop-turn.state.seats.items c.step.new.state.seats.items (Ok tt) _ c.loop-turn.invariant.counted c.in_err-step-in-Some.ensures.counted)

@@ -1,22 +1,18 @@
-use Rattle.std.proofs.Common.{sym, ◌∙◌}
-use Rattle.lks_world.proofs.PlaceLaws.{peer_within, peer_is}
-use Rattle.lks_world.proofs.ReadyLaws.{first_here, first_later}
-use Rattle.lks_world.specs.States.{steps_of}
-use Rattle.lks_world.specs.Hosts.{peers_of}
+use Rattle.std.proofs.Common.{sym, ap, ◌∙◌}
+use Rattle.lks_law.specs.Due.{first_own}
+use Rattle.lks_world.proofs.ReadyLaws.{first_here, first_later, steps_seated}
+use Rattle.lks_world.specs.States.{seat_steps}
 use Rattle.lks_world.proofs.settling.first_step.Goals as goal
+
+pub loop-seat-init : goal.loop-seat-init
+loop-seat-init g c = ap first_own (steps_seated c.args.part c.args.seats.now)
 
 pub returns-in-Some : goal.returns-in-Some
 returns-in-Some g c =
-    let h = c.host-item.result in
-    let hosts = c.args.hosts.now in
-    let i = c.loop-host.host-index in
-    sym (first_here (steps_of c.args.part) (peers_of hosts) i h.peer c.in-Some.s (peer_within hosts i h c.loop-host-test.true c.host-item.is) (peer_is hosts i h c.loop-host-test.true c.host-item.is) (sym c.first_of_host.ensures ∙ c.in-Some.is))
-    ∙ c.loop-host.invariant
+    sym (first_here (seat_steps c.args.part) c.args.seats.now c.loop-seat.seat-index c.seat-item.result c.in-Some.s c.loop-seat-test.true c.seat-item.is (sym c.first.ensures ∙ c.in-Some.is))
+    ∙ c.loop-seat.invariant
 
-pub loop-host-preserved : goal.loop-host-preserved
-loop-host-preserved g c =
-    let h = c.host-item.result in
-    let hosts = c.args.hosts.now in
-    let i = c.loop-host.host-index in
-    sym (first_later (steps_of c.args.part) (peers_of hosts) i h.peer (peer_within hosts i h c.loop-host-test.true c.host-item.is) (peer_is hosts i h c.loop-host-test.true c.host-item.is) (sym c.first_of_host.ensures ∙ c.in-None.is))
-    ∙ c.loop-host.invariant
+pub loop-seat-preserved : goal.loop-seat-preserved
+loop-seat-preserved g c =
+    sym (first_later (seat_steps c.args.part) c.args.seats.now c.loop-seat.seat-index c.seat-item.result c.loop-seat-test.true c.seat-item.is (sym c.first.ensures ∙ c.in-None.is))
+    ∙ c.loop-seat.invariant

@@ -1,22 +1,66 @@
-use Rattle.std.proofs.Common.{ap}
-use Rattle.lks_world.proofs.HostLaws.{ok_then, stayed, one_went_on, counted_one, host_there}
+use Rattle.std.proofs.Common.{◌≡◌, ap, sym, subst}
+use Rattle.std.specs.Prelude.{IfOk, OnOk, slice_set}
+use Rattle.lks_law.specs.Entries.{notes_at}
+use Rattle.lks_law.specs.World.{Deed, peer_at, reaction_at, with_records}
+use Rattle.lks_world.proofs.HostLaws.{ok_then, stayed}
+use Rattle.lks_world.proofs.SeatLaws.{acts_at, never_idle, acts_there, acts_ranked, acts_found, acts_added, acts_on, counted_one}
+use Rattle.lks_world.specs.Hosts.{peers_of}
+use Rattle.lks_world.specs.Seats.{hosts_of}
+use Rattle.lks_world.specs.declared.seats.Seat.TheVariants as seat
 use Rattle.lks_world.proofs.states.act.Goals as goal
 
 pub returns-in_default-clause-on : goal.returns-in_default-clause-on
-returns-in_default-clause-on g c = stayed g.D.Disk.face c.args.hosts.now.items
+returns-in_default-clause-on g c = stayed g.D.Disk.face (hosts_of c.args.seats.now.items)
+
+pub unreachable-requires : goal.unreachable-requires
+unreachable-requires g c =
+    never_idle c.deed.inside.peer c.deref.result.now c.args.seats.now.items c.in-Some.place c.index_mut.result.now c.deref.ensures.value c.in-Some.ensures c.index_mut.ensures.value c.in-Idle.field-0 c.in-Idle.is
 
 pub act_as-requires-clause-ready : goal.act_as-requires-clause-ready
 act_as-requires-clause-ready g c = λ κs lives.
-    c.requires.ready c.in-Some.place c.index_mut.result.now (host_there _ _ c.in-Some.place c.index_mut.result.now c.deref.ensures.value c.in-Some.ensures.within c.index_mut.ensures.value)
+    let seats = c.args.seats.now.items in
+    let h = c.in-Host.host in
+    let acts = acts_at c.deed.inside.peer c.deref.result.now seats c.in-Some.place c.index_mut.result.now c.deref.ensures.value c.in-Some.ensures c.index_mut.ensures.value h c.in-Host.is in
+    c.requires.ready acts.stands.rank h (acts_ranked c.deed.inside.peer seats c.in-Some.place h acts)
+
+pub returns-clause-sends : goal.returns-clause-sends
+returns-clause-sends g c =
+    let seats = c.args.seats.now.items in
+    let h = c.in-Host.host in
+    let acts = acts_at c.deed.inside.peer c.deref.result.now seats c.in-Some.place c.index_mut.result.now c.deref.ensures.value c.in-Some.ensures c.index_mut.ensures.value h c.in-Host.is in
+    subst (λ (v : Deed). IfOk c.act_as.result (λ d. d.sends ≡ (reaction_at c.args.tick (peer_at v.peer (peers_of (hosts_of seats))) v.input).sends)) c.deed.view_is
+    (subst (λ o. IfOk c.act_as.result (λ d. d.sends ≡ (reaction_at c.args.tick o c.deed.inside.input).sends)) (sym (acts_found c.deed.inside.peer seats c.in-Some.place h acts)) c.act_as.ensures.sends)
+
+pub returns-clause-notes : goal.returns-clause-notes
+returns-clause-notes g c =
+    let seats = c.args.seats.now.items in
+    let h = c.in-Host.host in
+    let acts = acts_at c.deed.inside.peer c.deref.result.now seats c.in-Some.place c.index_mut.result.now c.deref.ensures.value c.in-Some.ensures c.index_mut.ensures.value h c.in-Host.is in
+    subst (λ (v : Deed). IfOk c.act_as.result (λ d. d.notes ≡ notes_at (peer_at v.peer (peers_of (hosts_of seats))) (reaction_at c.args.tick (peer_at v.peer (peers_of (hosts_of seats))) v.input).records)) c.deed.view_is
+    (subst (λ o. IfOk c.act_as.result (λ d. d.notes ≡ notes_at o (reaction_at c.args.tick o c.deed.inside.input).records)) (sym (acts_found c.deed.inside.peer seats c.in-Some.place h acts)) c.act_as.ensures.notes)
+
+pub returns-clause-peers : goal.returns-clause-peers
+returns-clause-peers g c =
+    let seats = c.args.seats.now.items in
+    let h = c.in-Host.host in
+    let k = c.act_as.new.host in
+    let place = c.in-Some.place in
+    let acts = acts_at c.deed.inside.peer c.deref.result.now seats place c.index_mut.result.now c.deref.ensures.value c.in-Some.ensures c.index_mut.ensures.value h c.in-Host.is in
+    subst (λ (v : Deed). OnOk c.act_as.result (peers_of (hosts_of (slice_set seats place (seat.Host k))) ≡ with_records v.peer (reaction_at c.args.tick (peer_at v.peer (peers_of (hosts_of seats))) v.input).records (peers_of (hosts_of seats)))) c.deed.view_is
+    (subst (λ o. OnOk c.act_as.result (peers_of (hosts_of (slice_set seats place (seat.Host k))) ≡ with_records c.deed.inside.peer (reaction_at c.args.tick o c.deed.inside.input).records (peers_of (hosts_of seats)))) (sym (acts_found c.deed.inside.peer seats place h acts))
+    (ok_then c.act_as.result (acts_added c.deed.inside.peer seats place h acts _ k) c.act_as.ensures.peer))
 
 pub returns-clause-on : goal.returns-clause-on
 returns-clause-on g c =
-    ok_then c.act_as.result
-    (one_went_on g.D.Disk.face c.args.hosts.now.items c.in-Some.place c.index_mut.result.now c.act_as.new.host
-    (host_there _ _ c.in-Some.place c.index_mut.result.now c.deref.ensures.value c.in-Some.ensures.within c.index_mut.ensures.value)) c.act_as.ensures.on
+    let seats = c.args.seats.now.items in
+    let h = c.in-Host.host in
+    let acts = acts_at c.deed.inside.peer c.deref.result.now seats c.in-Some.place c.index_mut.result.now c.deref.ensures.value c.in-Some.ensures c.index_mut.ensures.value h c.in-Host.is in
+    ok_then c.act_as.result (acts_on c.deed.inside.peer seats c.in-Some.place h acts g.D.Disk.face c.act_as.new.host) c.act_as.ensures.on
 
 pub returns-clause-counted : goal.returns-clause-counted
 returns-clause-counted g c =
-    counted_one g.D.Disk.face c.args.hosts.now.items c.in-Some.place c.index_mut.result.now c.act_as.new.host c.act_as.result
-    (host_there _ _ c.in-Some.place c.index_mut.result.now c.deref.ensures.value c.in-Some.ensures.within c.index_mut.ensures.value)
+    let seats = c.args.seats.now.items in
+    let h = c.in-Host.host in
+    let acts = acts_at c.deed.inside.peer c.deref.result.now seats c.in-Some.place c.index_mut.result.now c.deref.ensures.value c.in-Some.ensures c.index_mut.ensures.value h c.in-Host.is in
+    counted_one g.D.Disk.face seats c.in-Some.place h c.act_as.new.host c.act_as.result (acts_there c.deed.inside.peer seats c.in-Some.place h acts)
     (ap (λ own. own.id) c.act_as.ensures.own) c.act_as.ensures.fuse c.act_as.ensures.later c.act_as.ensures.cause

@@ -1,0 +1,391 @@
+-- What the rules add fits the state, and its requests stay within their AUs.
+use Rattle.std.proofs.Common.{◌≡◌, ◌+◌, ◌<◌, ◌≤◌, ◌∙◌, ap, sym, subst, ℕ, Bool, true, false, cond, eqb, ltb, not, List, [], ◌∷◌, ◌++◌, length, refl, arith}
+use Rattle.std.specs.Prelude.{Option, Some, None, is_some, ◌&&◌, All, map}
+use Rattle.std.specs.List.{list_all, filter_map, cons_option}
+use Rattle.std.proofs.lemmas.Bool.{and_parts, eqb-true, ltb-true, not-true}
+use Rattle.std.proofs.lemmas.List.{length-set}
+use Rattle.std.proofs.lemmas.List.Elements.{All-cons, All-head, All-tail, All-push, All-weaker}
+use Rattle.lks_base.specs.Checking.{has_member}
+use Rattle.lks_base.specs.declared.limits.TheConstants.{MOST_BLOCKS, MOST_CIRCLE}
+use Rattle.lks_base.specs.declared.messages.Message.{Message}
+use Rattle.lks_base.specs.declared.messages.Message.TheVariants as message
+use Rattle.lks_base.specs.declared.names.Judged.{Judged}
+use Rattle.lks_base.specs.declared.names.Outcome.{Outcome}
+use Rattle.lks_base.specs.declared.names.Outcome.TheVariants as outcome
+use Rattle.lks_base.specs.declared.names.Outcome.TheVariants.{Agreed}
+use Rattle.lks_base.specs.declared.plans.AuPlan.{AuPlan}
+use Rattle.lks_base.specs.declared.reactions.Input.{Input}
+use Rattle.lks_base.specs.declared.reactions.Input.TheVariants as input
+use Rattle.lks_base.specs.declared.reactions.Reaction.{Reaction}
+use Rattle.lks_base.specs.declared.records.Record.{Record}
+use Rattle.lks_base.specs.declared.records.Record.TheVariants.{Deposit, PollOpened, Nominated, OuterOpened, VoteIn, Shut, Asked, RepairBad, Replaced, Closed, Overdue}
+use Rattle.lks_base.specs.declared.records.Record.TheVariants as records
+use Rattle.lks_draw.proofs.Picking.{pick_law}
+use Rattle.lks_draw.proofs.Places.{word_fits}
+use Rattle.lks_draw.specs.Words.{drawn_from, words_of}
+use Rattle.lks_law.specs.Fitting.{Where, FitsOutcome, Fits, AreFitting, AsksWithin, IsCounted, IsSound, most_numbered, has_room}
+use Rattle.lks_law.specs.Journal.{Request}
+use Rattle.lks_law.specs.Polls.{Station, limits_of, ballot_of}
+use Rattle.lks_law.specs.Reacting.{for_poll, if_may, may_open_copy, may_open_in, inner_of, opened_as, open_in, widen_in, silent_in, nudge_in, give_up_in, receipts_of, shut_once, shut_in, closed_as, asked_for, verdict_of, supplier, tallied_as, tally_in, must_note_copy, overdue_of, check_in, is_invited_to, challenge_in, has_nominated_in, nominate_in, vote_in_poll, said_of, repair_in, receive_in, react_on}
+use Rattle.lks_law.specs.Reaction.{letter, asked_again, given_up, is_accepted, is_request}
+use Rattle.lks_law.specs.State.{Poll, Copy, State, poll_at, copy_at, blocks_in, blocks_at, nominated_by, widened_to, voted_by, shut_now, asking, answered, changed, without_poll, deposited, opened_at, replaced_in, agreed_at, noted, copy_changed, agreed_on, copies_after, polls_after, after}
+use Rattle.lks_tally.proofs.Deciding.{loss_first}
+use Rattle.lks_tally.specs.PollRules as poll
+use Rattle.lks_tally.specs.declared.ballots.Verdict.{Verdict}
+use Rattle.lks_tally.specs.declared.ballots.Verdict.TheVariants as verdict
+
+-- what is true of each poll is true of the one that is found
+poll_where : (P : Poll → Type 0) (n : ℕ) (ps : List Poll) → All P ps → Where (poll_at n ps) P
+poll_where P n [] all = tt
+poll_where P n (p ∷ ps) all = here (eqb p.number n) (poll_where P n ps (All-tail P p ps all))
+  where
+    here : (b : Bool) → Where (poll_at n ps) P → Where (cond b (Some p) (poll_at n ps)) P
+    here true rest = All-head P p ps all
+    here false rest = rest
+
+-- where poll n changes, what is true of each stays so, if it does for that one
+changed_each : (P : Poll → Type 0) (n : ℕ) (f : Poll → Poll) (ps : List Poll) → Where (poll_at n ps) (λ p. P p → P (f p)) → All P ps → All P (changed n f ps)
+changed_each P n f [] keeps all = all
+changed_each P n f (p ∷ ps) keeps all = here (eqb p.number n) keeps (λ keeps. changed_each P n f ps keeps (All-tail P p ps all))
+  where
+    here : (b : Bool) → Where (cond b (Some p) (poll_at n ps)) (λ p. P p → P (f p)) → (Where (poll_at n ps) (λ p. P p → P (f p)) → All P (changed n f ps))
+        → All P (cond b (f p ∷ ps) (p ∷ changed n f ps))
+    here true keeps rest = All-cons P (f p) ps (keeps (All-head P p ps all)) (All-tail P p ps all)
+    here false keeps rest = All-cons P p (changed n f ps) (All-head P p ps all) (rest keeps)
+
+without_each : (P : Poll → Type 0) (n : ℕ) (ps : List Poll) → All P ps → All P (without_poll n ps)
+without_each P n [] all = all
+without_each P n (p ∷ ps) all = here (eqb p.number n) (without_each P n ps (All-tail P p ps all))
+  where
+    here : (b : Bool) → All P (without_poll n ps) → All P (cond b ps (p ∷ without_poll n ps))
+    here true rest = All-tail P p ps all
+    here false rest = All-cons P p (without_poll n ps) (All-head P p ps all) rest
+
+abbrev HasBlocks : Copy → Type 0
+HasBlocks c = IsCounted c.blocks
+
+copy_each : (P : Copy → Type 0) (au : ℕ) (f : Copy → Copy) (cs : List Copy) → ((c : Copy) → P c → P (f c)) → All P cs → All P (copy_changed au f cs)
+copy_each P au f [] keeps all = all
+copy_each P au f (c ∷ cs) keeps all = here (eqb c.au au) (copy_each P au f cs keeps (All-tail P c cs all))
+  where
+    here : (b : Bool) → All P (copy_changed au f cs) → All P (cond b (f c ∷ cs) (c ∷ copy_changed au f cs))
+    here true rest = All-cons P (f c) cs (keeps c (All-head P c cs all)) (All-tail P c cs all)
+    here false rest = All-cons P c (copy_changed au f cs) (All-head P c cs all) rest
+
+-- where a poll is found, whatever it is, this follows
+whatever : (P : Poll → Type 0) → ((p : Poll) → P p) → (o : Option Poll) → Where o P
+whatever P is None = tt
+whatever P is (Some p) = is p
+
+-- An AU loses no blocks.
+
+grows : (au a : ℕ) (f : Copy → Copy) (cs : List Copy) → ((c : Copy) → (f c).au ≡ c.au) → ((c : Copy) → length (f c).blocks ≡ length c.blocks)
+    → length (blocks_at au (copy_changed a f cs)) ≡ length (blocks_at au cs)
+grows au a f [] same long = refl
+grows au a f (c ∷ cs) same long = here (eqb c.au a) (eqb c.au au) refl (grows au a f cs same long)
+  where
+    here : (b d : Bool) → eqb c.au au ≡ d → length (blocks_at au (copy_changed a f cs)) ≡ length (blocks_at au cs)
+        → length (blocks_at au (cond b (f c ∷ cs) (c ∷ copy_changed a f cs))) ≡ length (blocks_in (cond d (Some c) (copy_at au cs)))
+    here true true e rest = ap (λ k. length (blocks_in (cond (eqb k au) (Some (f c)) (copy_at au cs)))) (same c) ∙ ap (λ t. length (blocks_in (cond t (Some (f c)) (copy_at au cs)))) e ∙ long c
+    here true false e rest = ap (λ k. length (blocks_in (cond (eqb k au) (Some (f c)) (copy_at au cs)))) (same c) ∙ ap (λ t. length (blocks_in (cond t (Some (f c)) (copy_at au cs)))) e
+    here false true e rest = ap (λ t. length (blocks_in (cond t (Some c) (copy_at au (copy_changed a f cs))))) e
+    here false false e rest = ap (λ t. length (blocks_in (cond t (Some c) (copy_at au (copy_changed a f cs))))) e ∙ rest
+
+joined : (au : ℕ) (c : Copy) (cs : List Copy) → length (blocks_at au cs) ≤ length (blocks_at au (cs ++ c ∷ []))
+joined au c [] = omega arith
+joined au c (x ∷ cs) = here (eqb x.au au) (joined au c cs)
+  where
+    here : (b : Bool) → length (blocks_at au cs) ≤ length (blocks_at au (cs ++ c ∷ [])) → length (blocks_in (cond b (Some x) (copy_at au cs))) ≤ length (blocks_in (cond b (Some x) (copy_at au (cs ++ c ∷ []))))
+    here true rest = omega arith
+    here false rest = rest
+
+no_fewer : (ps : List Poll) (r : Record) (cs : List Copy) (au : ℕ) → length (blocks_at au cs) ≤ length (blocks_at au (copies_after ps r cs))
+no_fewer ps r cs au = by_record r
+  where
+    as_many : (xs ys : List (List ℕ)) → length ys ≡ length xs → length xs ≤ length ys
+    as_many xs ys e = omega (arith, e)
+
+    by_record : (r : Record) → length (blocks_at au cs) ≤ length (blocks_at au (copies_after ps r cs))
+    by_record (Deposit a blocks) = here (is_some (copy_at a cs))
+      where
+        here : (b : Bool) → length (blocks_at au cs) ≤ length (blocks_at au (cond b cs (cs ++ deposited a blocks ∷ [])))
+        here true = omega arith
+        here false = joined au (deposited a blocks) cs
+    by_record (PollOpened number a nonce inner tick limits kind) = as_many _ _ (grows au a (opened_at tick) cs (λ c. refl) (λ c. refl))
+    by_record (Replaced number a block bytes) = as_many _ _ (grows au a (replaced_in block bytes) cs (λ c. refl) (λ c. length-set c.blocks block bytes))
+    by_record (Overdue a tick) = as_many _ _ (grows au a noted cs (λ c. refl) (λ c. refl))
+    by_record (Closed number Agreed tick) = here (poll_at number ps)
+      where
+        here : (o : Option Poll) → length (blocks_at au cs) ≤ length (blocks_at au (agreed_on o tick cs))
+        here None = omega arith
+        here (Some p) = as_many _ _ (grows au p.opening.au (agreed_at tick) cs (λ c. refl) (λ c. refl))
+    by_record r = omega arith
+
+-- Requests stay within their AUs.
+
+module _ (own : Station) (s : State) where
+  asks_on : (r : Record) (p : Poll) → AsksWithin s.copies p → AsksWithin (copies_after s.polls r s.copies) p
+  asks_on r p within = here p.request within
+    where
+      longer : length (blocks_at p.opening.au s.copies) ≤ length (blocks_at p.opening.au (copies_after s.polls r s.copies))
+      longer = no_fewer s.polls r s.copies p.opening.au
+
+      here : (o : Option Request) → Where o (λ q. q.block < length (blocks_at p.opening.au s.copies)) → Where o (λ q. q.block < length (blocks_at p.opening.au (copies_after s.polls r s.copies)))
+      here None within = tt
+      here (Some q) within = omega (arith, within, longer)
+
+  -- whatever changes in poll n, it asks within its AU
+  still : (n : ℕ) (f : Poll → Poll) → ((p : Poll) → AsksWithin s.copies p → AsksWithin s.copies (f p)) → IsSound s → All (AsksWithin s.copies) (changed n f s.polls)
+  still n f keep is = changed_each (AsksWithin s.copies) n f s.polls (whatever (λ p. AsksWithin s.copies p → AsksWithin s.copies (f p)) keep (poll_at n s.polls)) is.asks
+
+  either : (P : Poll → Type 0) (b : Bool) (x y : Poll) → P x → P y → P (cond b x y)
+  either P true x y px py = px
+  either P false x y px py = py
+
+  asked_within : (n b v : ℕ) (o : Option Poll) → Where o (λ p. (p.shut ≡ true) × (p.request ≡ None) × (b < length (blocks_at p.opening.au s.copies)))
+      → Where o (λ p. AsksWithin s.copies p → AsksWithin s.copies (asking (record { block = b; voter = v }) p))
+  asked_within n b v None fits = tt
+  asked_within n b v (Some p) fits = λ before. fits.2
+
+  polls_asking : (r : Record) → Fits own s r → IsSound s → All (AsksWithin s.copies) (polls_after own.rules r s.polls)
+  polls_asking (PollOpened number au nonce inner tick limits kind) fits is = All-push (AsksWithin s.copies) s.polls _ is.asks tt
+  polls_asking (Nominated number voter nominees) fits is = still number (nominated_by voter nominees) (λ p within. within) is
+  polls_asking (OuterOpened number outer) fits is = still number (widened_to outer) (λ p within. within) is
+  polls_asking (VoteIn number voter hashes) fits is =
+      still number (voted_by (record { voter = voter; hashes = hashes })) (λ p within. either (AsksWithin s.copies) (has_member p.opening.inner voter) _ _ within within) is
+  polls_asking (Shut number) fits is = still number shut_now (λ p within. within) is
+  polls_asking (Asked number block voter) fits is =
+      changed_each (AsksWithin s.copies) number (asking (record { block = block; voter = voter })) s.polls (asked_within number block voter (poll_at number s.polls) fits) is.asks
+  polls_asking (RepairBad number block voter) fits is = still number answered (λ p within. tt) is
+  polls_asking (Replaced number au block bytes) fits is = still number answered (λ p within. tt) is
+  polls_asking (Closed number outcome tick) fits is = without_each (AsksWithin s.copies) number s.polls is.asks
+  polls_asking r fits is = is.asks
+
+  copies_counted : (r : Record) → Fits own s r → IsSound s → All HasBlocks (copies_after s.polls r s.copies)
+  copies_counted (Deposit au blocks) fits is = here (is_some (copy_at au s.copies))
+    where
+      here : (b : Bool) → All HasBlocks (cond b s.copies (s.copies ++ deposited au blocks ∷ []))
+      here true = is.counted
+      here false = All-push HasBlocks s.copies (deposited au blocks) is.counted fits.0
+  copies_counted (PollOpened number au nonce inner tick limits kind) fits is = copy_each HasBlocks au (opened_at tick) s.copies (λ c has. has) is.counted
+  copies_counted (Replaced number au block bytes) fits is =
+      copy_each HasBlocks au (replaced_in block bytes) s.copies (λ c has. subst (λ n. (1 ≤ n) × (n ≤ MOST_BLOCKS)) (sym (length-set c.blocks block bytes)) has) is.counted
+  copies_counted (Overdue au tick) fits is = copy_each HasBlocks au noted s.copies (λ c has. has) is.counted
+  copies_counted (Closed number Agreed tick) fits is = here (poll_at number s.polls)
+    where
+      here : (o : Option Poll) → All HasBlocks (agreed_on o tick s.copies)
+      here None = is.counted
+      here (Some p) = copy_each HasBlocks p.opening.au (agreed_at tick) s.copies (λ c has. has) is.counted
+  copies_counted r fits is = is.counted
+
+  pub sound_after : (r : Record) → Fits own s r → IsSound s → IsSound (after own s r)
+  unfolding after
+  sound_after r fits is = record {
+    counted = copies_counted r fits is;
+    asks = All-weaker (AsksWithin s.copies) (AsksWithin (copies_after s.polls r s.copies)) (asks_on r) (polls_after own.rules r s.polls) (polls_asking r fits is);
+  }
+
+-- What the rules add.
+
+module _ (own : Station) (s : State) (few : own.rules.inner ≤ MOST_CIRCLE) (room : has_room s ≡ true) (sound : IsSound s) where
+  -- a poll that runs, as it is found
+  for_found : (n : ℕ) (row : Poll → Reaction) → ((p : Poll) → poll_at n s.polls ≡ Some p → AreFitting own s (row p).records)
+      → AreFitting own s (for_poll (poll_at n s.polls) row).records
+  for_found n row fits = here (poll_at n s.polls) refl
+    where
+      here : (o : Option Poll) → poll_at n s.polls ≡ o → AreFitting own s (for_poll o row).records
+      here None is = tt
+      here (Some p) is = fits p is
+
+  -- what is done where it may be
+  where_may : (b : Bool) (does : Reaction) → (b ≡ true → AreFitting own s does.records) → AreFitting own s (if_may b does).records
+  where_may true does fits = fits refl
+  where_may false does fits = tt
+
+  -- the poll that was found is the one of its number
+  at_found : (P : Poll → Type 0) (n : ℕ) (p : Poll) → poll_at n s.polls ≡ Some p → P p → Where (poll_at p.number s.polls) P
+  at_found P n p is fits = subst (λ m. Where (poll_at m s.polls) P) (sym (named n s.polls is)) (subst (λ o. Where o P) (sym is) fits)
+    where
+      named : (n : ℕ) (ps : List Poll) → poll_at n ps ≡ Some p → p.number ≡ n
+      named n [] e = absurd cc
+      named n (x ∷ ps) e = here (eqb x.number n) refl e (named n ps)
+        where
+          here : (b : Bool) → eqb x.number n ≡ b → cond b (Some x) (poll_at n ps) ≡ Some p → (poll_at n ps ≡ Some p → p.number ≡ n) → p.number ≡ n
+          here true is e rest = let same : x ≡ p = cc in subst (λ y. y.number ≡ n) same (eqb-true x.number n is)
+          here false is e rest = rest e
+
+  -- A block of the AU, which may be replaced.
+
+  versions_left : (cs : List Copy) → list_all (λ (c : Copy). ltb c.version most_numbered) cs ≡ true → (au : ℕ) → Where (copy_at au cs) (λ c. c.version < most_numbered)
+  versions_left [] all au = tt
+  versions_left (c ∷ cs) all au =
+      let parts = and_parts (ltb c.version most_numbered) (list_all (λ (c : Copy). ltb c.version most_numbered) cs) all in
+      here (eqb c.au au) (ltb-true c.version most_numbered parts.0) (versions_left cs parts.1 au)
+    where
+      here : (b : Bool) → c.version < most_numbered → Where (copy_at au cs) (λ c. c.version < most_numbered) → Where (cond b (Some c) (copy_at au cs)) (λ c. c.version < most_numbered)
+      here true less rest = less
+      here false less rest = rest
+
+  replaces : (au b : ℕ) → b < length (blocks_at au s.copies) → Where (copy_at au s.copies) (λ c. (b < length c.blocks) × (c.version < most_numbered))
+  replaces au b within = here (copy_at au s.copies) within (versions_left s.copies (and_parts (ltb s.openings most_numbered) (list_all (λ (c : Copy). ltb c.version most_numbered) s.copies) room).1 au)
+    where
+      here : (o : Option Copy) → b < length (blocks_in o) → Where o (λ c. c.version < most_numbered) → Where o (λ c. (b < length c.blocks) × (c.version < most_numbered))
+      here None within less = tt
+      here (Some c) within less = (within, less)
+
+  -- The rows.
+
+  open_fits : (tick au : ℕ) → AreFitting own s (open_in own s tick au).records
+  unfolding open_in may_open_in inner_of
+  open_fits tick au = where_may (may_open_in own s tick au) (opened_as own s tick au (s.openings + 1)) (λ may. ((held (copy_at au s.copies) may, few_picked, ltb-true s.openings most_numbered (and_parts (ltb s.openings most_numbered) _ room).0), tt))
+    where
+      held : (o : Option Copy) → may_open_copy tick own.rules.pace au s.polls o ≡ true → is_some o ≡ true
+      held None e = absurd cc
+      held (Some c) e = refl
+
+      few_picked : length (inner_of own (s.openings + 1) s.refs) ≤ MOST_CIRCLE
+      few_picked =
+          let d = drawn_from own.seed 1 (s.openings + 1) in
+          let pick = pick_law (words_of d.key) (word_fits d.key) d.place s.refs own.rules.inner in
+          omega (arith, pick.count, few)
+
+  widen_fits : (n : ℕ) (p : Poll) → poll_at n s.polls ≡ Some p → AreFitting own s (widen_in own p).records
+  unfolding widen_in
+  widen_fits n p is = where_may (not p.shut && not (is_some p.outer)) _ (λ may. (tt, tt))
+
+  shut_fits : (tick n : ℕ) (p : Poll) → poll_at n s.polls ≡ Some p → AreFitting own s (shut_in own tick p).records
+  unfolding shut_in
+  shut_fits tick n p is = where_may (not p.shut) (shut_once own p tick) (λ may. by_quorum (ltb (length p.inner_votes) (limits_of own.rules p.opening).quorum))
+    where
+      by_quorum : (b : Bool) → AreFitting own s (cond {A = Reaction} b
+          (record { records = records.Shut p.number ∷ records.Closed p.number outcome.Inquorate tick ∷ []; sends = receipts_of p })
+          (record { records = records.Shut p.number ∷ []; sends = [] })).records
+      by_quorum true =
+          let later = after own s (records.Shut p.number) in
+          (tt, (whatever (λ q. FitsOutcome own later q outcome.Inquorate) (λ q. tt) (poll_at p.number later.polls), tt))
+      by_quorum false = (tt, tt)
+
+  closed_fits : (tick : ℕ) (p : Poll) (how : Outcome) → ((q : Poll) → FitsOutcome own s q how) → AreFitting own s (closed_as p tick how).records
+  unfolding closed_as
+  closed_fits tick p how fits = (whatever (λ q. FitsOutcome own s q how) fits (poll_at p.number s.polls), tt)
+
+  tally_fits : (tick n : ℕ) (p : Poll) → poll_at n s.polls ≡ Some p → AreFitting own s (tally_in own tick s.copies p).records
+  unfolding tally_in verdict_of closed_as
+  tally_fits tick n p is =
+      where_may (p.shut && not (is_some p.request)) (tallied_as own p tick blocks (verdict_of own p blocks))
+      (λ may. by_verdict (verdict_of own p blocks) refl (and_parts p.shut (not (is_some p.request)) may))
+    where
+      blocks : List (List ℕ)
+      blocks = blocks_at p.opening.au s.copies
+
+      idle : (o : Option Request) → not (is_some o) ≡ true → o ≡ None
+      idle None e = refl
+      idle (Some r) e = absurd cc
+
+      lost : (b : ℕ) → verdict_of own p blocks ≡ verdict.Loss b → b < length blocks
+      lost b is = let limits = limits_of own.rules p.opening in (loss_first limits.minority (ballot_of own p.number p.opening (length blocks)) p.inner_votes blocks limits.quorum b is).1.within
+
+      by_voter : (b : ℕ) (v : Option ℕ) → b < length blocks → (p.shut ≡ true) × (not (is_some p.request) ≡ true) → AreFitting own s (asked_for p tick b v).records
+      by_voter b None within may = closed_fits tick p (outcome.NoSupplier b) (λ q. tt)
+      by_voter b (Some v) within may =
+          (at_found (λ q. (q.shut ≡ true) × (q.request ≡ None) × (b < length (blocks_at q.opening.au s.copies))) n p is (may.0, idle p.request may.1, within), tt)
+
+      by_verdict : (v : Verdict) → verdict_of own p blocks ≡ v → (p.shut ≡ true) × (not (is_some p.request) ≡ true) → AreFitting own s (tallied_as own p tick blocks v).records
+      by_verdict verdict.Inquorate said may = tt
+      by_verdict verdict.Agreed said may = (at_found (λ q. FitsOutcome own s q outcome.Agreed) n p is said, tt)
+      by_verdict (verdict.Split b) said may = closed_fits tick p (outcome.Split b) (λ q. tt)
+      by_verdict (verdict.Loss b) said may = by_voter b (supplier own p b blocks) (lost b said) may
+
+  nudge_fits : (n : ℕ) (p : Poll) → poll_at n s.polls ≡ Some p → AreFitting own s (nudge_in p).records
+  unfolding nudge_in
+  nudge_fits n p is = by_shut (not p.shut) p.request
+    where
+      by_shut : (b : Bool) (o : Option Request) → AreFitting own s (cond {A = Reaction} b (record { records = []; sends = map (letter (message.Poll p.number p.opening.au)) (silent_in p) }) (asked_again p.number o)).records
+      by_shut true o = tt
+      by_shut false None = tt
+      by_shut false (Some r) = tt
+
+  give_up_fits : (n : ℕ) (p : Poll) → poll_at n s.polls ≡ Some p → AreFitting own s (give_up_in p).records
+  unfolding give_up_in
+  give_up_fits n p is = by_request p.request
+    where
+      by_request : (o : Option Request) → AreFitting own s (given_up p.number o).records
+      by_request None = tt
+      by_request (Some r) = (tt, tt)
+
+  overdue_fit : (t : State) (tick : ℕ) (aus : List AuPlan) → AreFitting own t (filter_map (overdue_of own s.copies tick) aus)
+  overdue_fit t tick [] = tt
+  overdue_fit t tick (au ∷ aus) = here (must_note_copy own tick (copy_at au.id s.copies)) (λ t. overdue_fit t tick aus)
+    where
+      here : (b : Bool) → ((t : State) → AreFitting own t (filter_map (overdue_of own s.copies tick) aus))
+          → AreFitting own t (cons_option (cond b (Some (records.Overdue au.id tick)) None) (filter_map (overdue_of own s.copies tick) aus))
+      here true rest = (tt, rest (after own t (records.Overdue au.id tick)))
+      here false rest = rest t
+
+  vote_fits : (from : ℕ) (hashes : List (List ℕ)) (judged : Judged) (n : ℕ) (p : Poll) → poll_at n s.polls ≡ Some p → AreFitting own s (vote_in_poll from hashes judged s.copies p).records
+  unfolding vote_in_poll is_invited_to
+  vote_fits from hashes judged n p is =
+      where_may _ (record { records = records.VoteIn p.number from hashes ∷ []; sends = [] })
+      (λ may.
+      let parts = and_parts (is_accepted judged && not p.shut) (poll.may_vote (is_invited_to p from) (has_member p.voters from) (length hashes) (length (blocks_at p.opening.au s.copies))) may in
+      let rule = and_parts (is_invited_to p from && not (has_member p.voters from)) (eqb (length hashes) (length (blocks_at p.opening.au s.copies))) parts.1 in
+      let new = (and_parts (is_invited_to p from) (not (has_member p.voters from)) rule.0).1 in (
+        at_found (λ q. (has_member q.voters from ≡ false) × (length hashes ≡ length (blocks_at q.opening.au s.copies))) n p is
+            (not-true (has_member p.voters from) new, eqb-true (length hashes) (length (blocks_at p.opening.au s.copies)) rule.1),
+        tt,
+      ))
+
+  repair_fits : (from b : ℕ) (bytes : List ℕ) (n : ℕ) (p : Poll) → poll_at n s.polls ≡ Some p → AreFitting own s (repair_in own from b bytes s.copies p).records
+  unfolding repair_in
+  repair_fits from b bytes n p is = where_may (is_request b from p.request) _ (λ may. by_votes (said_of own p b bytes (blocks_at p.opening.au s.copies)) (within p.request may asked))
+    where
+      asked : Where p.request (λ r. r.block < length (blocks_at p.opening.au s.copies))
+      asked = subst (λ o. Where o (AsksWithin s.copies)) is (poll_where (AsksWithin s.copies) n s.polls sound.asks)
+
+      within : (o : Option Request) → is_request b from o ≡ true → Where o (λ r. r.block < length (blocks_at p.opening.au s.copies)) → b < length (blocks_at p.opening.au s.copies)
+      within None e less = absurd cc
+      within (Some r) e less = subst (λ k. k < length (blocks_at p.opening.au s.copies)) (eqb-true r.block b (and_parts (eqb r.block b) (eqb r.voter from) e).0) less
+
+      by_votes : (won : Bool) → b < length (blocks_at p.opening.au s.copies) → AreFitting own s (cond {A = Reaction} won
+          (record { records = records.Replaced p.number p.opening.au b bytes ∷ []; sends = [] })
+          (record { records = records.RepairBad p.number b from ∷ []; sends = [] })).records
+      by_votes true less = (replaces p.opening.au b less, tt)
+      by_votes false less = (tt, tt)
+
+  challenge_fits : (from : ℕ) (agrees : Bool) (n : ℕ) (p : Poll) → poll_at n s.polls ≡ Some p → AreFitting own s (challenge_in own from agrees p).records
+  unfolding challenge_in
+  challenge_fits from agrees n p is = by_rule (agrees && not p.shut && is_invited_to p from && not (has_member p.voters from))
+    where
+      by_rule : (b : Bool) → AreFitting own s (if_may b (record { records = []; sends = letter (message.PollProof p.number p.opening.nonce p.opening.kind own.proof) from ∷ [] })).records
+      by_rule true = tt
+      by_rule false = tt
+
+  nominate_fits : (from : ℕ) (nominees : List ℕ) (n : ℕ) (p : Poll) → poll_at n s.polls ≡ Some p → AreFitting own s (nominate_in from nominees p).records
+  unfolding nominate_in
+  nominate_fits from nominees n p is =
+      where_may (poll.may_widen (not p.shut) (is_some p.outer) && poll.may_nominate (has_member p.opening.inner from) (has_nominated_in p from))
+      (record { records = records.Nominated p.number from nominees ∷ []; sends = [] }) (λ may. (tt, tt))
+
+  receive_fits : (from : ℕ) (m : Message) (judged : Judged) → AreFitting own s (receive_in own s from m judged).records
+  receive_fits from (message.Poll n au) judged = tt
+  receive_fits from (message.PollChallenge n agrees) judged = for_found n (challenge_in own from agrees) (challenge_fits from agrees n)
+  receive_fits from (message.PollProof n nonce kind proof) judged = tt
+  receive_fits from (message.Nominate n nominees) judged = for_found n (nominate_in from nominees) (nominate_fits from nominees n)
+  receive_fits from (message.Vote n hashes proof) judged = for_found n (vote_in_poll from hashes judged s.copies) (vote_fits from hashes judged n)
+  receive_fits from (message.RepairRequest n b) judged = tt
+  receive_fits from (message.Repair n b bytes) judged = for_found n (repair_in own from b bytes s.copies) (repair_fits from b bytes n)
+  receive_fits from (message.Receipt n) judged = tt
+
+  pub reaction_fits : (tick : ℕ) (i : Input) → AreFitting own s (react_on own s tick i).records
+  unfolding react_on check_in
+  reaction_fits tick (input.OpenPoll au) = open_fits tick au
+  reaction_fits tick (input.Widen n) = for_found n (widen_in own) (widen_fits n)
+  reaction_fits tick (input.Shut n) = for_found n (shut_in own tick) (shut_fits tick n)
+  reaction_fits tick (input.Tally n) = for_found n (tally_in own tick s.copies) (tally_fits tick n)
+  reaction_fits tick (input.Nudge n) = for_found n nudge_in (nudge_fits n)
+  reaction_fits tick (input.GiveUp n) = for_found n give_up_in (give_up_fits n)
+  reaction_fits tick (input.Work p) = tt
+  reaction_fits tick (input.Expire p) = tt
+  reaction_fits tick input.Check = overdue_fit s tick own.aus
+  reaction_fits tick (input.Tune quorum minority repairs) = tt
+  reaction_fits tick (input.Got from m judged) = receive_fits from m judged

@@ -1,0 +1,74 @@
+-- What the rules see to before they add a record to a state.
+use Rattle.std.specs.Prelude.{◌≡◌, ◌≤◌, ◌<◌, ◌&&◌, ℕ, Bool, true, false, nat_lt, Option, None, Some, is_some, List, [], ◌∷◌, length, All}
+use Rattle.std.specs.List.{list_all}
+use Rattle.lks_base.specs.Checking.{has_member}
+use Rattle.lks_base.specs.declared.limits.TheConstants.{MOST_BLOCKS, MOST_CIRCLE}
+use Rattle.lks_base.specs.declared.names.Outcome.{Outcome}
+use Rattle.lks_base.specs.declared.names.Outcome.TheVariants.{Agreed, Inquorate, Split, NoSupplier}
+use Rattle.lks_base.specs.declared.records.Record.{Record}
+use Rattle.lks_base.specs.declared.records.Record.TheVariants.{Deposit, PollOpened, Nominated, OuterOpened, VoteIn, Shut, Asked, RepairBad, Replaced, Closed, Overdue, Joined, Committed, Voted, Served, Ended, Tuned}
+use Rattle.lks_law.specs.Polls.{Station}
+use Rattle.lks_law.specs.Reacting.{verdict_of}
+use Rattle.lks_law.specs.State.{Poll, Copy, State, poll_at, copy_at, blocks_at, after}
+use Rattle.lks_tally.specs.declared.ballots.Verdict.TheVariants as verdict
+
+-- what is true of it, where it is there
+abbrev pub Where : {X : Type 0} → Option X → (X → Type 0) → Type 0
+Where None P = Unit {0}
+Where (Some x) P = P x
+
+-- how many polls and versions are numbered at most
+abbrev pub most_numbered : ℕ
+most_numbered = 4294967295
+
+-- as many blocks as an AU has
+abbrev pub IsCounted : List (List ℕ) → Type 0
+IsCounted blocks = (1 ≤ length blocks) × (length blocks ≤ MOST_BLOCKS)
+
+-- a poll that is closed as agreed is so by its votes
+abbrev pub FitsOutcome : Station → State → Poll → Outcome → Type 0
+FitsOutcome own s p Agreed = verdict_of own p (blocks_at p.opening.au s.copies) ≡ verdict.Agreed
+FitsOutcome own s p Inquorate = Unit {0}
+FitsOutcome own s p (Split block) = Unit {0}
+FitsOutcome own s p (NoSupplier block) = Unit {0}
+
+-- A deposit has blocks, and comes before any poll; a poll is opened on a held AU; a voter of it votes once, with a hash for each block; a voter is asked
+-- for a block that the AU has, once voting ended and while nobody is waited for; and a block that the AU has is replaced.
+abbrev pub Fits : Station → State → Record → Type 0
+Fits own s (Deposit au blocks) = IsCounted blocks × (s.polls ≡ [])
+Fits own s (PollOpened number au nonce inner tick limits kind) = (is_some (copy_at au s.copies) ≡ true) × (length inner ≤ MOST_CIRCLE) × (s.openings < most_numbered)
+Fits own s (Nominated number voter nominees) = Unit {0}
+Fits own s (OuterOpened number outer) = Unit {0}
+Fits own s (VoteIn number voter hashes) =
+    Where (poll_at number s.polls) (λ p. (has_member p.voters voter ≡ false) × (length hashes ≡ length (blocks_at p.opening.au s.copies)))
+Fits own s (Shut number) = Unit {0}
+Fits own s (Asked number block voter) =
+    Where (poll_at number s.polls) (λ p. (p.shut ≡ true) × (p.request ≡ None) × (block < length (blocks_at p.opening.au s.copies)))
+Fits own s (RepairBad number block voter) = Unit {0}
+Fits own s (Replaced number au block bytes) = Where (copy_at au s.copies) (λ c. (block < length c.blocks) × (c.version < most_numbered))
+Fits own s (Closed number outcome tick) = Where (poll_at number s.polls) (λ p. FitsOutcome own s p outcome)
+Fits own s (Overdue au tick) = Unit {0}
+Fits own s (Joined poll au tick low repairs) = Unit {0}
+Fits own s (Committed poll nonce version kind) = Unit {0}
+Fits own s (Voted poll hashes) = Unit {0}
+Fits own s (Served poll block) = Unit {0}
+Fits own s (Ended poll) = Unit {0}
+Fits own s (Tuned quorum minority repairs) = Unit {0}
+
+-- each of these records, one after another
+abbrev pub AreFitting : Station → State → List Record → Type 0
+AreFitting own s [] = Unit {0}
+AreFitting own s (r ∷ rs) = Fits own s r × AreFitting own (after own s r) rs
+
+-- the request that is unanswered is for a block that the AU has
+abbrev pub AsksWithin : List Copy → Poll → Type 0
+AsksWithin copies p = Where p.request (λ r. r.block < length (blocks_at p.opening.au copies))
+
+-- each copy has as many blocks as an AU has, and each request of a running poll is for one of them
+pub record IsSound (s : State) : Type 0 where
+  pub counted : All (λ (c : Copy). IsCounted c.blocks) s.copies
+  pub asks : All (AsksWithin s.copies) s.polls
+
+-- whether a poll and a version more can be numbered
+abbrev pub has_room : State → Bool
+has_room s = nat_lt s.openings most_numbered && list_all (λ (c : Copy). nat_lt c.version most_numbered) s.copies

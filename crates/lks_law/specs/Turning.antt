@@ -1,0 +1,35 @@
+-- What a peer in a state has ready, whose turns come, and who is in its circles. Each says of the state what the word of that
+-- name says of the journal.
+use Rattle.std.specs.Prelude.{ℕ, Bool, false, not, ◌&&◌, if◌then◌else◌, Option, Some, None, is_some, List}
+use Rattle.std.specs.List.{filter_map}
+use Rattle.lks_base.specs.Checking.{has_member}
+use Rattle.lks_base.specs.declared.events.PeerStep.{PeerStep}
+use Rattle.lks_base.specs.declared.events.PeerStep.TheVariants.{Tally}
+use Rattle.lks_law.specs.Due.{turn_at}
+use Rattle.lks_law.specs.Polls.{Station}
+use Rattle.lks_law.specs.State.{Poll, State, poll_at}
+
+-- the tally of a running poll that is shut and waits for nothing
+abbrev pub ready_in : ℕ → Poll → Option PeerStep
+ready_in id p = if p.shut && not (is_some p.request) then Some (Tally id p.number) else None
+
+-- the tallies for which the peer is ready, in order of its running polls
+unfoldable pub ready_on : Station → State → List PeerStep
+ready_on own s = filter_map (ready_in own.id) s.polls
+
+-- what the peer does about a running poll when nothing else is due
+abbrev pub turn_in : ℕ → Poll → Option PeerStep
+turn_in id p = turn_at id p.number (is_some p.request) (not p.shut) (is_some p.outer)
+
+-- such steps, in order of its running polls
+unfoldable pub turns_on : Station → State → List PeerStep
+turns_on own s = filter_map (turn_in own.id) s.polls
+
+-- whether the poll has this voter in its inner circle, if it runs
+abbrev pub has_inner_of : Option Poll → ℕ → Bool
+has_inner_of None voter = false
+has_inner_of (Some p) voter = has_member p.opening.inner voter
+
+-- whether the running poll n has this voter in its inner circle
+unfoldable pub has_inner_in : State → ℕ → ℕ → Bool
+has_inner_in s n voter = has_inner_of (poll_at n s.polls) voter

@@ -1,0 +1,4 @@
+use Rattle.lks_work.proofs.hashing.hash_vote.Given as goal
+
+abbrev pub ghosts-hash_counted : goal.ghosts-hash_counted
+ghosts-hash_counted a = record { name = a.blank.name; parts = a.blank.parts }

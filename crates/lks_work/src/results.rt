@@ -1,0 +1,35 @@
+//! Jobs that are done.
+
+ghost use Rattle.std.specs.Prelude.{◌≡◌};
+ghost use Rattle.lks_tally.specs.Keeping.{kept_after};
+ghost use Rattle.lks_work.specs.Asked.{verdict_of, vote_of};
+
+use crate::jobs::{TallyJob, VoteJob};
+use lks_base::Hashes;
+use lks_tally::Verdict;
+
+/// A vote that was hashed.
+#[derive(Drop)]
+pub struct VoteDone {
+    pub job: VoteJob,
+    pub hashes: Hashes,
+    pub ghost hashed: { hashes ≡ vote_of job },
+}
+
+/// A tally whose last call was the verdict on what the job's references name.
+#[derive(Drop)]
+pub struct TallyDone {
+    pub job: TallyJob,
+    pub verdict: Verdict,
+    pub ghost told: { verdict ≡ verdict_of job },
+
+    // The running hashes of all blocks are kept, or at least those up to the block that decided.
+    pub ghost kept: { job.tally.kept ≡ kept_after verdict job.tally.kept job.tally.ballot.count },
+}
+
+/// A job of either kind that is done.
+#[derive(Drop)]
+pub enum JobDone {
+    Vote(VoteDone),
+    Tally(TallyDone),
+}

@@ -1,0 +1,333 @@
+-- Seats: where a peer has its own, and what calls on the disks of honest peers are to all disks.
+use Rattle.std.proofs.Common.{◌≡◌, ◌≤◌, ◌+◌, ◌∙◌, ap, sym, subst, ℕ, zero, suc, Bool, true, false, cond, eqb, inl, inr, List, [], ◌∷◌, ◌++◌, length, get_or, refl, arith}
+use Rattle.std.specs.Prelude.{Option, Some, None, map, reverse, slice_get, slice_set, MatchOption, option_map, Result, Ok, Err, IsErrOf}
+use Rattle.std.specs.List.{position, position_from}
+use Rattle.std.proofs.lemmas.Bool.{cases_Bool}
+use Rattle.std.proofs.lemmas.Iterator.Adapters.{position_from-zero}
+use Rattle.std.proofs.lemmas.List.{map-append, reverse-append, reverse-reverse}
+use Rattle.std.proofs.lemmas.Option.{slice_get-get_or, slice_get-map}
+use Rattle.lks_disk.specs.Counts.{Rose}
+use Rattle.lks_disk.specs.Face.{Face}
+use Rattle.lks_base.specs.declared.plans.PeerPlan.{PeerPlan}
+use Rattle.lks_base.specs.declared.plans.Plan.{Plan}
+use Rattle.lks_base.specs.declared.records.Record.{Record}
+use Rattle.lks_host.specs.declared.hosts.Host.{Host}
+use Rattle.lks_law.specs.World.{Standing, peer_at, with_records}
+use Rattle.lks_world.proofs.CountLaws.{some_is, untouched, counted_behind, counted_first}
+use Rattle.lks_world.proofs.HostLaws.{one_went_on}
+use Rattle.lks_world.proofs.ServingLaws.{serves_none, serves_then, serves_unblamed}
+use Rattle.lks_world.specs.Begun.{IsServed}
+use Rattle.lks_world.specs.Counts.{fault_in, honest_ids, ServesHonest}
+use Rattle.lks_world.specs.Disks.{honest_disks, corrupt_disks}
+use Rattle.lks_world.specs.Held.{HoldsBatches, HaveBatches}
+use Rattle.lks_world.specs.Hosts.{peers_of, disk_in, disks_of, with_added, GoesOn, HaveGoneOn, IsAbsent}
+use Rattle.lks_world.specs.Seats.{hosts_of, disk_at, disks_at, id_at, ids_at, is_seat_of, id_for, AreSeats, Counted, StandsAt}
+use Rattle.lks_world.specs.States.{events_in, IsStateOf}
+use Rattle.lks_world.specs.declared.faults.WorldFault.{WorldFault}
+use Rattle.lks_world.specs.declared.faults.WorldFault.TheVariants.{Disk}
+use Rattle.lks_world.specs.declared.seats.Seat.{Seat}
+use Rattle.lks_world.specs.declared.seats.Seat.TheVariants as seat
+use Rattle.lks_world.specs.declared.states.State.{State}
+
+-- The first peer of a number.
+
+at_front : (id : ℕ) (p : Standing) (rest : List Standing) → eqb p.own.id id ≡ true → peer_at id (p ∷ rest) ≡ Some p
+unfolding peer_at
+at_front id p rest e = rw e refl
+
+added_front : (id : ℕ) (p : Standing) (rest : List Standing) (added : List Record) → eqb p.own.id id ≡ true → with_records id added (p ∷ rest) ≡ with_added p added ∷ rest
+added_front id p rest added e = rw e refl
+
+not_front : (id : ℕ) (p : Standing) (rest : List Standing) → eqb p.own.id id ≡ false → peer_at id (p ∷ rest) ≡ peer_at id rest
+unfolding peer_at
+not_front id p rest e = rw e refl
+
+not_added : (id : ℕ) (p : Standing) (rest : List Standing) (added : List Record) → eqb p.own.id id ≡ false → with_records id added (p ∷ rest) ≡ p ∷ with_records id added rest
+not_added id p rest added e = rw e refl
+
+none_at : (id : ℕ) → peer_at id [] ≡ None
+unfolding peer_at
+none_at id = refl
+
+module _ {D : Type 0} (id : ℕ) where
+  stands_first : (s : Seat D) (ss : List (Seat D)) → is_seat_of id s ≡ true → StandsAt id (s ∷ ss) 0
+  stands_first (seat.Idle d) ss is = absurd cc
+  stands_first (seat.Host h) ss is = record {
+    host = h;
+    rank = 0;
+    within = omega arith;
+    there = refl;
+    ranked = refl;
+    found = at_front id h.peer (peers_of (hosts_of ss)) is;
+    sets = λ k. refl;
+    added = λ rs k grown. ap (λ (p : Standing). p ∷ peers_of (hosts_of ss)) grown ∙ sym (added_front id h.peer (peers_of (hosts_of ss)) rs is);
+  }
+
+  stands_behind : (s : Seat D) (ss : List (Seat D)) (place : ℕ) → is_seat_of id s ≡ false → StandsAt id ss place → StandsAt id (s ∷ ss) (suc place)
+  stands_behind (seat.Idle d) ss place other st = record {
+    host = st.host;
+    rank = st.rank;
+    within = omega (arith, st.within);
+    there = st.there;
+    ranked = st.ranked;
+    found = st.found;
+    sets = st.sets;
+    added = st.added;
+  }
+  stands_behind (seat.Host h) ss place other st = record {
+    host = st.host;
+    rank = suc st.rank;
+    within = omega (arith, st.within);
+    there = st.there;
+    ranked = st.ranked;
+    found = not_front id h.peer (peers_of (hosts_of ss)) other ∙ st.found;
+    sets = λ k. ap (λ (hs : List (Host D)). h ∷ hs) (st.sets k);
+    added = λ rs k grown. ap (λ (ps : List Standing). h.peer ∷ ps) (st.added rs k grown) ∙ sym (not_added id h.peer (peers_of (hosts_of ss)) rs other);
+  }
+
+  absent_behind : (s : Seat D) (ss : List (Seat D)) → is_seat_of id s ≡ false → IsAbsent id (peers_of (hosts_of ss)) → IsAbsent id (peers_of (hosts_of (s ∷ ss)))
+  absent_behind (seat.Idle d) ss other absent = absent
+  absent_behind (seat.Host h) ss other absent = record {
+    none = not_front id h.peer (peers_of (hosts_of ss)) other ∙ absent.none;
+    same = λ rs. not_added id h.peer (peers_of (hosts_of ss)) rs other ∙ ap (λ (ps : List Standing). h.peer ∷ ps) (absent.same rs);
+  }
+
+  record Stands (seats : List (Seat D)) (i place : ℕ) : Type 0 where
+    k : ℕ
+    is : place ≡ i + k
+    stands : StandsAt id seats k
+
+  stands_from : (seats : List (Seat D)) (i place : ℕ) → position_from (is_seat_of id) i seats ≡ Some place → Stands seats i place
+  stands_from [] i place e = absurd cc
+  stands_from (s ∷ ss) i place e = by_test (is_seat_of id s) refl e (stands_from ss (i + 1) place)
+    where
+      by_test : (b : Bool) → is_seat_of id s ≡ b → cond b (Some i) (position_from (is_seat_of id) (i + 1) ss) ≡ Some place
+          → (position_from (is_seat_of id) (i + 1) ss ≡ Some place → Stands ss (i + 1) place) → Stands (s ∷ ss) i place
+      by_test true is e later = let same : i ≡ place = some_is e in record { k = 0; is = omega (arith, same); stands = stands_first s ss is }
+      by_test false is e later = let rest = later e in record { k = suc rest.k; is = omega (arith, rest.is); stands = stands_behind s ss rest.k is rest.stands }
+
+  absent_from : (seats : List (Seat D)) (i : ℕ) → position_from (is_seat_of id) i seats ≡ None → IsAbsent id (peers_of (hosts_of seats))
+  absent_from [] i e = record { none = none_at id; same = λ rs. refl }
+  absent_from (s ∷ ss) i e = by_test (is_seat_of id s) refl e (absent_from ss (i + 1))
+    where
+      by_test : (b : Bool) → is_seat_of id s ≡ b → cond b (Some i) (position_from (is_seat_of id) (i + 1) ss) ≡ None
+          → (position_from (is_seat_of id) (i + 1) ss ≡ None → IsAbsent id (peers_of (hosts_of ss))) → IsAbsent id (peers_of (hosts_of (s ∷ ss)))
+      by_test true is e later = absurd cc
+      by_test false is e later = absent_behind s ss is (later e)
+
+  -- the first seat of a peer's number is its own
+  pub place_is : (seats : List (Seat D)) (r : Option ℕ) → r ≡ position (is_seat_of id) seats → MatchOption r (IsAbsent id (peers_of (hosts_of seats))) (StandsAt id seats)
+  place_is seats None e = absent_from seats 0 (sym (e ∙ position_from-zero (is_seat_of id) seats))
+  place_is seats (Some place) e =
+      let st = stands_from seats 0 place (sym (e ∙ position_from-zero (is_seat_of id) seats)) in
+      let same : st.k ≡ place = omega (arith, st.is) in
+      subst (StandsAt id seats) same st.stands
+
+-- the host h of the peer is on its seat
+pub record ActsAt {D : Type 0} (id : ℕ) (seats : List (Seat D)) (place : ℕ) (h : Host D) : Type 0 where
+  pub stands : StandsAt id seats place
+  pub is : stands.host ≡ h
+
+module _ {D : Type 0} (id : ℕ) (found seats : List (Seat D)) (place : ℕ) (s : Seat D) (same : found ≡ seats) (stands : StandsAt id found place) (is : s ≡ get_or seats place s) where
+  seat_read : slice_get seats place ≡ Some s
+  seat_read = slice_get-get_or seats place s (omega (arith, stands.within, ap length same)) ∙ ap Some (sym is)
+
+  stands_same : StandsAt id seats place
+  stands_same = subst (λ (ss : List (Seat D)). StandsAt id ss place) same stands
+
+  pub acts_at : (h : Host D) → s ≡ seat.Host h → ActsAt id seats place h
+  acts_at h as_host =
+      let both : Some (seat.Host stands_same.host) ≡ Some (seat.Host h) = sym stands_same.there ∙ seat_read ∙ ap Some as_host in
+      record { stands = stands_same; is = cc }
+
+  pub never_idle : (d : D) → s ≡ seat.Idle d → ⊥
+  never_idle d as_idle =
+      let both : Some (seat.Host stands_same.host) ≡ Some (seat.Idle d) = sym stands_same.there ∙ seat_read ∙ ap Some as_idle in
+      cc
+
+module _ {D : Type 0} (id : ℕ) (seats : List (Seat D)) (place : ℕ) (h : Host D) (acts : ActsAt id seats place h) where
+  pub acts_there : slice_get seats place ≡ Some (seat.Host h)
+  acts_there = acts.stands.there ∙ ap (λ (x : Host D). Some (seat.Host x)) acts.is
+
+  pub acts_ranked : slice_get (hosts_of seats) acts.stands.rank ≡ Some h
+  acts_ranked = acts.stands.ranked ∙ ap Some acts.is
+
+  pub acts_found : peer_at id (peers_of (hosts_of seats)) ≡ Some h.peer
+  acts_found = acts.stands.found ∙ ap (λ (x : Host D). Some x.peer) acts.is
+
+  pub acts_added : (added : List Record) (k : Host D) → k.peer ≡ with_added h.peer added → peers_of (hosts_of (slice_set seats place (seat.Host k))) ≡ with_records id added (peers_of (hosts_of seats))
+  acts_added added k grown = acts.stands.added added k (grown ∙ ap (λ (x : Host D). with_added x.peer added) (sym acts.is))
+
+  pub acts_on : (f : Face D) (k : Host D) → GoesOn f h k → HaveGoneOn f (hosts_of seats) (hosts_of (slice_set seats place (seat.Host k)))
+  acts_on f k on = subst (HaveGoneOn f (hosts_of seats)) (sym (acts.stands.sets k)) (one_went_on f (hosts_of seats) acts.stands.rank h k acts_ranked on)
+
+-- Whose seat it is.
+
+record IsHonest (p : PeerPlan) (id : ℕ) : Type 0 where
+  good : p.corrupt ≡ false
+  named : p.id ≡ id
+
+honest_seat : (p : PeerPlan) (id : ℕ) → Some id ≡ id_for p → IsHonest p id
+honest_seat p id is = by_kind p.corrupt refl is
+  where
+    by_kind : (b : Bool) → p.corrupt ≡ b → Some id ≡ cond b None (Some p.id) → IsHonest p id
+    by_kind true bad is = absurd cc
+    by_kind false good is = record { good = good; named = some_is (sym is) }
+
+corrupt_seat : (p : PeerPlan) → None ≡ id_for p → p.corrupt ≡ true
+corrupt_seat p is = by_kind p.corrupt refl is
+  where
+    by_kind : (b : Bool) → p.corrupt ≡ b → None ≡ cond b None (Some p.id) → p.corrupt ≡ true
+    by_kind true bad is = bad
+    by_kind false good is = absurd cc
+
+-- the disks of honest peers are those of the hosts
+pub honest_back : {D : Type 0} (peers : List PeerPlan) (seats : List (Seat D)) (rest : List D) → AreSeats peers seats → honest_disks peers (disks_at seats ++ rest) ≡ disks_of (hosts_of seats)
+honest_back [] [] rest are = refl
+honest_back [] (s ∷ ss) rest are = absurd cc
+honest_back (p ∷ ps) [] rest are = absurd cc
+honest_back (p ∷ ps) (seat.Host h ∷ ss) rest are =
+    let first : Some h.peer.own.id ≡ id_for p = cc in
+    let others : ids_at ss ≡ map id_for ps = cc in
+    rw (honest_seat p h.peer.own.id first).good (ap (λ ds. disk_in h ∷ ds) (honest_back ps ss rest others))
+honest_back (p ∷ ps) (seat.Idle d ∷ ss) rest are =
+    let first : None ≡ id_for p = cc in
+    let others : ids_at ss ≡ map id_for ps = cc in
+    rw (corrupt_seat p first) (honest_back ps ss rest others)
+
+-- the disks that were put behind the others, last first, stand first where all are turned round
+pub turned_back : {D : Type 0} (seats : List (Seat D)) (rest : List D) → reverse (rest ++ reverse (disks_at seats)) ≡ disks_at seats ++ reverse rest
+turned_back seats rest = reverse-append rest (reverse (disks_at seats)) ∙ ap (λ ds. ds ++ reverse rest) (reverse-reverse (disks_at seats))
+
+-- the disks hold what their hosts stand for
+pub disks_hold : {D : Type 0} (f : Face D) (plan : Plan) (s : State D) (rest : List D) → IsStateOf f plan s → AreSeats plan.peers s.seats.items → HaveBatches f plan (events_in s) (disks_at s.seats.items ++ rest)
+disks_hold {D = D} f plan s rest is are place disk at =
+    let hosts = hosts_of s.seats.items in
+    let there : option_map disk_in (slice_get hosts place) ≡ Some disk =
+    sym (slice_get-map disk_in hosts place) ∙ ap (λ ds. slice_get ds place) (sym (honest_back plan.peers s.seats.items rest are)) ∙ at in
+    by_host (slice_get hosts place) refl there
+  where
+    by_host : (o : Option (Host D)) → slice_get (hosts_of s.seats.items) place ≡ o → option_map disk_in o ≡ Some disk → HoldsBatches f plan (events_in s) place disk
+    by_host None e there = absurd cc
+    by_host (Some h) e there =
+        let host = is.hosts place h e in
+        let same : disk_in h ≡ disk = some_is there in
+        subst (HoldsBatches f plan (events_in s) place) same (record { holds = host.stands.disk.holds; durable = host.stands.disk.durable })
+
+module _ {D : Type 0} (f : Face D) where
+  serves_behind : (p : PeerPlan) (ps : List PeerPlan) (x : D) (xs ys : List D) (fault : Option WorldFault) → ServesHonest f ps xs ys fault → ServesHonest f (p ∷ ps) (x ∷ xs) (x ∷ ys) fault
+  serves_behind p ps x xs ys fault served =
+      elim (cases_Bool p.corrupt) [
+        | inl bad ↦ record { count = ap suc served.count; corrupt = rw bad (ap (λ ds. x ∷ ds) served.corrupt); rest = served.rest; honest = rw bad served.honest }
+        | inr good ↦ record {
+          count = ap suc served.count;
+          corrupt = rw good served.corrupt;
+          rest = served.rest;
+          honest = rw good (counted_behind f (honest_ids ps) p.id x (honest_disks ps xs) (honest_disks ps ys) fault served.honest);
+        }
+      ]
+
+  -- what was done to one disk
+  serves_one : (p : PeerPlan) (ps : List PeerPlan) (d e : D) (xs : List D) (fault : Option WorldFault) → IsServed f p d e fault → ServesHonest f (p ∷ ps) (d ∷ xs) (e ∷ xs) fault
+  serves_one p ps d e xs fault served =
+      elim (cases_Bool p.corrupt) [
+        | inl bad ↦
+            let idle = served.idle bad in record {
+              count = refl;
+              corrupt = rw bad (ap (λ y. y ∷ corrupt_disks ps xs) idle.0);
+              rest = refl;
+              honest = rw bad (untouched f (honest_ids ps) (honest_disks ps xs) fault (λ id is. let none : None ≡ Some (Disk id) = sym idle.1 ∙ is in absurd cc));
+            }
+        | inr good ↦ record {
+          count = refl;
+          corrupt = rw good refl;
+          rest = refl;
+          honest = rw good (counted_first f (honest_ids ps) p.id d e (honest_disks ps xs) fault served.fuse served.later served.cause);
+        }
+      ]
+
+  -- the same where the seats before it are taken
+  pub serves_next : (ps qs : List PeerPlan) (p : PeerPlan) (seats : List (Seat D)) (d e : D) (rest : List D) (fault : Option WorldFault) → AreSeats ps seats → IsServed f p d e fault
+      → ServesHonest f (ps ++ p ∷ qs) (disks_at seats ++ d ∷ rest) (disks_at seats ++ e ∷ rest) fault
+  serves_next [] qs p [] d e rest fault are served = serves_one p qs d e rest fault served
+  serves_next [] qs p (s ∷ ss) d e rest fault are served = absurd cc
+  serves_next (q ∷ ps) qs p [] d e rest fault are served = absurd cc
+  serves_next (q ∷ ps) qs p (s ∷ ss) d e rest fault are served =
+      let others : ids_at ss ≡ map id_for ps = cc in
+      serves_behind q (ps ++ p ∷ qs) (disk_at s) (disks_at ss ++ d ∷ rest) (disks_at ss ++ e ∷ rest) fault (serves_next ps qs p ss d e rest fault others served)
+
+  -- one host made its calls
+  module _ (h k : Host D) (fault : Option WorldFault) (fuse : f.fused (disk_in k) ≡ f.fused (disk_in h)) (later : f.faults (disk_in h) ≤ f.faults (disk_in k))
+      (cause : (id : ℕ) → fault ≡ Some (Disk id) → (h.peer.own.id ≡ id) × Rose (f.faults (disk_in h)) (f.faults (disk_in k))) where
+    served_as : (p : PeerPlan) → IsHonest p h.peer.own.id → IsServed f p (disk_in h) (disk_in k) fault
+    served_as p is = record {
+      fuse = fuse;
+      later = later;
+      cause = λ id blamed. let c = cause id blamed in (is.named ∙ c.0, c.1);
+      idle = λ bad. let both : true ≡ false = sym bad ∙ is.good in absurd cc;
+    }
+
+    serves_at : (peers : List PeerPlan) (seats : List (Seat D)) (place : ℕ) (rest : List D) → AreSeats peers seats → slice_get seats place ≡ Some (seat.Host h)
+        → ServesHonest f peers (disks_at seats ++ rest) (disks_at (slice_set seats place (seat.Host k)) ++ rest) fault
+    serves_at peers [] place rest are at = absurd cc
+    serves_at [] (s ∷ ss) place rest are at = absurd cc
+    serves_at (p ∷ ps) (seat.Idle d ∷ ss) zero rest are at = absurd cc
+    serves_at (p ∷ ps) (seat.Host x ∷ ss) zero rest are at =
+        let same : h ≡ x = cc in
+        let first : Some x.peer.own.id ≡ id_for p = cc in
+        let named : Some h.peer.own.id ≡ id_for p = ap (λ (y : Host D). Some y.peer.own.id) same ∙ first in
+        serves_one p ps (disk_in x) (disk_in k) (disks_at ss ++ rest) fault (subst (λ (y : Host D). IsServed f p (disk_in y) (disk_in k) fault) same (served_as p (honest_seat p h.peer.own.id named)))
+    serves_at (p ∷ ps) (s ∷ ss) (suc place) rest are at =
+        let others : ids_at ss ≡ map id_for ps = cc in
+        serves_behind p ps (disk_at s) (disks_at ss ++ rest) (disks_at (slice_set ss place (seat.Host k)) ++ rest) fault (serves_at ps ss place rest others at)
+
+    set-ids : (seats : List (Seat D)) (place : ℕ) → slice_get seats place ≡ Some (seat.Host h) → k.peer.own.id ≡ h.peer.own.id → ids_at (slice_set seats place (seat.Host k)) ≡ ids_at seats
+    set-ids [] place at same = refl
+    set-ids (s ∷ ss) zero at same = let first : seat.Host h ≡ s = cc in ap (λ (o : Option ℕ). o ∷ ids_at ss) (ap Some same ∙ ap id_at first)
+    set-ids (s ∷ ss) (suc place) at same = ap (λ os. id_at s ∷ os) (set-ids ss place at same)
+
+    set-fuses : (seats : List (Seat D)) (place : ℕ) → slice_get seats place ≡ Some (seat.Host h) → map f.fused (disks_at (slice_set seats place (seat.Host k))) ≡ map f.fused (disks_at seats)
+    set-fuses [] place at = refl
+    set-fuses (s ∷ ss) zero at = let first : seat.Host h ≡ s = cc in ap (λ b. b ∷ map f.fused (disks_at ss)) (fuse ∙ ap (λ (y : Seat D). f.fused (disk_at y)) first)
+    set-fuses (s ∷ ss) (suc place) at = ap (λ bs. f.fused (disk_at s) ∷ bs) (set-fuses ss place at)
+
+  blames : {T : Type 0} (id : ℕ) (result : Result T WorldFault) → fault_in result ≡ Some (Disk id) → IsErrOf result (Disk id)
+  blames id (Ok x) is = absurd cc
+  blames id (Err fault) is = ap Err (some_is is)
+
+  pub counted_one : {T : Type 0} (seats : List (Seat D)) (place : ℕ) (h k : Host D) (result : Result T WorldFault) → slice_get seats place ≡ Some (seat.Host h) → k.peer.own.id ≡ h.peer.own.id
+      → f.fused (disk_in k) ≡ f.fused (disk_in h) → f.faults (disk_in h) ≤ f.faults (disk_in k)
+      → ((id : ℕ) → IsErrOf result (Disk id) → (h.peer.own.id ≡ id) × Rose (f.faults (disk_in h)) (f.faults (disk_in k)))
+      → Counted f seats (slice_set seats place (seat.Host k)) result
+  counted_one seats place h k result there same fuse later cause =
+      let blamed : (id : ℕ) → fault_in result ≡ Some (Disk id) → (h.peer.own.id ≡ id) × Rose (f.faults (disk_in h)) (f.faults (disk_in k)) = λ id is. cause id (blames id result is) in record {
+        ids = set-ids h k (fault_in result) fuse later blamed seats place there same;
+        fuses = set-fuses h k (fault_in result) fuse later blamed seats place there;
+        serves = λ peers rest are. serves_at h k (fault_in result) fuse later blamed peers seats place rest are there;
+      }
+
+  -- no call was made
+  pub counted_same : {T : Type 0} (seats : List (Seat D)) (result : Result T WorldFault) → ((id : ℕ) → IsErrOf result (Disk id) → ⊥) → Counted f seats seats result
+  counted_same seats result none = record {
+    ids = refl;
+    fuses = refl;
+    serves = λ peers rest are. serves_none f peers (disks_at seats ++ rest) (fault_in result) (λ id is. none id (blames id result is));
+  }
+
+  pub counted_start : (seats : List (Seat D)) → Counted {T = Unit {0}} f seats seats (Ok tt)
+  counted_start seats = counted_same {T = Unit {0}} seats (Ok tt) (λ id is. cc)
+
+  -- calls after calls
+  pub counted_then : {S T : Type 0} (xs ys zs : List (Seat D)) (before : Result S WorldFault) (result : Result T WorldFault) → Counted f xs ys before → Counted f ys zs result → Counted f xs zs result
+  counted_then xs ys zs before result first next = record {
+    ids = next.ids ∙ first.ids;
+    fuses = next.fuses ∙ first.fuses;
+    serves = λ peers rest are.
+        serves_then f peers (disks_at xs ++ rest) (disks_at ys ++ rest) (disks_at zs ++ rest) (fault_in result)
+        (serves_unblamed f peers (disks_at xs ++ rest) (disks_at ys ++ rest) (fault_in before) (first.serves peers rest are))
+        (next.serves peers rest (first.ids ∙ are));
+  }
+
+  -- the fuses of all disks
+  pub fuses_joined : (xs ys rest : List D) → map f.fused ys ≡ map f.fused xs → map f.fused (ys ++ rest) ≡ map f.fused (xs ++ rest)
+  fuses_joined xs ys rest same = map-append f.fused ys rest ∙ ap (λ bs. bs ++ map f.fused rest) same ∙ sym (map-append f.fused xs rest)

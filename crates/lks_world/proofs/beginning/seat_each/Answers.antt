@@ -1,0 +1,59 @@
+use Rattle.std.proofs.Common.{◌+◌, ◌++◌, ap, length, arith, take, drop}
+use Rattle.std.specs.Prelude.{reverse}
+use Rattle.std.proofs.lemmas.Result.{err_from_is_err_and}
+use Rattle.lks_world.proofs.BeginLaws.{made_start, made_more, peer_at_place, next_done, all_parts, served_then}
+use Rattle.lks_world.specs.Seats.{disks_at}
+use Rattle.lks_world.proofs.beginning.seat_each.Goals as goal
+
+pub loop-p-init : goal.loop-p-init
+loop-p-init g c = record {
+  made = made_start g.D.Disk.face c.args.plan.now c.args.disks.now.items c.args.seats.now.items c.requires.none c.requires.fresh;
+  count = c.requires.none_there;
+  enough = omega (arith, c.requires.enough);
+  room = c.requires.room;
+  disk_room = omega (arith, c.requires.none_there, c.args.disks.now.ok.1);
+}
+
+pub loop-p-preserved : goal.loop-p-preserved
+loop-p-preserved g c =
+    let peers = c.args.plan.now.peers in
+    let items = c.as_slice-p-items.result.now in
+    let same = c.as_slice-p-items.ensures in
+    let i = c.loop-p.p-index in
+    let p = c.p-item.result in
+    let was = c.loop-p.invariant in
+    let done = c.in_ok-seat_next.ensures in
+    record {
+      made =
+          made_more g.D.Disk.face c.args.plan.now c.args.disks.now.items c.loop-p.seats.items c.seat_next.new.seats.items c.loop-p.disks.items c.seat_next.new.disks.items p (take i peers) (drop (i + 1) peers) (take (i + 1) peers)
+          was.made done.seated done.fresh done.serves done.fuses (all_parts items peers same i p c.loop-p-test.true c.p-item.is) (next_done items peers same i p c.loop-p-test.true c.p-item.is);
+      count = omega (arith, was.count, done.one_more);
+      enough = omega (arith, was.enough, done.one_less);
+      room = omega (arith, was.room, done.rooms.0);
+      disk_room = omega (arith, was.disk_room, done.len, done.rooms.1);
+    }
+
+pub seat_next-requires-clause-planned : goal.seat_next-requires-clause-planned
+seat_next-requires-clause-planned g c = λ κs lives honest.
+    peer_at_place c.args.plan.now c.requires.good c.as_slice-p-items.result.now c.as_slice-p-items.ensures c.loop-p.p-index c.p-item.result c.loop-p-test.true c.p-item.is honest
+
+pub seat_next-requires-clause-some : goal.seat_next-requires-clause-some
+seat_next-requires-clause-some g c = λ κs lives. omega (arith, c.loop-p.invariant.enough, c.loop-p-test.true, ap length c.as_slice-p-items.ensures)
+
+pub seat_next-requires-clause-room : goal.seat_next-requires-clause-room
+seat_next-requires-clause-room g c = λ κs lives. omega (arith, c.loop-p.invariant.room, c.loop-p.invariant.count, c.loop-p-test.true, ap length c.as_slice-p-items.ensures)
+
+pub returns-in_err-seat_next-clause-serves : goal.returns-in_err-seat_next-clause-serves
+returns-in_err-seat_next-clause-serves g c =
+    let f = g.D.Disk.face in
+    let peers = c.args.plan.now.peers in
+    let items = c.as_slice-p-items.result.now in
+    let same = c.as_slice-p-items.ensures in
+    let i = c.loop-p.p-index in
+    let p = c.p-item.result in
+    let e = err_from_is_err_and c.from_residual.result c.from_residual.ensures.1 in
+    let middle = disks_at c.loop-p.seats.items ++ reverse c.loop-p.disks.items in
+    let after = disks_at c.seat_next.new.seats.items ++ reverse c.seat_next.new.disks.items in
+    rw (e.1, e.2)
+    (served_then f peers (take i peers) (drop (i + 1) peers) p (reverse c.args.disks.now.items) middle after c.loop-p.invariant.made.serves
+    (all_parts items peers same i p c.loop-p-test.true c.p-item.is) (c.in_err-seat_next.ensures.serves (take i peers) (drop (i + 1) peers) c.loop-p.invariant.made.placed))

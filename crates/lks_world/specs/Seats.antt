@@ -1,0 +1,68 @@
+-- The seats of a world, one for each peer of its plan in order: an honest peer's host, or the idle disk of a corrupt one.
+use Rattle.std.specs.Prelude.{◌≡◌, ◌<◌, ◌==◌, ◌++◌, ℕ, Bool, false, if◌then◌else◌, Option, Some, None, List, length, map, slice_get, slice_set, Result}
+use Rattle.std.specs.List.{filter_map}
+use Rattle.lks_disk.specs.Face.{Face}
+use Rattle.lks_base.specs.declared.plans.PeerPlan.{PeerPlan}
+use Rattle.lks_base.specs.declared.records.Record.{Record}
+use Rattle.lks_host.specs.declared.hosts.Host.{Host}
+use Rattle.lks_law.specs.World.{peer_at, with_records}
+use Rattle.lks_world.specs.Counts.{fault_in, ServesHonest}
+use Rattle.lks_world.specs.Hosts.{peers_of, with_added}
+use Rattle.lks_world.specs.declared.faults.WorldFault.{WorldFault}
+use Rattle.lks_world.specs.declared.seats.Seat.{Seat}
+use Rattle.lks_world.specs.declared.seats.Seat.TheVariants as seat
+
+abbrev pub host_at : {D : Type 0} → Seat D → Option (Host D)
+host_at (seat.Host h) = Some h
+host_at (seat.Idle d) = None
+
+-- the hosts, in order
+abbrev pub hosts_of : {D : Type 0} → List (Seat D) → List (Host D)
+hosts_of seats = filter_map host_at seats
+
+abbrev pub disk_at : {D : Type 0} → Seat D → D
+disk_at (seat.Host h) = h.journal.disk
+disk_at (seat.Idle d) = d
+
+-- the disks, in order
+abbrev pub disks_at : {D : Type 0} → List (Seat D) → List D
+disks_at seats = map disk_at seats
+
+-- the number of the peer whose host is there
+abbrev pub id_at : {D : Type 0} → Seat D → Option ℕ
+id_at (seat.Host h) = Some h.peer.own.id
+id_at (seat.Idle d) = None
+
+abbrev pub ids_at : {D : Type 0} → List (Seat D) → List (Option ℕ)
+ids_at seats = map id_at seats
+
+-- whether the host of this peer is there
+abbrev pub is_seat_of : {D : Type 0} → ℕ → Seat D → Bool
+is_seat_of id (seat.Host h) = h.peer.own.id == id
+is_seat_of id (seat.Idle d) = false
+
+-- whose host is on the seat of a peer: an honest one's own, a corrupt one's nobody's
+abbrev pub id_for : PeerPlan → Option ℕ
+id_for p = if p.corrupt then None else Some p.id
+
+-- these are the seats of the peers
+abbrev pub AreSeats : {D : Type 0} → List PeerPlan → List (Seat D) → Type 0
+AreSeats peers seats = ids_at seats ≡ map id_for peers
+
+-- The seats stay those of their peers, no fuse is set or ended, and what became of the disks is what calls on those of honest
+-- peers may do, whatever disks lie behind them.
+pub record Counted {D T : Type 0} (f : Face D) (before after : List (Seat D)) (result : Result T WorldFault) : Type 0 where
+  pub ids : ids_at after ≡ ids_at before
+  pub fuses : map f.fused (disks_at after) ≡ map f.fused (disks_at before)
+  pub serves : (peers : List PeerPlan) (rest : List D) → AreSeats peers before → ServesHonest f peers (disks_at before ++ rest) (disks_at after ++ rest) (fault_in result)
+
+-- The peer's host is on this seat, the host of this rank; its records are added there, and nothing else changes.
+pub record StandsAt {D : Type 0} (id : ℕ) (seats : List (Seat D)) (place : ℕ) : Type 0 where
+  pub host : Host D
+  pub rank : ℕ
+  pub within : place < length seats
+  pub there : slice_get seats place ≡ Some (seat.Host host)
+  pub ranked : slice_get (hosts_of seats) rank ≡ Some host
+  pub found : peer_at id (peers_of (hosts_of seats)) ≡ Some host.peer
+  pub sets : (k : Host D) → hosts_of (slice_set seats place (seat.Host k)) ≡ slice_set (hosts_of seats) rank k
+  pub added : (added : List Record) (k : Host D) → k.peer ≡ with_added host.peer added → peers_of (hosts_of (slice_set seats place (seat.Host k))) ≡ with_records id added (peers_of (hosts_of seats))
