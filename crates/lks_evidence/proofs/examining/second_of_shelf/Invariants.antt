@@ -1,0 +1,6 @@
+use Rattle.std.proofs.Common.{◌≡◌, [], drop, take}
+use Rattle.lks_evidence.specs.Search.{each, second_at}
+use Rattle.lks_evidence.proofs.examining.second_of_shelf.Given as goal
+
+abbrev pub invariant-loop-i : goal.invariant-loop-i
+invariant-loop-i l = each (second_at l.plan l.set l.shelf) (take l.i l.journal) (drop l.i l.journal) ≡ each (second_at l.plan l.set l.shelf) [] l.journal

@@ -1,0 +1,7 @@
+pub mod Holding
+pub mod Parts
+pub mod Records
+pub mod Restoring
+pub mod Rules
+pub mod Search
+pub mod Sizes

@@ -1,0 +1,206 @@
+//! The search for the first doubt.
+
+ghost use Rattle.std.specs.Prelude.{◌≡◌, ◌≤◌, ◌↔◌, IfOk, All, [], length};
+ghost use Rattle.lks_evidence.specs.Holding.{IsYes, SetHolds};
+ghost use Rattle.lks_evidence.specs.Search.{each, doubt_at, all_repairs, finding};
+ghost use Rattle.lks_evidence.specs.Search as search_of;
+ghost use Rattle.lks_evidence.specs.Rules as rules;
+ghost use Rattle.lks_evidence.specs.Sizes.{IsShort, IsSmall, most_records};
+
+use crate::findings::{Doubt, Finding, Shelf, Why};
+use crate::polls::doubt_poll;
+use crate::records::{Repair, as_repair, count_deposits, count_repairs};
+use crate::voters::{count_deposited, is_deposited};
+use lks_base::{AuPlan, OutOfMemory, PeerId, Plan, Record, has_honest};
+use std::alloc::Global;
+
+fn has_shelf(shelves: &[Shelf], peer: PeerId) -> bool
+    ensures { result ≡ rules.has_shelf shelves.now peer }
+{
+    shelves.iter().any(|s| s.peer == peer)
+}
+
+/// Whether a peer may have a shelf: an honest one, that has none before.
+#[tactic(auto, unfolding(crate::specs::Rules::is_new))]
+fn is_new(plan: &Plan, earlier: &[Shelf], peer: PeerId) -> bool
+    ensures { result ≡ rules.is_new plan.now earlier.now peer }
+{
+    has_honest(plan.peers.as_slice(), peer) && !has_shelf(earlier, peer)
+}
+
+/// Whether the AU is deposited before the place and nowhere else in the journal, and has the block.
+#[tactic(auto, unfolding(crate::specs::Rules::is_held))]
+fn is_held(aus: &[AuPlan], journal: &[Record], before: &[Record], r: &Repair<'_>) -> bool
+    ensures { result ≡ rules.is_held aus.now journal.now before.now r.now }
+{
+    is_deposited(aus, r.au, before)
+        && (count_deposits(journal, r.au) == 1
+            && (r.block as usize) < count_deposited(before, r.au))
+}
+
+/// A doubt of this peer's journal, at the place after these records.
+#[tactic(auto, unfolding(crate::specs::Sizes::most_records))]
+fn doubt_at(peer: PeerId, before: &[Record], why: Option<Why>) -> Option<Doubt>
+    requires { length before.now ≤ most_records }
+    ensures { result ≡ doubt_at peer (length before.now) why }
+{
+    match why {
+        Some(why) => Some(Doubt {
+            peer,
+            place: before.len() as u32,
+            why,
+        }),
+        None => None,
+    }
+}
+
+#[tactic(auto, unfolding(crate::specs::Search::held_doubt))]
+fn doubt_held(plan: &Plan, journal: &[Record], before: &[Record], item: &Record) -> Option<Why>
+    ensures { result ≡ search_of.held_doubt plan.now journal.now before.now item.now }
+{
+    match as_repair(item) {
+        Some(r) if !is_held(plan.aus.as_slice(), journal, before, &r) => Some(Why::Copy),
+        Some(_) | None => None,
+    }
+}
+
+/// The first round over one shelf.
+#[tactic(auto, unfolding(crate::specs::Search::first_of_shelf))]
+fn first_of_shelf(plan: &Plan, earlier: &[Shelf], shelf: &Shelf) -> Option<Doubt>
+    requires { IsShort shelf.now }
+    ensures { result ≡ search_of.first_of_shelf plan.now earlier.now shelf.now }
+{
+    let peer = shelf.peer;
+    if !is_new(plan, earlier, peer) {
+        return Some(Doubt {
+            peer,
+            place: 0,
+            why: Why::Peer,
+        });
+    }
+    let journal = shelf.list.as_slice();
+    for (i, item) in journal.iter().enumerate() {
+        let before = &journal[..i];
+        let doubt = doubt_at(peer, before, doubt_held(plan, journal, before, item));
+        if doubt.is_some() {
+            return doubt;
+        }
+    }
+    None
+}
+
+#[tactic(auto, unfolding(crate::specs::Search::repair_doubt))]
+fn doubt_repair(
+    alloc: Global,
+    plan: &Plan,
+    set: &[Shelf],
+    poller: PeerId,
+    before: &[Record],
+    item: &Record,
+) -> Result<Option<Why>, OutOfMemory>
+    ensures { IfOk result (λ why. why ≡ search_of.repair_doubt plan.now set.now poller before.now item.now) }
+{
+    match as_repair(item) {
+        Some(r) => doubt_poll(alloc, plan, set, poller, before, &r),
+        None => Ok(None),
+    }
+}
+
+/// The second round over one shelf.
+#[tactic(auto, unfolding(crate::specs::Search::second_of_shelf))]
+fn second_of_shelf(
+    alloc: Global,
+    plan: &Plan,
+    set: &[Shelf],
+    earlier: &[Shelf],
+    shelf: &Shelf,
+) -> Result<Option<Doubt>, OutOfMemory>
+    requires { IsShort shelf.now }
+    ensures { IfOk result (λ doubt. doubt ≡ search_of.second_of_shelf plan.now set.now earlier.now shelf.now) }
+{
+    let peer = shelf.peer;
+    let journal = shelf.list.as_slice();
+    for (i, item) in journal.iter().enumerate() {
+        let before = &journal[..i];
+        let why = doubt_repair(alloc, plan, set, peer, before, item)?;
+        let doubt = doubt_at(peer, before, why);
+        if doubt.is_some() {
+            return Ok(doubt);
+        }
+    }
+    Ok(None)
+}
+
+/// The first round over all shelves.
+fn first_round(plan: &Plan, set: &[Shelf]) -> Option<Doubt>
+    requires { All IsShort set.now }
+    ensures { result ≡ each (search_of.first_of_shelf plan.now) [] set.now }
+{
+    for (k, shelf) in set.iter().enumerate() {
+        let doubt = first_of_shelf(plan, &set[..k], shelf);
+        if doubt.is_some() {
+            return doubt;
+        }
+    }
+    None
+}
+
+/// The second round over all shelves.
+fn second_round(alloc: Global, plan: &Plan, set: &[Shelf]) -> Result<Option<Doubt>, OutOfMemory>
+    requires { All IsShort set.now }
+    ensures { IfOk result (λ doubt. doubt ≡ each (search_of.second_of_shelf plan.now set.now) [] set.now) }
+{
+    for (k, shelf) in set.iter().enumerate() {
+        let doubt = second_of_shelf(alloc, plan, set, &set[..k], shelf)?;
+        if doubt.is_some() {
+            return Ok(doubt);
+        }
+    }
+    Ok(None)
+}
+
+/// How many blocks were replaced in all journals.
+fn count_all(set: &[Shelf]) -> u32
+    requires { IsSmall set.now }
+    ensures { result ≡ all_repairs set.now }
+{
+    let mut replaced = 0;
+    for shelf in set {
+        replaced += count_repairs(&shelf.list) as u32;
+    }
+    replaced
+}
+
+#[tactic(auto, unfolding(crate::specs::Search::first_doubt))]
+fn find_doubt(alloc: Global, plan: &Plan, set: &[Shelf]) -> Result<Option<Doubt>, OutOfMemory>
+    requires { All IsShort set.now }
+    ensures { IfOk result (λ doubt. doubt ≡ search_of.first_doubt plan.now set.now) }
+{
+    let doubt = first_round(plan, set);
+    if doubt.is_some() {
+        return Ok(doubt);
+    }
+    second_round(alloc, plan, set)
+}
+
+/// Examines journals, each the records of one peer, oldest first, and trusts the plan alone: whoever wrote them, `Yes` says
+/// of each replaced block in them that a poll stands behind it (Maniatis et al., ACM TOCS 23(1), 2005, section 4). The
+/// poll was on this AU and was over; at least its quorum of distinct peers of its inner circle had voted; a minority at
+/// most of these votes was for the block as it was, and a minority at most is against the block as it became. And where a
+/// voter's journal is there too, it bears out the vote: it names the version of the copy whose hashes these are.
+///
+/// `No` has the first rule that fails, in two rounds over the journals and their places. Any want of memory, and that
+/// alone, is answered by `OutOfMemory`.
+#[tactic(auto, unfolding(crate::specs::Search::finding))]
+pub fn examine(alloc: Global, plan: &Plan, set: &[Shelf]) -> Result<Finding, OutOfMemory>
+    requires { IsSmall set.now }
+    ensures finding { IfOk result (λ f. f ≡ finding plan.now set.now) }
+    ensures yes { IfOk result (λ f. IsYes f ↔ SetHolds plan.now set.now) }
+{
+    match find_doubt(alloc, plan, set)? {
+        Some(doubt) => Ok(Finding::No(doubt)),
+        None => Ok(Finding::Yes {
+            replaced: count_all(set),
+        }),
+    }
+}

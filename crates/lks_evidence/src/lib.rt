@@ -1,0 +1,38 @@
+//! A checker of finished journals, which trusts the plan alone.
+//!
+//! In a sampled poll (Maniatis et al., ACM TOCS 23(1), 2005, section 4) a peer replaces a block of its copy where its voters
+//! are against the block and for the one that a voter sent. [`examine`] reads the journals that peers left and says whether
+//! each replaced block in them has such votes behind it. It counts from the records alone, and hashes every copy afresh: it
+//! shares nothing with the peers but the definitions. Where a voter's journal is there too, its vote has to be the one over
+//! the version of its copy to which that journal commits it.
+//!
+//! ```rust
+//! use lks_base::{OutOfMemory, Plan};
+//! use lks_evidence::{Finding, Shelf, examine};
+//! use std::alloc::Global;
+//!
+//! fn is_evidenced(alloc: Global, plan: &Plan, set: &[Shelf]) -> Result<bool, OutOfMemory>
+//!     requires { IsSmall set.now }
+//!     ensures { IfOk result (λ yes. IsTrue yes ↔ SetHolds plan.now set.now) }
+//! {
+//!     Ok(matches!(examine(alloc, plan, set)?, Finding::Yes { .. }))
+//! }
+//! ```
+#![tactic(auto)]
+
+mod copies;
+mod examining;
+mod findings;
+mod hashing;
+mod laws;
+mod polls;
+mod records;
+#[cfg(test)]
+mod tests;
+mod voters;
+
+pub use examining::examine;
+pub use findings::{Doubt, Finding, Shelf, Why};
+pub use laws::{
+    every_count_is_told, every_part_holds, every_repair_restores, every_replacement_has_evidence,
+};
