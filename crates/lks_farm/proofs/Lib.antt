@@ -1,0 +1,6 @@
+pub mod Closing
+pub mod Gathering
+pub mod Holding
+pub mod Moves
+pub mod Orders
+pub mod Seating

@@ -1,0 +1,4 @@
+pub mod Entries
+pub mod Ends
+pub mod Seats
+pub mod Sharing
