@@ -1,23 +1,23 @@
 -- What a peer's journal begins with is in its limits, and is short.
-use Rattle.std.proofs.Common.{◌≡◌, ◌≤◌, ◌==◌, ◌∙◌, sym, ℕ, Bool, true, false, cond, List, [], ◌∷◌, length, refl, arith}
-use Rattle.std.specs.Prelude.{Some, None, ◌&&◌, nat_le, find, filter, slice_get, All}
+use Rattle.std.proofs.Common.{◌≡◌, ◌≤◌, ◌==◌, ◌∙◌, ap, sym, subst, ℕ, Bool, true, false, cond, List, [], ◌∷◌, length, refl, arith}
+use Rattle.std.specs.Prelude.{Option, Some, None, Result, Ok, Err, IfOk, OnErr, option_map, find, filter, slice_get, All}
 use Rattle.std.specs.List.{filter_map, cons_option, position_or_len}
-use Rattle.std.proofs.lemmas.Bool.{le-leb, leb-true}
 use Rattle.std.proofs.lemmas.List.{length-append}
 use Rattle.std.proofs.lemmas.List.Elements.{All-nil, All-cons, All-append, All-head, All-tail}
 use Rattle.std.proofs.lemmas.List.Folds.{find_at}
-use Rattle.std.proofs.lemmas.List.Sums.{list_all-from_AllPass}
-use Rattle.lks_base.proofs.PlanLaws.{no_first, stands}
-use Rattle.lks_base.specs.Checking.{is_within, are_bounded, plan_fault}
+use Rattle.lks_base.specs.Checking.{plan_fault}
 use Rattle.lks_base.specs.declared.plans.AuPlan.{AuPlan}
 use Rattle.lks_base.specs.declared.plans.Holding.{Holding}
 use Rattle.lks_base.specs.declared.plans.PeerPlan.{PeerPlan}
 use Rattle.lks_base.specs.declared.plans.Plan.{Plan}
 use Rattle.lks_base.specs.declared.records.Record.{Record}
-use Rattle.lks_base.specs.declared.records.Record.TheVariants.{Deposit, Asked}
+use Rattle.lks_base.specs.declared.records.Record.TheVariants.{Deposit}
 use Rattle.lks_base.proofs.PlanBounds.{few_aus, one_copy, sound_copy}
-use Rattle.lks_law.specs.World.{deposit_for, deposits}
-use Rattle.lks_peer.specs.Small.{is_small, are_small}
+use Rattle.lks_law.specs.Fitting.{Fits, AreFitting}
+use Rattle.lks_law.specs.Polls.{Station}
+use Rattle.lks_law.specs.State.{State, after, blank}
+use Rattle.lks_law.specs.World.{deposit_for, deposits, honest_peer, is_honest_at, station_of, standing_of}
+use Rattle.lks_peer.specs.Knows.{Knowing, knowing_of}
 use Rattle.lks_record.specs.Spelling.{IsWithin}
 
 -- what is found stands in the list
@@ -30,37 +30,88 @@ found_at q xs p found = (position_or_len q xs, sym (find_at q xs) ∙ found)
 abbrev IsSound : Holding → Type 0
 IsSound c = (1 ≤ length c.blocks) × (length c.blocks ≤ 512) × All (λ b. length b ≤ 16384) c.blocks
 
-deposited : (b : Bool) (au : AuPlan) (c : Holding) (rest : List Record) → IsSound c → All IsWithin rest → All IsWithin (cons_option (cond b (Some (Deposit au.id c.blocks)) None) rest)
-deposited true au c rest sound later = All-cons IsWithin (Deposit au.id c.blocks) rest sound later
-deposited false au c rest sound later = later
+deposit_each : (P : Record → Type 0) → (b : Bool) (au : AuPlan) (c : Holding) (rest : List Record) → P (Deposit au.id c.blocks) → All P rest → All P (cons_option (cond b (Some (Deposit au.id c.blocks)) None) rest)
+deposit_each P true au c rest is later = All-cons P (Deposit au.id c.blocks) rest is later
+deposit_each P false au c rest is later = later
 
-copies_within : (au : AuPlan) (copies : List Holding) → All IsSound copies → All IsWithin (filter_map (deposit_for au) copies)
-copies_within au [] sound = All-nil IsWithin
-copies_within au (c ∷ cs) sound =
-    deposited (c.au == au.id) au c (filter_map (deposit_for au) cs) (All-head IsSound c cs sound) (copies_within au cs (All-tail IsSound c cs sound))
+module _ (P : Record → Type 0) (each : (au : AuPlan) (c : Holding) → IsSound c → P (Deposit au.id c.blocks)) where
+  copies_each : (au : AuPlan) (copies : List Holding) → All IsSound copies → All P (filter_map (deposit_for au) copies)
+  copies_each au [] sound = All-nil P
+  copies_each au (c ∷ cs) sound =
+      deposit_each P (c.au == au.id) au c (filter_map (deposit_for au) cs) (each au c (All-head IsSound c cs sound)) (copies_each au cs (All-tail IsSound c cs sound))
 
-deposits_within : (aus : List AuPlan) (copies : List Holding) → All IsSound copies → All IsWithin (deposits aus copies)
-unfolding deposits
-deposits_within [] copies sound = All-nil IsWithin
-deposits_within (au ∷ aus) copies sound =
-    All-append IsWithin (filter_map (deposit_for au) copies) (deposits aus copies) (copies_within au copies sound) (deposits_within aus copies sound)
+  deposits_each : (aus : List AuPlan) (copies : List Holding) → All IsSound copies → All P (deposits aus copies)
+  unfolding deposits
+  deposits_each [] copies sound = All-nil P
+  deposits_each (au ∷ aus) copies sound =
+      All-append P (filter_map (deposit_for au) copies) (deposits aus copies) (copies_each au copies sound) (deposits_each aus copies sound)
+
+  -- what holds of each deposit of such a copy holds of those of a good plan's peer
+  begun_each : (plan : Plan) → plan_fault plan ≡ None → (q : PeerPlan → Bool) (p : PeerPlan) → find q plan.peers ≡ Some p → All P (deposits plan.aus p.copies)
+  begun_each plan good q p found =
+      let at = found_at q plan.peers p found in
+      deposits_each plan.aus p.copies (sound_copy plan good at.0 p at.1)
 
 -- the records that the journal of a good plan's peer begins with are in their limits
 pub begun_within : (plan : Plan) → plan_fault plan ≡ None → (q : PeerPlan → Bool) (p : PeerPlan) → find q plan.peers ≡ Some p → All IsWithin (deposits plan.aus p.copies)
-begun_within plan good q p found =
-    let at = found_at q plan.peers p found in
-    deposits_within plan.aus p.copies (sound_copy plan good at.0 p at.1)
+begun_within plan good q p found = begun_each IsWithin (λ au c sound. sound) plan good q p found
 
-within_small : (r : Record) → IsWithin r → is_small r ≡ true
-within_small (Deposit au blocks) within = le-leb (length blocks) 512 within.1
-within_small (Asked number block voter) within = le-leb block 511 within
-within_small _ within = refl
+-- and fit its state one after another
 
--- no copy among them has more blocks than an AU
-pub begun_small : (plan : Plan) → plan_fault plan ≡ None → (q : PeerPlan → Bool) (p : PeerPlan) → find q plan.peers ≡ Some p → are_small (deposits plan.aus p.copies) ≡ true
-begun_small plan good q p found =
-    let within = begun_within plan good q p found in
-    list_all-from_AllPass is_small (deposits plan.aus p.copies) (λ k d lt. within_small _ (within k d lt))
+abbrev IsDeposit : Record → Type 0
+IsDeposit (Deposit au blocks) = (1 ≤ length blocks) × (length blocks ≤ 512)
+IsDeposit _ = ⊥
+
+fit_each : (own : Station) (s : State) (list : List Record) → s.polls ≡ [] → All IsDeposit list → AreFitting own s list
+unfolding after
+fit_each own s [] none all = tt
+fit_each own s (r ∷ rs) none all =
+    by_record r (All-head IsDeposit r rs all) (λ still. fit_each own (after own s r) rs still (All-tail IsDeposit r rs all))
+  where
+    by_record : (r : Record) → IsDeposit r → ((after own s r).polls ≡ [] → AreFitting own (after own s r) rs) → Fits own s r × AreFitting own (after own s r) rs
+    by_record (Deposit au blocks) is later = ((is, none), later none)
+    by_record _ is later = absurd is
+
+-- the deposits of an honest peer of a good plan fit
+pub begun_fitting : (plan : Plan) (id : ℕ) (q : PeerPlan) (list : List Record) → plan_fault plan ≡ None → honest_peer id plan ≡ Some q → list ≡ deposits plan.aus q.copies
+    → (p : PeerPlan) → honest_peer id plan ≡ Some p → AreFitting (station_of plan p) (blank (station_of plan p)) list
+begun_fitting plan id q list good found are p there =
+    let same : q ≡ p = some_is (sym found ∙ there) in
+    subst (λ (x : PeerPlan). AreFitting (station_of plan x) (blank (station_of plan x)) list) same
+    (subst (AreFitting (station_of plan q) (blank (station_of plan q))) (sym are)
+    (fit_each (station_of plan q) (blank (station_of plan q)) (deposits plan.aus q.copies) refl (begun_each IsDeposit (λ au c sound. (sound.0, sound.1)) plan good (is_honest_at id) q found)))
+  where
+    some_is : {x y : PeerPlan} → Some x ≡ Some y → x ≡ y
+    some_is e = cc
+
+-- what is made of a peer that is found
+pub option_at : {X : Type 0} (made : PeerPlan → X) (o : Option PeerPlan) (q : PeerPlan) (x : X) → o ≡ Some q → option_map made o ≡ Some x → x ≡ made q
+option_at made None q x there is = absurd cc
+option_at made (Some p) q x there is =
+    let same : p ≡ q = cc in
+    let made_is : made p ≡ x = cc in
+    sym made_is ∙ ap made same
+
+-- what holds of a value holds of the answer that is it
+pub on_ok : {A E : Type 0} (P : A → Type 0) (answer : Result A E) (a : A) → answer ≡ Ok a → P a → IfOk answer P
+on_ok P answer a is holds = subst (λ r. IfOk r P) (sym is) holds
+
+-- where nothing was begun nothing is made; else what was made is told by what was begun
+pub of_begun : {A B E F : Type 0} (P P' : A → Type 0) (Q Q' : B → A → Type 0) (G : B → Type 0) (begun : Result A E) (made : Result B F) (fault : F) → OnErr begun (made ≡ Err fault)
+    → IfOk begun P → IfOk begun P' → IfOk made (λ b. IfOk begun (Q b)) → IfOk made (λ b. IfOk begun (Q' b)) → ((a : A) (b : B) → P a → P' a → Q b a → Q' b a → G b) → IfOk made G
+of_begun P P' Q Q' G (Ok a) (Ok b) fault unmade p p' q q' told = told a b p p' q q'
+of_begun P P' Q Q' G (Ok a) (Err e) fault unmade p p' q q' told = tt
+of_begun P P' Q Q' G (Err e) (Ok b) fault unmade p p' q q' told = let no : Ok b ≡ Err fault = unmade in absurd cc
+of_begun P P' Q Q' G (Err e) (Err f) fault unmade p p' q q' told = tt
+
+-- and so it stands with them
+pub begun_knowing : (plan : Plan) (pool : List ℕ) (o : Option PeerPlan) (q : PeerPlan) (list : List Record) (peer : Knowing) → o ≡ Some q → list ≡ deposits plan.aus q.copies
+    → option_map (λ p. knowing_of pool (record { own = station_of plan p; journal = list })) o ≡ Some peer → option_map (λ p. knowing_of pool (standing_of plan p)) o ≡ Some peer
+begun_knowing plan pool None q list peer there are is = absurd cc
+begun_knowing plan pool (Some p) q list peer there are is =
+    let same : p ≡ q = cc in
+    let deposited : list ≡ deposits plan.aus p.copies = are ∙ ap (λ (x : PeerPlan). deposits plan.aus x.copies) (sym same) in
+    ap (λ (js : List Record). Some (knowing_of pool (record { own = station_of plan p; journal = js }))) (sym deposited) ∙ is
 
 -- ---- number
 
@@ -91,21 +142,3 @@ begun_few plan good q p found =
     let at = found_at q plan.peers p found in
     let each : length (deposits plan.aus p.copies) ≤ length plan.aus = length-deposits plan.aus p.copies (λ au. one_copy plan good at.0 p at.1 au.id) in
     omega (arith, each, few_aus plan good)
-
--- ---- rules
-
-third : (a b c d e f g h i j : Bool) → (a && b && c && d && e && f && g && h && i && j) ≡ true → c ≡ true
-third true true true d e f g h i j all = refl
-third true true false d e f g h i j all = all
-third true false c d e f g h i j all = absurd cc
-third false b c d e f g h i j all = absurd cc
-
--- an outer circle has at most 16 peers
-pub few_outer : (plan : Plan) → plan_fault plan ≡ None → plan.rules.outer ≤ 16
-unfolding plan_fault are_bounded
-few_outer plan good =
-    let r = plan.rules in
-    leb-true r.outer 16
-    (third (is_within 1 16 r.inner) (nat_le 1 r.quorum) (nat_le r.outer 16) (nat_le r.repairs 512) (nat_le r.pace 1000000)
-    (nat_le r.refractory 1000000) (nat_le r.overdue 1000000) (nat_le r.unknown_pct 100) (nat_le r.debt_pct 100) (nat_le r.churn 16)
-    (stands _ _ (no_first _ _ good)))

@@ -9,9 +9,8 @@ use Rattle.lks_disk.specs.Face.{Face, HasLost}
 use Rattle.lks_field.proofs.Frames.{frames_push}
 use Rattle.lks_field.specs.Frames.{frame, frames, HoldsBodies}
 use Rattle.lks_host.proofs.Adding.{bodies_more}
-use Rattle.lks_host.proofs.Standing.{read_more}
+use Rattle.lks_host.proofs.Standing.{fit_behind, read_more}
 use Rattle.lks_host.specs.Bodies.{bodies_of, ReadBack, last_batch}
-use Rattle.lks_host.specs.Fits.{IsFit}
 use Rattle.lks_host.specs.Hosted.{StandsFor, LiesOn}
 use Rattle.lks_host.specs.Recovering.{Recovers}
 use Rattle.lks_host.specs.declared.hosts.Host.{Host}
@@ -19,8 +18,8 @@ use Rattle.lks_host.specs.declared.outcomes.Recovered.{Recovered}
 use Rattle.lks_journal.specs.Adding.{KeepsOrAdds}
 use Rattle.lks_journal.specs.declared.faults.JournalFault.{JournalFault}
 use Rattle.lks_journal.specs.declared.faults.JournalFault.TheVariants.{Cut}
-use Rattle.lks_law.proofs.Batches.{batch_more}
 use Rattle.lks_law.specs.Batches.{with_batch}
+use Rattle.lks_law.specs.Fitting.{AreFitting}
 use Rattle.lks_law.specs.Polls.{Station}
 use Rattle.lks_record.specs.Spelling.{batch_spelling}
 
@@ -30,12 +29,12 @@ module _ {D : Type 0} (f : Face D) where
   stays_on host disk batches stood lost = record {
     holds = subst (HoldsBodies (bodies_of batches)) (sym (stood.disk.durable _ lost.left)) stood.disk.holds;
     read = stood.read;
-    fit = subst (IsFit host.peer.own) stood.journal stood.fit;
+    fit = stood.fit;
   }
 
   -- one that was cut off has the journal from before, or with the batch in progress where two calls were made
   pub cut_lies : (old new : Host D) (disk : D) (batches : List (List Record)) (records : List Record) (calls : ℕ) (result : Result (Unit {0}) JournalFault)
-      → StandsFor f old batches → IsFit old.peer.own (old.peer.journal ++ records) → KeepsOrAdds f old.journal new.journal (bodies_of batches) (bodies_of (with_batch batches records)) result
+      → StandsFor f old batches → AreFitting old.peer.own old.peer.state records → KeepsOrAdds f old.journal new.journal (bodies_of batches) (bodies_of (with_batch batches records)) result
       → IsErrOf result Cut → f.left old.journal.disk ≡ calls → ReadBack records → HasLost f new.journal.disk disk
       → LiesOn f old.peer.own disk batches ⊎ ((2 ≤ calls) × LiesOn f old.peer.own disk (with_batch batches records))
   cut_lies old new disk batches records calls result stood fit adds cut left read lost = elim (cases_lt calls 2) [
@@ -44,13 +43,13 @@ module _ {D : Type 0} (f : Face D) where
   ]
     where
       before : HoldsBodies (bodies_of batches) (f.seen disk) → LiesOn f old.peer.own disk batches
-      before holds = record { holds = holds; read = stood.read; fit = subst (IsFit old.peer.own) stood.journal stood.fit }
+      before holds = record { holds = holds; read = stood.read; fit = stood.fit }
 
       after : HoldsBodies (bodies_of (with_batch batches records)) (f.seen disk) → LiesOn f old.peer.own disk (with_batch batches records)
       after holds = record {
         holds = holds;
         read = read_more batches records stood.read read;
-        fit = subst (IsFit old.peer.own) (ap (λ js. js ++ records) stood.journal ∙ sym (batch_more batches records)) fit;
+        fit = fit_behind old.peer.own old.peer.state batches records stood.state stood.fit fit;
       }
 
 -- records are one batch more

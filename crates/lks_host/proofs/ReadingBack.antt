@@ -5,7 +5,6 @@ use Rattle.std.specs.Prelude.{Option, Some, None, Result, Ok, Err, OnOk, option_
 use Rattle.std.proofs.lemmas.List.{append-nil, drop_more, length-map}
 use Rattle.lks_base.specs.declared.records.Record.{Record}
 use Rattle.lks_disk.specs.Face.{Face}
-use Rattle.lks_host.specs.Fits.{IsFit}
 use Rattle.lks_host.specs.Hosted.{StandsFor, LiesOn}
 use Rattle.lks_host.specs.declared.hosts.Host.{Host}
 use Rattle.lks_field.proofs.Once.{held_once, not_both}
@@ -15,7 +14,9 @@ use Rattle.lks_journal.specs.Settled.{IsSettled}
 use Rattle.lks_journal.specs.declared.faults.JournalFault.{JournalFault}
 use Rattle.lks_journal.specs.declared.faults.JournalFault.TheVariants.{Full, Damaged}
 use Rattle.lks_journal.specs.declared.faults.JournalFault.TheVariants as journal
+use Rattle.lks_law.specs.Fitting.{AreFitting}
 use Rattle.lks_law.specs.Polls.{Station}
+use Rattle.lks_law.specs.State.{state_of, blank}
 use Rattle.lks_host.specs.Bodies.{bodies_of, AreRead, with_front, read_on, records_of, records_at, last_of, last_batch}
 use Rattle.lks_law.specs.Batches.{together}
 use Rattle.lks_record.specs.Reading.{decode_of, Gives, Fails}
@@ -96,13 +97,13 @@ same_batches f own disk batches bodies lies found = held_once bodies (bodies_of 
 
 -- a host whose journal was read again
 pub stands_again : {D : Type 0} (f : Face D) (host : Host D) (own : Station) (disk : D) (batches : List (List Record)) (bodies : List (List ℕ)) → LiesOn f own disk batches
-    → bodies ≡ bodies_of batches → host.peer.own ≡ own → host.peer.journal ≡ together batches → host.count ≡ length bodies → IsSettled f host.journal bodies → StandsFor f host batches
+    → bodies ≡ bodies_of batches → host.peer.own ≡ own → host.peer.state ≡ state_of own (together batches) → host.count ≡ length bodies → IsSettled f host.journal bodies → StandsFor f host batches
 stands_again f host own disk batches bodies lies same same_own whole count settled = record {
-  journal = whole;
+  state = whole ∙ ap (λ (o : Station). state_of o (together batches)) (sym same_own);
   disk = subst (IsSettled f host.journal) same settled;
   count = count ∙ ap length same ∙ length-map batches batch_spelling;
   read = lies.read;
-  fit = subst (λ (js : List Record). IsFit host.peer.own js) (sym whole) (subst (λ (o : Station). IsFit o (together batches)) (sym same_own) lies.fit);
+  fit = subst (λ (o : Station). AreFitting o (blank o) (together batches)) (sym same_own) lies.fit;
 }
 
 -- a disk of which no byte changed holds the same batches

@@ -31,6 +31,7 @@ CutsOff f batches r calls old new Lost = IsCutShort r calls × StandsFor f new b
 pub record IsBack {D : Type 0} (f : Face D) (old new : Host D) (result : Result Outcome HostFault) : Type 0 where
   pub whole : OnOk result (new.broken ≡ false)
   pub own : new.peer.own ≡ old.peer.own
+  pub pool : new.peer.pool ≡ old.peer.pool
   pub unfused : OnOk result (f.fused new.journal.disk ≡ false)
   pub later : f.faults old.journal.disk ≤ f.faults new.journal.disk
   pub failed : IsErrOf result Failed → Rose (f.faults old.journal.disk) (f.faults new.journal.disk)

@@ -1,5 +1,5 @@
 -- A peer whose journal is on its disk.
-use Rattle.std.specs.Prelude.{◌≡◌, ℕ, Some, None, List, [], ◌∷◌, length, Result, Ok, Err, option_map}
+use Rattle.std.specs.Prelude.{◌≡◌, ℕ, Some, None, List, [], ◌∷◌, length, map, Result, Ok, Err, option_map}
 use Rattle.lks_base.specs.Checking.{plan_fault}
 use Rattle.lks_base.specs.declared.plans.Plan.{Plan}
 use Rattle.lks_base.specs.declared.records.Record.{Record}
@@ -7,27 +7,33 @@ use Rattle.lks_disk.specs.Counts.{raised}
 use Rattle.lks_disk.specs.Face.{Face}
 use Rattle.lks_field.specs.Frames.{HoldsBodies}
 use Rattle.lks_host.specs.Bodies.{bodies_of, AreRead}
-use Rattle.lks_host.specs.Fits.{IsFit}
 use Rattle.lks_host.specs.declared.hosts.Host.{Host}
 use Rattle.lks_journal.specs.Settled.{IsSettled}
-use Rattle.lks_law.specs.Batches.{together}
+use Rattle.lks_law.specs.Batches.{alone, together}
+use Rattle.lks_law.specs.Fitting.{AreFitting}
 use Rattle.lks_law.specs.Polls.{Station}
+use Rattle.lks_law.specs.State.{state_of, blank}
 use Rattle.lks_law.specs.World.{station_of, honest_peer}
 
--- the disk holds these batches, which read back, and the peer stands for their records, beside which its rules add only
--- what fits
+-- the disk holds these batches, which read back, and the peer is in the state that their records say, each of which fits
 pub record StandsFor {D : Type 0} (f : Face D) (host : Host D) (batches : List (List Record)) : Type 0 where
-  pub journal : host.peer.journal ≡ together batches
+  pub state : host.peer.state ≡ state_of host.peer.own (together batches)
   pub disk : IsSettled f host.journal (bodies_of batches)
   pub count : host.count ≡ length batches
   pub read : AreRead batches
-  pub fit : IsFit host.peer.own host.peer.journal
+  pub fit : AreFitting host.peer.own (blank host.peer.own) (together batches)
 
--- a peer's disk holds these batches, which read back, and beside which its rules add only what fits
+-- the disk holds a batch for each of these records, which reads back
+pub record Holds {D : Type 0} (f : Face D) (host : Host D) (list : List Record) : Type 0 where
+  pub disk : IsSettled f host.journal (bodies_of (map alone list))
+  pub count : host.count ≡ length list
+  pub read : AreRead (map alone list)
+
+-- a peer's disk holds these batches, which read back, and whose records fit
 pub record LiesOn {D : Type 0} (f : Face D) (own : Station) (disk : D) (batches : List (List Record)) : Type 0 where
   pub holds : HoldsBodies (bodies_of batches) (f.seen disk)
   pub read : AreRead batches
-  pub fit : IsFit own (together batches)
+  pub fit : AreFitting own (blank own) (together batches)
 
 -- so an honest peer of this good plan stands
 pub record IsMadeBy (plan : Plan) (own : Station) : Type 0 where

@@ -4,5 +4,6 @@ pub mod Cutting
 pub mod Faults
 pub mod Fits
 pub mod Hosted
+pub mod Journals
 pub mod Recovering
 pub mod Stepping

@@ -5,16 +5,20 @@ ghost use Rattle.lks_base.specs.declared.records.Record.{Record as Recorded};
 ghost use Rattle.lks_host.specs.Cutting.{CutsOff, IsBack};
 ghost use Rattle.lks_host.specs.Hosted.{StandsFor, IsMadeBy};
 ghost use Rattle.lks_law.specs.Facts.{IsHeard};
-ghost use Rattle.lks_law.specs.Reaction.{reaction};
+ghost use Rattle.lks_law.specs.Reacting.{react_on};
 
 use crate::faults::HostFault;
 use crate::hosts::Host;
 use crate::outcomes::Outcome;
 use lks_base::{Input, Plan};
+use lks_blocks::BlockPool;
 use lks_disk::CrashDisk;
+use std::sync::Wait;
 
 /// Does a step on a fuse of so many calls of the disk, cuts the power and recovers.
-pub fn cut_step<D: CrashDisk>(
+pub fn cut_step<R: Wait, D: CrashDisk>(
+    rt: &R,
+    pool: &BlockPool,
     host: &mut Host<D>,
     plan: &Plan,
     tick: u32,
@@ -22,27 +26,28 @@ pub fn cut_step<D: CrashDisk>(
     calls: u32,
     choice: u64,
 ) -> Result<Outcome, HostFault>
+    requires pool { pool.now ≡ host.old.peer.pool }
     requires made { IsMadeBy plan.now host.old.peer.own }
     requires whole { host.old.broken ≡ false }
     requires heard { IsHeard input.now }
     requires room { host.old.journal.end + 32769 ≤ 2147483647 }
     requires stands { (batches : List (List Recorded)) × StandsFor D.face host.old batches }
     ensures cuts { (batches : List (List Recorded)) → StandsFor D.face host.old batches →
-        IfOk result (CutsOff D.face batches (reaction host.old.peer.own host.old.peer.journal tick input.now) calls host.old host.new) }
+        IfOk result (CutsOff D.face batches (react_on host.old.peer.own host.old.peer.state tick input.now) calls host.old host.new) }
     ensures back { IsBack D.face host.old host.new result }
     ensures end { OnOk result (host.new.journal.end ≤ host.old.journal.end + 32768) }
 {
     let before = host.count();
     host.fuse(calls, choice);
-    match host.step(tick, input) {
+    match host.step(rt, pool, tick, input) {
         Ok(reaction) => {
             host.power_cut();
-            host.recover(plan)?;
+            host.recover(rt, pool, plan)?;
             Ok(Outcome::Whole(reaction))
         }
         Err(HostFault::Cut) => {
             host.power_cut();
-            let found = host.recover(plan)?;
+            let found = host.recover(rt, pool, plan)?;
             if found.count > before {
                 Ok(Outcome::Kept(found.last))
             } else {

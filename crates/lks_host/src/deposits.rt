@@ -7,21 +7,23 @@ ghost use Rattle.lks_base.specs.declared.limits.TheConstants.{MOST_AUS};
 ghost use Rattle.lks_host.specs.Behaving.{Behaves};
 ghost use Rattle.lks_host.specs.Bodies.{bodies_of, AreRead};
 ghost use Rattle.lks_host.specs.Faults.{as_journal};
-ghost use Rattle.lks_host.specs.Fits.{IsFit};
+ghost use Rattle.lks_host.specs.Fits.{AreFirst};
 ghost use Rattle.lks_journal.specs.Settled.{IsSettled};
 ghost use Rattle.lks_law.specs.Batches.{alone};
 ghost use Rattle.lks_law.specs.World.{deposit_for, deposits, honest_peer, standing_of};
+ghost use Rattle.lks_peer.specs.Knows.{knowing_of};
 ghost use Rattle.lks_record.specs.Spelling.{IsWithin};
 
 use crate::faults::HostFault;
-use crate::fit::FitPeer;
 use crate::writing::write;
 use lks_base::{AuPlan, Holding, OutOfMemory, PeerId, Plan, Record};
+use lks_blocks::BlockPool;
 use lks_disk::Disk;
 use lks_journal::Journal;
 use lks_peer::{Peer, find_honest};
 use std::alloc::Global;
 use std::slice;
+use std::sync::Wait;
 
 fn deposit_au(list: &mut Vec<Record>, au: &AuPlan, copies: &[Holding]) -> Result<(), OutOfMemory>
     ensures { OnOk result (list.new.items ≡ list.old.items ++ filter_map (deposit_for au.now) copies.now) }
@@ -52,26 +54,25 @@ fn deposit_all(
 }
 
 /// The honest peer `id` of a good plan, as it begins, and its deposits.
-#[tactic(auto, using(crate::proofs::Beginning::begun_within, crate::proofs::Beginning::begun_few, crate::proofs::Beginning::begun_small, crate::proofs::Standing::fit_begun))]
-pub fn begin_peer(
+pub fn begin_peer<R: Wait>(
     alloc: Global,
+    rt: &R,
+    pool: &BlockPool,
     plan: &Plan,
     id: PeerId,
-) -> Result<(FitPeer, Vec<Record>), OutOfMemory>
+) -> Result<(Peer, Vec<Record>), OutOfMemory>
     requires good { plan_fault plan.now ≡ None }
     requires honest { IsSome (honest_peer id plan.now) }
-    ensures peer { IfOk result (λ p. option_map (standing_of plan.now) (honest_peer id plan.now) ≡ Some p.0) }
-    ensures fit { IfOk result (λ p. IsFit p.0.own p.0.journal) }
-    ensures list { IfOk result (λ p. p.1.items ≡ p.0.journal) }
-    ensures within { IfOk result (λ p. All IsWithin p.1.items) }
-    ensures few { IfOk result (λ p. length p.1.items ≤ MOST_AUS) }
+    ensures peer { IfOk result (λ p. option_map (λ q. knowing_of pool.now (standing_of plan.now q)) (honest_peer id plan.now) ≡ Some p.0) }
+    ensures list { IfOk result (λ p. option_map (λ q. (standing_of plan.now q).journal) (honest_peer id plan.now) ≡ Some p.1.items) }
+    ensures first { IfOk result (λ p. AreFirst p.1.items) }
 {
     let Some(planned) = find_honest(plan.peers.as_slice(), id) else {
         unreachable!()
     };
     let list = deposit_all(alloc, plan.aus.as_slice(), planned.copies.as_slice())?;
-    let peer = Peer::restore(alloc, plan, id, &list)?;
-    Ok((FitPeer::new(peer), list))
+    let peer = Peer::restore(alloc, rt, pool, plan, id, &list)?;
+    Ok((peer, list))
 }
 
 /// Appends each record as a batch of its own to a new journal.

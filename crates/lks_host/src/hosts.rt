@@ -1,32 +1,34 @@
 //! Hosts.
 
-ghost use Rattle.std.specs.Prelude.{◌≡◌, ◌≤◌, ◌+◌, ◌-◌, [], List, true, false, Some, None, IfOk, IsSome, IsErrOf, map, option_map, slice_get};
+ghost use Rattle.std.specs.Prelude.{◌≡◌, ◌≤◌, ◌+◌, ◌-◌, [], List, true, false, Some, None, Err, IfOk, OnErr, IsSome, IsErrOf, map, option_map, slice_get};
 ghost use Rattle.lks_base.specs.Checking.{plan_fault};
 ghost use Rattle.lks_base.specs.declared.records.Record.{Record as Recorded};
 ghost use Rattle.lks_disk.specs.Face.{HasFuse, HasLost};
 ghost use Rattle.lks_host.specs.Behaving.{Behaves};
-ghost use Rattle.lks_host.specs.Bodies.{bodies_of, ReadBack};
+ghost use Rattle.lks_base.specs.declared.plans.PeerPlan.{PeerPlan as Planned};
+ghost use Rattle.lks_host.specs.Bodies.{bodies_of};
 ghost use Rattle.lks_host.specs.Faults.{as_journal, is_refused};
 ghost use Rattle.lks_host.specs.Hosted.{count_after};
 ghost use Rattle.lks_journal.specs.Adding.{KeepsOrAdds};
 ghost use Rattle.lks_law.specs.Batches.{with_batch, alone};
-ghost use Rattle.lks_law.specs.Due.{ready_at, turns_at};
-ghost use Rattle.lks_law.specs.Entries.{is_inner};
 ghost use Rattle.lks_law.specs.Facts.{IsHeard};
-ghost use Rattle.lks_law.specs.Reaction.{reaction};
+ghost use Rattle.lks_law.specs.Reacting.{react_on};
+ghost use Rattle.lks_law.specs.Turning.{ready_on, turns_on, has_inner_in};
 ghost use Rattle.lks_law.specs.World.{standing_of, honest_peer};
+ghost use Rattle.lks_peer.specs.Knows.{knowing_of};
 
 use crate::deposits::{begin_peer, write_each};
 use crate::faults::HostFault;
-use crate::fit::FitPeer;
 use crate::outcomes::Recovered;
 use crate::reading::read_journal;
 use crate::writing::{keep, refusal};
-use lks_base::{Input, PeerId, PeerStep, Plan, Reaction, Record};
+use lks_base::{Input, OutOfMemory, PeerId, PeerStep, Plan, Reaction, Record};
+use lks_blocks::BlockPool;
 use lks_disk::{CrashDisk, Disk};
 use lks_journal::Journal;
 use lks_peer::Peer;
 use std::alloc::Global;
+use std::sync::Wait;
 
 /// How many batches there are after these records were added as one.
 fn count_with(count: u64, records: &[Record]) -> u64
@@ -43,7 +45,7 @@ fn count_with(count: u64, records: &[Record]) -> u64
 #[derive(Drop)]
 pub struct Host<D: Disk> {
     alloc: Global,
-    peer: FitPeer,
+    peer: Peer,
     journal: Journal<D>,
     /// How many batches the journal holds.
     count: u64,
@@ -51,22 +53,50 @@ pub struct Host<D: Disk> {
 }
 
 impl<D: Disk> Host<D> {
-    ghost use Rattle.lks_host.specs.Hosted.{StandsFor, answer_of, disk_hosted};
-    ghost use Rattle.lks_host.specs.Stepping.{Stepped};
+    ghost use Rattle.lks_host.specs.Fits.{AreFirst};
+    ghost use Rattle.lks_host.specs.declared.faults.HostFault.TheVariants.{Memory};
+    ghost use Rattle.lks_host.specs.Hosted.{Holds, StandsFor, answer_of, disk_hosted};
+    ghost use Rattle.lks_host.specs.Stepping.{Stepped, IsWritten};
 
     /// The honest peer `id` of a good plan, on an empty disk: its deposits are there, one batch each. Nothing is written
     /// before the peer is made.
-    pub fn create(alloc: Global, plan: &Plan, id: PeerId, disk: D) -> Result<Self, (D, HostFault)>
+    pub fn create<R: Wait>(
+        alloc: Global,
+        rt: &R,
+        pool: &BlockPool,
+        plan: &Plan,
+        id: PeerId,
+        disk: D,
+    ) -> Result<Self, (D, HostFault)>
         requires good { plan_fault plan.now ≡ None }
         requires honest { IsSome (honest_peer id plan.now) }
         requires empty { D.face.told disk → D.face.seen disk ≡ [] }
-        ensures peer { IfOk result (λ host. option_map (standing_of plan.now) (honest_peer id plan.now) ≡ Some host.peer) }
-        ensures stands { D.face.told disk → IfOk result (λ host. StandsFor D.face host (map alone host.peer.journal)) }
+        ensures peer { IfOk result (λ host. option_map (λ p. knowing_of pool.now (standing_of plan.now p)) (honest_peer id plan.now) ≡ Some host.peer) }
+        ensures stands { D.face.told disk → (p : Planned) → honest_peer id plan.now ≡ Some p → IfOk result (λ host. StandsFor D.face host (map alone (standing_of plan.now p).journal)) }
         ensures whole { IfOk result (λ host. host.broken ≡ false) }
         ensures end { IfOk result (λ host. host.journal.end ≤ 33558580) }
         ensures behaves { Behaves D.face disk (disk_hosted result) (as_journal (answer_of result)) }
     {
-        let (peer, list) = match begin_peer(alloc, plan, id) {
+        Host::found(alloc, begin_peer(alloc, rt, pool, plan, id), disk)
+    }
+
+    /// The host of a peer that begins with these records, on an empty disk, one batch each. Where there is no peer, nothing is
+    /// written.
+    fn found(
+        alloc: Global,
+        begun: Result<(Peer, Vec<Record>), OutOfMemory>,
+        disk: D,
+    ) -> Result<Self, (D, HostFault)>
+        requires empty { D.face.told disk → D.face.seen disk ≡ [] }
+        requires fits { IfOk begun (λ p. AreFirst p.1.items) }
+        ensures unmade { OnErr begun (result ≡ Err (disk, Memory)) }
+        ensures peer { IfOk result (λ host. IfOk begun (λ p. host.peer ≡ p.0)) }
+        ensures holds { D.face.told disk → IfOk result (λ host. IfOk begun (λ p. Holds D.face host p.1.items)) }
+        ensures whole { IfOk result (λ host. host.broken ≡ false) }
+        ensures end { IfOk result (λ host. host.journal.end ≤ 33558580) }
+        ensures behaves { Behaves D.face disk (disk_hosted result) (as_journal (answer_of result)) }
+    {
+        let (peer, list) = match begun {
             Ok(begun) => begun,
             Err(_) => return Err((disk, HostFault::Memory)),
         };
@@ -88,12 +118,19 @@ impl<D: Disk> Host<D> {
 
     /// What the peer adds to its journal and sends at this tick. It is handed out once the records are on the disk,
     /// as one batch. After a refusal the host is broken.
-    pub fn step(&mut self, tick: u32, input: &Input) -> Result<Reaction, HostFault>
+    pub fn step<R: Wait>(
+        &mut self,
+        rt: &R,
+        pool: &BlockPool,
+        tick: u32,
+        input: &Input,
+    ) -> Result<Reaction, HostFault>
+        requires pool { pool.now ≡ self.old.peer.pool }
         requires whole { self.old.broken ≡ false }
         requires heard { IsHeard input.now }
         requires room { 32768 ≤ 2147483647 - (self.old.journal.end + 1) }
         requires stands { D.face.told self.old.journal.disk → (batches : List (List Recorded)) × StandsFor D.face self.old batches }
-        ensures stepped { Stepped D.face self.old self.new (reaction self.old.peer.own self.old.peer.journal tick input.now) result }
+        ensures stepped { Stepped D.face self.old self.new (react_on self.old.peer.own self.old.peer.state tick input.now) result }
         ensures stands { D.face.told self.old.journal.disk → (batches : List (List Recorded)) → StandsFor D.face self.old batches →
             IfOk result (λ r. StandsFor D.face self.new (with_batch batches r.records)) }
 
@@ -101,10 +138,10 @@ impl<D: Disk> Host<D> {
         // progress, which reads back.
         ensures adds { D.face.told self.old.journal.disk → (batches : List (List Recorded)) → StandsFor D.face self.old batches →
             KeepsOrAdds D.face self.old.journal self.new.journal (bodies_of batches)
-            (bodies_of (with_batch batches (reaction self.old.peer.own self.old.peer.journal tick input.now).records)) (as_journal result) }
-        ensures read { (IsErrOf result HostFault.Memory → ⊥) → ReadBack (reaction self.old.peer.own self.old.peer.journal tick input.now).records }
+            (bodies_of (with_batch batches (react_on self.old.peer.own self.old.peer.state tick input.now).records)) (as_journal result) }
+        ensures read { (IsErrOf result HostFault.Memory → ⊥) → IsWritten self.old.peer.own self.old.peer.state (react_on self.old.peer.own self.old.peer.state tick input.now).records }
     {
-        let answer = match self.peer.step(tick, input) {
+        let answer = match self.peer.step(rt, pool, tick, input) {
             Ok(answer) => answer,
             Err(_) => {
                 self.broken = true;
@@ -123,28 +160,29 @@ impl<D: Disk> Host<D> {
         }
     }
 
-    /// The `k`-th of the steps for which the peer is ready, counted from 0 by poll number.
+    /// The `k`-th of the steps for which the peer is ready, counted from 0 in order of its running polls.
     pub fn ready(&self, k: u32) -> Option<PeerStep>
-        ensures { result ≡ slice_get (ready_at self.now.peer) k }
+        ensures { result ≡ slice_get (ready_on self.now.peer.own self.now.peer.state) k }
     {
         self.peer.ready(k)
     }
 
-    /// The `k`-th of the steps that the peer takes in its running polls when nothing else is due, counted from 0 by poll
-    /// number.
+    /// The `k`-th of the steps that the peer takes in its running polls when nothing else is due, counted from 0 in their
+    /// order.
     pub fn turn(&self, k: u32) -> Option<PeerStep>
-        ensures { result ≡ slice_get (turns_at self.now.peer) k }
+        ensures { result ≡ slice_get (turns_on self.now.peer.own self.now.peer.state) k }
     {
         self.peer.turn(k)
     }
 
-    /// Whether the peer's poll `number` has this peer in its inner circle.
+    /// Whether the peer's running poll `number` has this peer in its inner circle.
     pub fn has_inner(&self, number: u32, voter: PeerId) -> bool
-        ensures { result ≡ is_inner self.now.peer.journal number voter }
+        ensures { result ≡ has_inner_in self.now.peer.state number voter }
     {
         self.peer.has_inner(number, voter)
     }
 
+    /// The peer's number.
     pub fn id(&self) -> PeerId
         ensures { result ≡ self.now.peer.own.id }
     {
@@ -210,15 +248,22 @@ impl<D: CrashDisk> Host<D> {
         self.journal.power_cut();
     }
 
-    /// Reads the journal again after a call that was refused, or after a power cut, with the plan with which the host was
-    /// made. At `Ok` the host stands for the batches that the disk held, and else it is broken, and can be recovered again.
-    pub fn recover(&mut self, plan: &Plan) -> Result<Recovered, HostFault>
+    /// Reads the journal again after a call that was refused, or after a power cut, with the plan and the pool with which
+    /// the host was made. At `Ok` the host stands for the batches that the disk held, and else it is broken, and can be recovered again.
+    pub fn recover<R: Wait>(
+        &mut self,
+        rt: &R,
+        pool: &BlockPool,
+        plan: &Plan,
+    ) -> Result<Recovered, HostFault>
+        requires pool { pool.now ≡ self.old.peer.pool }
         requires made { IsMadeBy plan.now self.old.peer.own }
         requires unfused { D.face.fused self.old.journal.disk ≡ false }
         requires lies { (batches : List (List Recorded)) × LiesOn D.face self.old.peer.own self.old.journal.disk batches }
         ensures recovers { (batches : List (List Recorded)) → LiesOn D.face self.old.peer.own self.old.journal.disk batches → Recovers D.face self.old self.new batches result }
         ensures broken { self.new.broken ≡ is_refused result }
         ensures own { self.new.peer.own ≡ self.old.peer.own }
+        ensures pool { self.new.peer.pool ≡ self.old.peer.pool }
         ensures cut { IsErrOf result HostFault.Cut → ⊥ }
         ensures behaves { Behaves D.face self.old.journal.disk self.new.journal.disk (as_journal result) }
     {
@@ -228,8 +273,8 @@ impl<D: CrashDisk> Host<D> {
             Err(fault) => return Err(refusal(fault)),
         };
         let (list, last) = read_journal(self.alloc, &bodies)?;
-        let peer = Peer::restore(self.alloc, plan, self.peer.id(), &list)?;
-        self.peer = FitPeer::new(peer);
+        let peer = Peer::restore(self.alloc, rt, pool, plan, self.peer.id(), &list)?;
+        self.peer = peer;
         self.count = bodies.len() as u64;
         self.broken = false;
         Ok(Recovered {

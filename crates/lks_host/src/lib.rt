@@ -7,7 +7,6 @@
 mod cutting;
 mod deposits;
 mod faults;
-mod fit;
 mod hosts;
 mod outcomes;
 mod reading;
@@ -15,7 +14,6 @@ mod writing;
 
 pub use cutting::cut_step;
 pub use faults::HostFault;
-pub use fit::FitPeer;
 pub use hosts::Host;
 pub use outcomes::{Outcome, Recovered};
 

@@ -3,15 +3,16 @@ ghost use Rattle.std.specs.Prelude.{◌≡◌, ◌≤◌, ◌+◌, List, false, 
 ghost use Rattle.lks_base.specs.declared.records.Record.{Record as Recorded};
 ghost use Rattle.lks_disk.specs.MemFace.{mem_face};
 ghost use Rattle.lks_host.specs.Hosted.{StandsFor, IsMadeBy};
-ghost use Rattle.lks_law.specs.Batches.{alone};
 
 use crate::{Host, HostFault, Outcome, cut_step};
 use lks_base::{
     AuPlan, Blocks, Bytes, HashKind, Holding, Ids, Input, OutOfMemory, PeerPlan, Plan, Rules, Seq,
 };
+use lks_blocks::BlockPool;
 use lks_disk::MemDisk;
 use lks_peer::find_honest;
 use std::alloc::Global;
+use std::sync::Wait;
 use std::test::Fail;
 
 const RULES: Rules = Rules {
@@ -58,9 +59,16 @@ fn plan_of_one(alloc: Global) -> Result<Plan, OutOfMemory> {
 
 /// The host of peer 1 on an empty disk of which these reads fail.
 #[tactic(auto, using(crate::proofs::Standing::made_begun))]
-fn host_of(alloc: Global, plan: &Plan, fail_reads: &[u32]) -> Result<Host<MemDisk>, Fail>
+fn host_of<R: Wait>(
+    alloc: Global,
+    rt: &R,
+    pool: &BlockPool,
+    plan: &Plan,
+    fail_reads: &[u32],
+) -> Result<Host<MemDisk>, Fail>
     ensures made { IfOk result (λ host. IsMadeBy plan.now host.peer.own) }
-    ensures stands { IfOk result (λ host. StandsFor mem_face host (map alone host.peer.journal)) }
+    ensures pool { IfOk result (λ host. host.peer.pool ≡ pool.now) }
+    ensures stands { IfOk result (λ host. (batches : List (List Recorded)) × StandsFor mem_face host batches) }
     ensures whole { IfOk result (λ host. host.broken ≡ false) }
     ensures end { IfOk result (λ host. host.journal.end ≤ 33558580) }
 {
@@ -69,7 +77,7 @@ fn host_of(alloc: Global, plan: &Plan, fail_reads: &[u32]) -> Result<Host<MemDis
         return Err(Fail::from(HostFault::Failed));
     };
     let disk = MemDisk::faulty(alloc, Vec::new(alloc), fail_reads.to_vec(alloc)?);
-    match Host::create(alloc, plan, 1, disk) {
+    match Host::create(alloc, rt, pool, plan, 1, disk) {
         Ok(host) => Ok(host),
         Err((_, fault)) => Err(Fail::from(fault)),
     }
@@ -84,14 +92,18 @@ fn name_of(outcome: &Outcome) -> &'static str {
 }
 
 /// Cuts off two steps of a new host, and answers what became of each, and how many batches there are.
-fn cut_twice(
+fn cut_twice<R: Wait>(
     alloc: Global,
+    rt: &R,
+    pool: &BlockPool,
     plan: &Plan,
     calls: u32,
     choice: u64,
 ) -> Result<(&'static str, &'static str, u64), Fail> {
-    let mut host = host_of(alloc, plan, &[])?;
+    let mut host = host_of(alloc, rt, pool, plan, &[])?;
     let first = cut_step(
+        rt,
+        pool,
         &mut host,
         plan,
         1,
@@ -100,6 +112,8 @@ fn cut_twice(
         choice,
     )?;
     let second = cut_step(
+        rt,
+        pool,
         &mut host,
         plan,
         2,
@@ -114,6 +128,7 @@ fn cut_twice(
 fn survives_cuts(rt: HostRuntime) -> Result<(), Fail> {
     let alloc = rt.alloc();
     let plan = plan_of_one(alloc)?;
+    let pool = BlockPool::new(alloc)?;
     // what a power cut leaves, and what becomes of a step for 0 to 4 and 8 calls that pass
     let rows: [(u64, [&str; 6]); 4] = [
         (0, ["lost", "lost", "lost", "lost", "whole", "whole"]),
@@ -126,7 +141,7 @@ fn survives_cuts(rt: HostRuntime) -> Result<(), Fail> {
             let calls = if place == 5 { 8 } else { place as u32 };
             let count = if *outcome == "lost" { 2 } else { 4 };
             assert_eq!(rt;
-                cut_twice(alloc, &plan, calls, choice)?,
+                cut_twice(alloc, &rt, &pool, &plan, calls, choice)?,
                 (*outcome, *outcome, count),
                 "{calls} {choice}"
             );
@@ -137,16 +152,18 @@ fn survives_cuts(rt: HostRuntime) -> Result<(), Fail> {
 
 /// Cuts the power of a new host on a disk of which a read fails, and recovers it twice. Answers how many batches each
 /// recovery read, and whether the host was broken after it.
-fn recover_twice(
+fn recover_twice<R: Wait>(
     alloc: Global,
+    rt: &R,
+    pool: &BlockPool,
     plan: &Plan,
     read: u32,
 ) -> Result<[(Result<u64, HostFault>, bool); 2], Fail> {
-    let mut host = host_of(alloc, plan, &[read])?;
+    let mut host = host_of(alloc, rt, pool, plan, &[read])?;
     host.power_cut();
-    let first = host.recover(plan).map(|found| found.count);
+    let first = host.recover(rt, pool, plan).map(|found| found.count);
     let broken = host.broken();
-    let second = host.recover(plan).map(|found| found.count);
+    let second = host.recover(rt, pool, plan).map(|found| found.count);
     Ok([(first, broken), (second, host.broken())])
 }
 
@@ -154,8 +171,9 @@ fn recover_twice(
 fn recovers_after_a_failed_read(rt: HostRuntime) -> Result<(), Fail> {
     let alloc = rt.alloc();
     let plan = plan_of_one(alloc)?;
+    let pool = BlockPool::new(alloc)?;
     for read in [1, 2] {
-        let answers = recover_twice(alloc, &plan, read)?;
+        let answers = recover_twice(alloc, &rt, &pool, &plan, read)?;
         assert_eq!(rt;
             answers,
             [(Err(HostFault::Failed), true), (Ok(2), false)],
@@ -164,8 +182,17 @@ fn recovers_after_a_failed_read(rt: HostRuntime) -> Result<(), Fail> {
     }
 
     // A step that is cut off is answered by the fault of its recovery.
-    let mut host = host_of(alloc, &plan, &[1])?;
-    let outcome = cut_step(&mut host, &plan, 1, &Input::OpenPoll { au: 1 }, 0, 0);
+    let mut host = host_of(alloc, &rt, &pool, &plan, &[1])?;
+    let outcome = cut_step(
+        &rt,
+        &pool,
+        &mut host,
+        &plan,
+        1,
+        &Input::OpenPoll { au: 1 },
+        0,
+        0,
+    );
     assert!(rt; matches!(outcome, Err(HostFault::Failed)));
     assert!(rt; host.broken());
     Ok(())

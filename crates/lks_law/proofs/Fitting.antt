@@ -23,8 +23,8 @@ use Rattle.lks_base.specs.declared.records.Record.TheVariants as records
 use Rattle.lks_draw.proofs.Picking.{pick_law}
 use Rattle.lks_draw.proofs.Places.{word_fits}
 use Rattle.lks_draw.specs.Words.{drawn_from, words_of}
-use Rattle.lks_law.specs.Fitting.{Where, FitsOutcome, Fits, AreFitting, AsksWithin, IsCounted, IsSound, most_numbered, has_room}
-use Rattle.lks_law.specs.Journal.{Request}
+use Rattle.lks_law.specs.Fitting.{Where, FitsOutcome, Fits, AreFitting, AsksWithin, IsCounted, AreLegal, IsSound, most_numbered, has_room}
+use Rattle.lks_law.specs.Journal.{Request, numbers_after}
 use Rattle.lks_law.specs.Polls.{Station, limits_of, ballot_of}
 use Rattle.lks_law.specs.Reacting.{for_poll, if_may, may_open_copy, may_open_in, inner_of, opened_as, open_in, widen_in, silent_in, nudge_in, give_up_in, receipts_of, shut_once, shut_in, closed_as, asked_for, verdict_of, supplier, tallied_as, tally_in, must_note_copy, overdue_of, check_in, is_invited_to, challenge_in, has_nominated_in, nominate_in, vote_in_poll, said_of, repair_in, receive_in, react_on}
 use Rattle.lks_law.specs.Reaction.{letter, asked_again, given_up, is_accepted, is_request}
@@ -35,7 +35,7 @@ use Rattle.lks_tally.specs.declared.ballots.Verdict.{Verdict}
 use Rattle.lks_tally.specs.declared.ballots.Verdict.TheVariants as verdict
 
 -- what is true of each poll is true of the one that is found
-poll_where : (P : Poll → Type 0) (n : ℕ) (ps : List Poll) → All P ps → Where (poll_at n ps) P
+pub poll_where : (P : Poll → Type 0) (n : ℕ) (ps : List Poll) → All P ps → Where (poll_at n ps) P
 poll_where P n [] all = tt
 poll_where P n (p ∷ ps) all = here (eqb p.number n) (poll_where P n ps (All-tail P p ps all))
   where
@@ -178,11 +178,16 @@ module _ (own : Station) (s : State) where
       here (Some p) = copy_each HasBlocks p.opening.au (agreed_at tick) s.copies (λ c has. has) is.counted
   copies_counted r fits is = is.counted
 
+  numbers_legal : (r : Record) → Fits own s r → IsSound s → AreLegal (numbers_after s.numbers r).quorum (numbers_after s.numbers r).minority
+  numbers_legal (records.Tuned quorum minority repairs) fits is = fits
+  numbers_legal r fits is = is.legal
+
   pub sound_after : (r : Record) → Fits own s r → IsSound s → IsSound (after own s r)
   unfolding after
   sound_after r fits is = record {
     counted = copies_counted r fits is;
     asks = All-weaker (AsksWithin s.copies) (AsksWithin (copies_after s.polls r s.copies)) (asks_on r) (polls_after own.rules r s.polls) (polls_asking r fits is);
+    legal = numbers_legal r fits is;
   }
 
 -- What the rules add.
@@ -203,8 +208,8 @@ module _ (own : Station) (s : State) (few : own.rules.inner ≤ MOST_CIRCLE) (ro
   where_may false does fits = tt
 
   -- the poll that was found is the one of its number
-  at_found : (P : Poll → Type 0) (n : ℕ) (p : Poll) → poll_at n s.polls ≡ Some p → P p → Where (poll_at p.number s.polls) P
-  at_found P n p is fits = subst (λ m. Where (poll_at m s.polls) P) (sym (named n s.polls is)) (subst (λ o. Where o P) (sym is) fits)
+  found_again : (n : ℕ) (p : Poll) → poll_at n s.polls ≡ Some p → poll_at p.number s.polls ≡ Some p
+  found_again n p is = ap (λ m. poll_at m s.polls) (named n s.polls is) ∙ is
     where
       named : (n : ℕ) (ps : List Poll) → poll_at n ps ≡ Some p → p.number ≡ n
       named n [] e = absurd cc
@@ -213,6 +218,9 @@ module _ (own : Station) (s : State) (few : own.rules.inner ≤ MOST_CIRCLE) (ro
           here : (b : Bool) → eqb x.number n ≡ b → cond b (Some x) (poll_at n ps) ≡ Some p → (poll_at n ps ≡ Some p → p.number ≡ n) → p.number ≡ n
           here true is e rest = let same : x ≡ p = cc in subst (λ y. y.number ≡ n) same (eqb-true x.number n is)
           here false is e rest = rest e
+
+  at_found : (P : Poll → Type 0) (n : ℕ) (p : Poll) → poll_at n s.polls ≡ Some p → P p → Where (poll_at p.number s.polls) P
+  at_found P n p is fits = subst (λ o. Where o P) (sym (found_again n p is)) fits
 
   -- A block of the AU, which may be replaced.
 
@@ -330,8 +338,11 @@ module _ (own : Station) (s : State) (few : own.rules.inner ≤ MOST_CIRCLE) (ro
       let parts = and_parts (is_accepted judged && not p.shut) (poll.may_vote (is_invited_to p from) (has_member p.voters from) (length hashes) (length (blocks_at p.opening.au s.copies))) may in
       let rule = and_parts (is_invited_to p from && not (has_member p.voters from)) (eqb (length hashes) (length (blocks_at p.opening.au s.copies))) parts.1 in
       let new = (and_parts (is_invited_to p from) (not (has_member p.voters from)) rule.0).1 in (
-        at_found (λ q. (has_member q.voters from ≡ false) × (length hashes ≡ length (blocks_at q.opening.au s.copies))) n p is
-            (not-true (has_member p.voters from) new, eqb-true (length hashes) (length (blocks_at p.opening.au s.copies)) rule.1),
+        (
+          ap is_some (found_again n p is),
+          at_found (λ q. (has_member q.voters from ≡ false) × (length hashes ≡ length (blocks_at q.opening.au s.copies))) n p is
+              (not-true (has_member p.voters from) new, eqb-true (length hashes) (length (blocks_at p.opening.au s.copies)) rule.1),
+        ),
         tt,
       ))
 

@@ -1,23 +1,26 @@
 -- A walk over the numbers of a journal's polls, which passes over those that don't run, is a walk over the running polls.
-use Rattle.std.proofs.Common.{◌≡◌, ◌∙◌, ap, sym, ℕ, Bool, true, false, cond, not, List, [], ◌∷◌, filter, refl}
+use Rattle.std.proofs.Common.{◌≡◌, ◌∙◌, ap, sym, ℕ, Bool, true, false, cond, not, List, [], ◌∷◌, ◌++◌, filter, refl}
 use Rattle.std.specs.Prelude.{Option, Some, None, is_some, map, ◌&&◌}
 use Rattle.std.specs.List.{filter_map, cons_option, range_with_len}
 use Rattle.std.proofs.lemmas.Bool.{eq-eqb}
 use Rattle.lks_base.specs.declared.events.PeerStep.TheVariants.{Tally}
 use Rattle.lks_base.specs.declared.plans.Rules.{Rules}
 use Rattle.lks_base.specs.declared.records.Record.{Record}
-use Rattle.lks_base.specs.declared.records.Record.TheVariants.{PollOpened}
+use Rattle.lks_base.specs.declared.records.Record.TheVariants.{PollOpened, VoteIn}
 use Rattle.lks_law.specs.Due.{ready_at, turn_at, turn_of, turns_at}
 use Rattle.lks_law.specs.Entries.{has_inner, is_inner}
 use Rattle.lks_law.specs.Journal.{Opening, opened_in, opened_numbers, opening_in, opening_of, openings, is_closed, is_running, is_shut, is_voting, is_widened, unanswered}
 use Rattle.lks_law.specs.Polls.{Station}
 use Rattle.lks_law.specs.Reaction.{may_tally}
-use Rattle.lks_law.specs.State.{settled, Poll, state_of}
+use Rattle.lks_law.specs.State.{settled, Poll, poll_at, state_of}
 use Rattle.lks_law.specs.Turning.{ready_in, ready_on, turn_in, turns_on, has_inner_of, has_inner_in}
 use Rattle.lks_law.specs.Written.{AreWritten}
+use Rattle.lks_law.proofs.Grown.{closed_more}
+use Rattle.lks_law.proofs.Kept.{same_opening}
 use Rattle.lks_law.proofs.RunningPolls.{poll_as, running_in, polls_of, running_by}
 use Rattle.lks_law.proofs.Scans.{widened_is}
 use Rattle.lks_law.proofs.Standing.{poll_is, state_stands}
+use Rattle.lks_law.proofs.Writing.{written_more}
 
 -- The walk, for any row that gives nothing of a poll that doesn't run, and of one that runs what it says of the poll.
 
@@ -103,3 +106,22 @@ inner_is own js written n voter runs =
     by_opening None c e = refl
     by_opening (Some o) true e = absurd cc
     by_opening (Some o) false e = refl
+
+-- a poll that is found in the state runs
+pub runs_there : (own : Station) (js : List Record) → AreWritten [] js → (n : ℕ) → is_some (poll_at n (state_of own js).polls) ≡ true → is_running n js ≡ true
+unfolding is_running
+runs_there own js written n found = by_opening (opening_of n js) (is_closed n js) (ap is_some (sym (poll_is own js (state_of own js) (state_stands own js written) n)) ∙ found)
+  where
+    by_opening : (o : Option Opening) (c : Bool) → is_some (running_by own.rules n js o c) ≡ true → (is_some o && not c) ≡ true
+    by_opening None c e = absurd cc
+    by_opening (Some o) true e = absurd cc
+    by_opening (Some o) false e = refl
+
+-- and so does the poll of a vote once the vote is noted
+pub inner_noted : (own : Station) (js : List Record) (n voter : ℕ) (hashes : List (List ℕ)) → AreWritten [] js → is_some (poll_at n (state_of own js).polls) ≡ true
+    → has_inner_in (state_of own (js ++ VoteIn n voter hashes ∷ [])) n voter ≡ is_inner (js ++ VoteIn n voter hashes ∷ []) n voter
+unfolding is_running
+inner_noted own js n voter hashes written found =
+    let vote = VoteIn n voter hashes in
+    inner_is own (js ++ vote ∷ []) (written_more [] js vote written tt) n voter
+    ((λ i. is_some (same_opening n js vote refl i) && not (closed_more n js vote i)) ∙ runs_there own js written n found)

@@ -60,7 +60,7 @@ MayAll js (r ∷ rs) = MayAdd js r × MayAll (js ++ r ∷ []) rs
 
 -- A proper journal and one record more.
 
-written_more : (before js : List Record) (r : Record) → AreWritten before js → MayFollow (before ++ js) r → AreWritten before (js ++ r ∷ [])
+pub written_more : (before js : List Record) (r : Record) → AreWritten before js → MayFollow (before ++ js) r → AreWritten before (js ++ r ∷ [])
 written_more before [] r written follows = (subst (λ front. MayFollow front r) (append-nil before) follows, tt)
 written_more before (j ∷ js) r written follows =
     (written.0, written_more (before ++ j ∷ []) js r written.1 (subst (λ front. MayFollow front r) (sym (append_assoc before (j ∷ []) js)) follows))

@@ -48,25 +48,29 @@ session_note_of (Served poll block) = Some (note.Served poll block)
 session_note_of (Ended poll) = Some (note.Ended poll)
 session_note_of (Tuned quorum minority repairs) = Some (note.Tuned quorum minority repairs)
 
--- the note of a record, in a journal that has it; a deposit has none
-unfoldable pub note_of : List Record → Record → Option Note
-note_of journal (Deposit au blocks) = None
-note_of journal (PollOpened number au nonce inner tick limits kind) = Some (note.Opened number au)
-note_of journal (Nominated number voter nominees) = Some (note.Nominated number voter)
-note_of journal (OuterOpened number outer) = Some (note.Outer number (reported (length outer)))
-note_of journal (VoteIn number voter hashes) = Some (note.VoteIn number voter (is_inner journal number voter))
-note_of journal (Shut number) = Some (note.Shut number)
-note_of journal (Asked number block voter) = Some (note.Asked number block voter)
-note_of journal (RepairBad number block voter) = Some (note.RepairBad number block voter)
-note_of journal (Replaced number au block bytes) = Some (note.Replaced number au block (reported (length bytes)))
-note_of journal (Closed number outcome tick) = Some (note.Closed number outcome)
-note_of journal (Overdue au tick) = session_note_of (Overdue au tick)
-note_of journal (Joined poll au tick low repairs) = session_note_of (Joined poll au tick low repairs)
-note_of journal (Committed poll nonce version kind) = session_note_of (Committed poll nonce version kind)
-note_of journal (Voted poll hashes) = session_note_of (Voted poll hashes)
-note_of journal (Served poll block) = session_note_of (Served poll block)
-note_of journal (Ended poll) = session_note_of (Ended poll)
-note_of journal (Tuned quorum minority repairs) = session_note_of (Tuned quorum minority repairs)
+-- the note of a record, given who is in the inner circle of which poll; a deposit has none
+unfoldable pub note_with : (ℕ → ℕ → Bool) → Record → Option Note
+note_with is_in (Deposit au blocks) = None
+note_with is_in (PollOpened number au nonce inner tick limits kind) = Some (note.Opened number au)
+note_with is_in (Nominated number voter nominees) = Some (note.Nominated number voter)
+note_with is_in (OuterOpened number outer) = Some (note.Outer number (reported (length outer)))
+note_with is_in (VoteIn number voter hashes) = Some (note.VoteIn number voter (is_in number voter))
+note_with is_in (Shut number) = Some (note.Shut number)
+note_with is_in (Asked number block voter) = Some (note.Asked number block voter)
+note_with is_in (RepairBad number block voter) = Some (note.RepairBad number block voter)
+note_with is_in (Replaced number au block bytes) = Some (note.Replaced number au block (reported (length bytes)))
+note_with is_in (Closed number outcome tick) = Some (note.Closed number outcome)
+note_with is_in (Overdue au tick) = session_note_of (Overdue au tick)
+note_with is_in (Joined poll au tick low repairs) = session_note_of (Joined poll au tick low repairs)
+note_with is_in (Committed poll nonce version kind) = session_note_of (Committed poll nonce version kind)
+note_with is_in (Voted poll hashes) = session_note_of (Voted poll hashes)
+note_with is_in (Served poll block) = session_note_of (Served poll block)
+note_with is_in (Ended poll) = session_note_of (Ended poll)
+note_with is_in (Tuned quorum minority repairs) = session_note_of (Tuned quorum minority repairs)
+
+-- the note of a record, in a journal that has it
+abbrev pub note_of : List Record → Record → Option Note
+note_of journal r = note_with (is_inner journal) r
 
 abbrev pub notes_at : Option Standing → List Record → List Note
 notes_at None added = []

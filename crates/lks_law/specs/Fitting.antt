@@ -2,6 +2,7 @@
 use Rattle.std.specs.Prelude.{◌≡◌, ◌≤◌, ◌<◌, ◌&&◌, ℕ, Bool, true, false, nat_lt, Option, None, Some, is_some, List, [], ◌∷◌, length, All}
 use Rattle.std.specs.List.{list_all}
 use Rattle.lks_base.specs.Checking.{has_member}
+use Rattle.lks_base.specs.Quorums.{obeys_quorum_rule}
 use Rattle.lks_base.specs.declared.limits.TheConstants.{MOST_BLOCKS, MOST_CIRCLE}
 use Rattle.lks_base.specs.declared.names.Outcome.{Outcome}
 use Rattle.lks_base.specs.declared.names.Outcome.TheVariants.{Agreed, Inquorate, Split, NoSupplier}
@@ -25,6 +26,10 @@ most_numbered = 4294967295
 abbrev pub IsCounted : List (List ℕ) → Type 0
 IsCounted blocks = (1 ≤ length blocks) × (length blocks ≤ MOST_BLOCKS)
 
+-- numbers with which a poll may be opened
+abbrev pub AreLegal : ℕ → ℕ → Type 0
+AreLegal quorum minority = (1 ≤ quorum) × (quorum ≤ MOST_CIRCLE) × (obeys_quorum_rule quorum minority ≡ true)
+
 -- a poll that is closed as agreed is so by its votes
 abbrev pub FitsOutcome : Station → State → Poll → Outcome → Type 0
 FitsOutcome own s p Agreed = verdict_of own p (blocks_at p.opening.au s.copies) ≡ verdict.Agreed
@@ -32,15 +37,17 @@ FitsOutcome own s p Inquorate = Unit {0}
 FitsOutcome own s p (Split block) = Unit {0}
 FitsOutcome own s p (NoSupplier block) = Unit {0}
 
--- A deposit has blocks, and comes before any poll; a poll is opened on a held AU; a voter of it votes once, with a hash for each block; a voter is asked
--- for a block that the AU has, once voting ended and while nobody is waited for; and a block that the AU has is replaced.
+-- A deposit has blocks, and comes before any poll; a poll is opened on a held AU; a voter of a running one votes once, with a hash for each block; a voter is asked
+-- for a block that the AU has, once voting ended and while nobody is waited for; a block that the AU has is replaced; and
+-- numbers in force are such that a poll may be opened with them.
 abbrev pub Fits : Station → State → Record → Type 0
 Fits own s (Deposit au blocks) = IsCounted blocks × (s.polls ≡ [])
 Fits own s (PollOpened number au nonce inner tick limits kind) = (is_some (copy_at au s.copies) ≡ true) × (length inner ≤ MOST_CIRCLE) × (s.openings < most_numbered)
 Fits own s (Nominated number voter nominees) = Unit {0}
 Fits own s (OuterOpened number outer) = Unit {0}
 Fits own s (VoteIn number voter hashes) =
-    Where (poll_at number s.polls) (λ p. (has_member p.voters voter ≡ false) × (length hashes ≡ length (blocks_at p.opening.au s.copies)))
+    (is_some (poll_at number s.polls) ≡ true)
+    × Where (poll_at number s.polls) (λ p. (has_member p.voters voter ≡ false) × (length hashes ≡ length (blocks_at p.opening.au s.copies)))
 Fits own s (Shut number) = Unit {0}
 Fits own s (Asked number block voter) =
     Where (poll_at number s.polls) (λ p. (p.shut ≡ true) × (p.request ≡ None) × (block < length (blocks_at p.opening.au s.copies)))
@@ -53,7 +60,7 @@ Fits own s (Committed poll nonce version kind) = Unit {0}
 Fits own s (Voted poll hashes) = Unit {0}
 Fits own s (Served poll block) = Unit {0}
 Fits own s (Ended poll) = Unit {0}
-Fits own s (Tuned quorum minority repairs) = Unit {0}
+Fits own s (Tuned quorum minority repairs) = AreLegal quorum minority
 
 -- each of these records, one after another
 abbrev pub AreFitting : Station → State → List Record → Type 0
@@ -64,10 +71,12 @@ AreFitting own s (r ∷ rs) = Fits own s r × AreFitting own (after own s r) rs
 abbrev pub AsksWithin : List Copy → Poll → Type 0
 AsksWithin copies p = Where p.request (λ r. r.block < length (blocks_at p.opening.au copies))
 
--- each copy has as many blocks as an AU has, and each request of a running poll is for one of them
+-- each copy has as many blocks as an AU has, each request of a running poll is for one of them, and a poll may be opened with
+-- the numbers in force
 pub record IsSound (s : State) : Type 0 where
   pub counted : All (λ (c : Copy). IsCounted c.blocks) s.copies
   pub asks : All (AsksWithin s.copies) s.polls
+  pub legal : AreLegal s.numbers.quorum s.numbers.minority
 
 -- whether a poll and a version more can be numbered
 abbrev pub has_room : State → Bool

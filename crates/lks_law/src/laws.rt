@@ -119,7 +119,8 @@ pub fn every_turn_is_of_a_running_poll()
 {}
 
 /// What the rules add fits the state to which it is added, while a poll and a version more can be numbered; and whatever fits
-/// leaves each copy with as many blocks as an AU has, and each request for one of them.
+/// leaves each copy with as many blocks as an AU has, each request for one of them, and numbers in force with which a poll may
+/// be opened.
 pub fn whatever_is_added_fits()
     ensures adds { (own : Station) (s : State) → own.rules.inner ≤ MOST_CIRCLE → has_room s ≡ true → IsSound s → (tick : ℕ) (i : Input) → AreFitting own s (react_on own s tick i).records }
     ensures keeps { (own : Station) (s : State) (r : Record) → Fits own s r → IsSound s → IsSound (after own s r) }

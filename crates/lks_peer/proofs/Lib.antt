@@ -1,6 +1,4 @@
-pub mod FewBlocks
-pub mod Losses
-pub mod Ready
-pub mod Requests
-pub mod Sound
-pub mod Votes
+pub mod Asking
+pub mod Knowing
+pub mod Listing
+pub mod Welling

@@ -1,4 +1,1 @@
-pub mod Replacing
-pub mod Requests
-pub mod Small
-pub mod Voters
+pub mod Knows

@@ -1,54 +1,33 @@
-//! A peer as others see it: what it goes by, and its journal.
+//! A peer as others see it: what it goes by, and the state in which it is.
 
-ghost use Rattle.std.specs.Prelude.{◌≡◌, ◌≤◌, ◌++◌, IfOk, OnOk, OnErr, IsSome, None, true, length, filter, find, option_map, slice_get};
-ghost use Rattle.std.specs.List.{filter_map, range_with_len};
+ghost use Rattle.std.specs.Prelude.{◌≡◌, ◌≤◌, ◌<◌, ℕ, List, IfOk, IsSome, Some, None, OnOk, nat_lt, length, find, option_map, slice_get};
+ghost use Rattle.std.specs.List.{list_all, filter_map};
 ghost use Rattle.std.specs.Option.{option_copied};
-ghost use Rattle.lks_base.specs.declared.limits.TheConstants.{MOST_PROOF_BYTES};
+ghost use Rattle.lks_audit.specs.Seen.{poll_of};
 ghost use Rattle.lks_base.specs.Checking.{plan_fault};
-ghost use Rattle.lks_hash.specs.Counting.{Opens};
+ghost use Rattle.lks_base.specs.declared.plans.PeerPlan.{PeerPlan as Planned};
 ghost use Rattle.lks_law.specs.Due as due;
-ghost use Rattle.lks_law.specs.Due.{ready_at, turns_at};
-ghost use Rattle.lks_law.specs.Entries.{is_inner};
-ghost use Rattle.lks_law.specs.Journal.{openings};
-ghost use Rattle.lks_law.specs.Reaction.{may_tally, reaction};
+ghost use Rattle.lks_versions.specs.Shelf.{current_of};
+ghost use Rattle.lks_law.specs.Fitting.{AreFitting, Fits, most_numbered};
+ghost use Rattle.lks_law.specs.Fitting as fitting;
+ghost use Rattle.lks_law.specs.Reacting.{react_on};
+ghost use Rattle.lks_law.specs.State.{after, after_all, blank};
+ghost use Rattle.lks_law.specs.Turning.{ready_in, turn_in, ready_on, turns_on, has_inner_in};
 ghost use Rattle.lks_law.specs.World.{station_of, is_honest_at, honest_peer};
-ghost use Rattle.lks_peer.specs.Small.{are_small, most_records};
+ghost use Rattle.lks_peer.specs.Knows.{state_of, IsFit, IsWell, IsMade, knowing_of};
 
-use crate::journals::{
-    count_openings, find_opening, find_unanswered, is_running, is_voting, is_widened,
-};
-use crate::records::copy_all;
-use crate::stations::Station;
-use crate::steps::{may_tally, react};
+use crate::known::{Known, apply};
+use crate::reacting::react;
+use lks_audit::{Copies, Held, Polls, Station, find_poll};
 use lks_base::{
-    Input, OutOfMemory, PeerId, PeerPlan, PeerStep, Plan, Reaction, Record, has_member,
+    Input, Numbers, OutOfMemory, PeerId, PeerPlan, PeerStep, Plan, Reaction, Record, has_member,
 };
-use lks_hash::Steps;
+use lks_blocks::{BlockPool, PoolMark};
+use lks_poller::PollSession;
+use lks_refs::References;
 use std::alloc::Global;
-use std::marker::{Brand, Model};
-use std::sync::ledger::{Blank, Ledger};
-
-/// The most records of a journal.
-const MOST_RECORDS: usize = 1_000_000_000;
-
-/// A peer of a plan. It is its list of records: all that it does follows from these.
-#[derive(Drop)]
-pub struct Peer {
-    alloc: Global,
-    own: Station,
-    list: Vec<Record>,
-}
-
-impl Model for Peer {
-    ghost use Rattle.lks_law.specs.World.{Standing};
-    ghost use Rattle.lks_peer.specs.Small.{IsSound};
-
-    ghost Value = { Standing };
-
-    ghost view = { λ a. record { own = a.own; journal = a.list.items } };
-
-    ghost invariant = { λ a. IsSound a.own a.list.items };
-}
+use std::marker::Model;
+use std::sync::Wait;
 
 /// The honest peer of this number.
 pub fn find_honest(peers: &[PeerPlan], id: PeerId) -> Option<&PeerPlan>
@@ -57,75 +36,84 @@ pub fn find_honest(peers: &[PeerPlan], id: PeerId) -> Option<&PeerPlan>
     peers.iter().find(|p| p.id == id && !p.corrupt)
 }
 
-fn step_counted<L: Ledger>(
-    alloc: Global,
-    own: &Station,
-    journal: &[Record],
-    tick: u32,
-    input: &Input,
-    blank: Blank,
-) -> Result<Reaction, OutOfMemory>
-    requires opens { Opens blank L.name L.parts }
-    requires small { are_small journal.now ≡ true }
-    requires few { length journal.now ≤ most_records }
-    requires short { length own.now.proof ≤ MOST_PROOF_BYTES }
-    ensures { IfOk result (λ r. r ≡ reaction own.now journal.now tick input.now) }
+/// What a peer with no records knows.
+fn know_nothing(alloc: Global, own: &Station) -> Result<Known, OutOfMemory>
+    ensures { IfOk result (λ known. IsMade own.now known) }
 {
-    react(
-        alloc,
-        own,
-        journal,
-        tick,
-        input,
-        &mut Steps::<L>::open(blank),
-    )
+    Ok(Known {
+        numbers: Numbers {
+            quorum: own.rules.quorum,
+            minority: own.rules.minority,
+            repairs: own.rules.repairs,
+        },
+        openings: 0,
+        copies: Copies::new(alloc),
+        polls: Polls::new(alloc),
+        references: References::new(alloc, own.id, own.refs.clone()?, own.friends.clone()?),
+    })
 }
 
-fn step_once(
+#[tactic(auto, using(crate::proofs::Welling::well_noted))]
+fn note<R: Wait>(
     alloc: Global,
+    rt: &R,
+    pool: &BlockPool,
     own: &Station,
-    journal: &[Record],
-    tick: u32,
-    input: &Input,
-) -> Result<Reaction, OutOfMemory>
-    requires small { are_small journal.now ≡ true }
-    requires few { length journal.now ≤ most_records }
-    requires short { length own.now.proof ≤ MOST_PROOF_BYTES }
-    ensures { IfOk result (λ r. r ≡ reaction own.now journal.now tick input.now) }
+    known: &mut Known,
+    r: &Record,
+) -> Result<(), OutOfMemory>
+    requires well { IsWell own.now pool.now known.old }
+    requires fits { Fits own.now (state_of known.old) r.now }
+    ensures state { OnOk result (state_of known.new ≡ after own.now (state_of known.old) r.now) }
+    ensures well { IsWell own.now pool.now known.new }
 {
-    step_counted::<Brand>(alloc, own, journal, tick, input, Blank::new(1))
+    apply(alloc, rt, pool, own, known, r)
 }
 
-// A journal with no room for more records counts as one that is refused memory.
-fn append(journal: &mut Vec<Record>, mut added: Vec<Record>) -> Result<(), OutOfMemory>
-    requires { length journal.old.items ≤ most_records }
-    ensures ok { OnOk result (journal.new.items ≡ journal.old.items ++ added.items) }
-    ensures few { OnOk result (length journal.new.items ≤ most_records) }
-    ensures err { OnErr result (journal.new.items ≡ journal.old.items) }
+/// Notes these records, one after another. For want of memory some of them are noted.
+fn apply_all<R: Wait>(
+    alloc: Global,
+    rt: &R,
+    pool: &BlockPool,
+    own: &Station,
+    known: &mut Known,
+    records: &[Record],
+) -> Result<(), OutOfMemory>
+    requires well { IsWell own.now pool.now known.old }
+    requires fits { AreFitting own.now (state_of known.old) records.now }
+    ensures state { OnOk result (state_of known.new ≡ after_all own.now (state_of known.old) records.now) }
+    ensures well { IsWell own.now pool.now known.new }
 {
-    let room = MOST_RECORDS - journal.as_slice().len();
-    if added.as_slice().len() > room {
-        return Err(OutOfMemory);
+    for r in records {
+        note(alloc, rt, pool, own, known, r)?;
     }
-    journal.append(&mut added)?;
     Ok(())
 }
 
-#[tactic(auto, using(crate::proofs::Ready::range_more))]
-fn ready_number(journal: &[Record], k: u32) -> Option<u32>
-    requires { length journal.now ≤ most_records }
-    ensures { result ≡ slice_get (filter (λ n. may_tally n journal.now) (range_with_len 1 (openings journal.now))) k }
+fn have_versions_left(copies: &[Held]) -> bool
+    ensures { result ≡ list_all (λ h. nat_lt (current_of h.versions) most_numbered) copies.now }
 {
-    let mut left = k;
-    for n in 0..count_openings(journal) as u32 {
-        if may_tally(journal, n + 1) {
-            if left == 0 {
-                return Some(n + 1);
-            }
-            left -= 1;
-        }
+    copies.iter().all(|held| held.versions.current() < u32::MAX)
+}
+
+#[tactic(auto, using(crate::proofs::Listing::left_seen))]
+fn has_room(known: &Known) -> bool
+    ensures { result ≡ fitting.has_room (state_of known.now) }
+{
+    known.openings < u32::MAX && have_versions_left(known.copies.as_slice())
+}
+
+fn ready_of(id: PeerId, poll: &PollSession) -> Option<PeerStep>
+    ensures { result ≡ ready_in id (poll_of poll.now) }
+{
+    if poll.is_shut() && poll.unanswered().is_none() {
+        Some(PeerStep::Tally {
+            peer: id,
+            number: poll.poll().number,
+        })
+    } else {
+        None
     }
-    None
 }
 
 fn turn_at(id: PeerId, number: u32, asked: bool, voting: bool, widened: bool) -> Option<PeerStep>
@@ -142,30 +130,20 @@ fn turn_at(id: PeerId, number: u32, asked: bool, voting: bool, widened: bool) ->
     }
 }
 
-#[tactic(auto, unfolding(lks_law::specs::Due::turn_of))]
-fn turn_of(id: PeerId, journal: &[Record], number: u32) -> Option<PeerStep>
-    ensures { result ≡ due.turn_of id journal.now number }
+fn turn_of(id: PeerId, poll: &PollSession) -> Option<PeerStep>
+    ensures { result ≡ turn_in id (poll_of poll.now) }
 {
-    if !is_running(journal, number) {
-        return None;
-    }
-    turn_at(
-        id,
-        number,
-        find_unanswered(journal, number).is_some(),
-        is_voting(journal, number),
-        is_widened(journal, number),
-    )
+    let number = poll.poll().number;
+    let asked = poll.unanswered().is_some();
+    turn_at(id, number, asked, !poll.is_shut(), poll.outer().is_some())
 }
 
-#[tactic(auto, using(crate::proofs::Ready::range_more))]
-fn find_turn(id: PeerId, journal: &[Record], k: u32) -> Option<PeerStep>
-    requires { length journal.now ≤ most_records }
-    ensures { result ≡ slice_get (filter_map (due.turn_of id journal.now) (range_with_len 1 (openings journal.now))) k }
+fn find_ready(id: PeerId, polls: &[PollSession], k: u32) -> Option<PeerStep>
+    ensures { result ≡ slice_get (filter_map (λ s. ready_in id (poll_of s)) polls.now) k }
 {
     let mut left = k;
-    for n in 0..count_openings(journal) as u32 {
-        if let Some(step) = turn_of(id, journal, n + 1) {
+    for poll in polls {
+        if let Some(step) = ready_of(id, poll) {
             if left == 0 {
                 return Some(step);
             }
@@ -175,89 +153,138 @@ fn find_turn(id: PeerId, journal: &[Record], k: u32) -> Option<PeerStep>
     None
 }
 
+fn find_turn(id: PeerId, polls: &[PollSession], k: u32) -> Option<PeerStep>
+    ensures { result ≡ slice_get (filter_map (λ s. turn_in id (poll_of s)) polls.now) k }
+{
+    let mut left = k;
+    for poll in polls {
+        if let Some(step) = turn_of(id, poll) {
+            if left == 0 {
+                return Some(step);
+            }
+            left -= 1;
+        }
+    }
+    None
+}
+
+/// A peer of a plan. It is in the state that its journal says, and moves with each record.
+#[derive(Drop)]
+pub struct Peer {
+    alloc: Global,
+    own: Station,
+    mark: PoolMark,
+    known: Known,
+}
+
+impl Model for Peer {
+    ghost use Rattle.lks_peer.specs.Knows.{Knowing, state_of, IsWell};
+
+    ghost Value = { Knowing };
+
+    ghost view = { λ a. record { own = a.own; pool = a.mark; state = state_of a.known } };
+
+    ghost invariant = { λ a. IsWell a.own a.mark a.known };
+}
+
 impl Peer {
-    /// A peer of a good plan, with a journal of its own.
-    pub fn begin(
+    fn begin<R: Wait>(
         alloc: Global,
-        plan: &Plan,
-        planned: &PeerPlan,
-        list: Vec<Record>,
+        rt: &R,
+        pool: &BlockPool,
+        own: Station,
+        list: &[Record],
     ) -> Result<Peer, OutOfMemory>
-        requires small { are_small list.items ≡ true }
-        requires short { length planned.now.proof ≤ MOST_PROOF_BYTES }
-        ensures { IfOk result (λ peer. peer ≡ record { own = station_of plan.now planned.now; journal = list.items }) }
+        requires fit { IsFit own (blank own) }
+        requires fits { AreFitting own (blank own) list.now }
+        ensures { IfOk result (λ peer. peer ≡ knowing_of pool.now (record { own = own; journal = list.now })) }
     {
-        let own = Station::new(alloc, plan, planned)?;
-        let mut journal = Vec::new(alloc);
-        append(&mut journal, list)?;
+        let mut known = know_nothing(alloc, &own)?;
+        apply_all(alloc, rt, pool, &own, &mut known, list)?;
         Ok(Peer {
             alloc,
             own,
-            list: journal,
+            mark: PoolMark::of(pool),
+            known,
         })
     }
 
-    /// The honest peer `id` of a good plan, with a journal of its own.
-    #[tactic(auto, using(lks_base::proofs::PlanLaws::short_proof))]
-    pub fn restore(
+    /// The honest peer `id` of a good plan, with a journal of its own, whose blocks go into the pool.
+    pub fn restore<R: Wait>(
         alloc: Global,
+        rt: &R,
+        pool: &BlockPool,
         plan: &Plan,
         id: PeerId,
         list: &[Record],
     ) -> Result<Peer, OutOfMemory>
         requires good { plan_fault plan.now ≡ None }
         requires honest { IsSome (honest_peer id plan.now) }
-        requires small { are_small list.now ≡ true }
-        ensures { IfOk result (λ peer. option_map (λ p. record { own = station_of plan.now p; journal = list.now }) (honest_peer id plan.now) ≡ Some peer) }
+        requires fits { (p : Planned) → honest_peer id plan.now ≡ Some p → AreFitting (station_of plan.now p) (blank (station_of plan.now p)) list.now }
+        ensures { IfOk result (λ peer. option_map (λ p. knowing_of pool.now (record { own = station_of plan.now p; journal = list.now })) (honest_peer id plan.now) ≡ Some peer) }
     {
         let Some(planned) = find_honest(plan.peers.as_slice(), id) else {
             unreachable!()
         };
-        Peer::begin(alloc, plan, planned, copy_all(alloc, list)?)
+        let own = Station::new(alloc, plan, planned)?;
+        Peer::begin(alloc, rt, pool, own, list)
     }
 
-    /// What the peer adds to its journal and sends at this tick. The records stand in its journal
-    /// afterwards; for want of memory nothing changed.
-    pub fn step(&mut self, tick: u32, input: &Input) -> Result<Reaction, OutOfMemory>
-        ensures reaction { IfOk result (λ r. r ≡ reaction self.old.own self.old.journal tick input.now) }
-        ensures journal { IfOk result (λ r. self.new ≡ record { own = self.old.own; journal = self.old.journal ++ r.records }) }
-        ensures err { OnErr result (self.new ≡ self.old) }
+    /// What the peer adds to its journal and sends at this tick. It is afterwards in the state that these records make of the
+    /// one before. After a refusal it is to be restored.
+    pub fn step<R: Wait>(
+        &mut self,
+        rt: &R,
+        pool: &BlockPool,
+        tick: u32,
+        input: &Input,
+    ) -> Result<Reaction, OutOfMemory>
+        requires { pool.now ≡ self.old.pool }
+        ensures reaction { IfOk result (λ r. r ≡ react_on self.old.own self.old.state tick input.now) }
+        ensures state { IfOk result (λ r. self.new.state ≡ after_all self.old.own self.old.state r.records) }
+        ensures fits { IfOk result (λ r. AreFitting self.old.own self.old.state r.records) }
+        ensures fit { IsFit self.old.own self.old.state }
+        ensures own { self.new.own ≡ self.old.own }
+        ensures pool { self.new.pool ≡ self.old.pool }
     {
-        let answer = step_once(self.alloc, &self.own, &self.list, tick, input)?;
-        let added = copy_all(self.alloc, answer.records.as_slice())?;
-        append(&mut self.list, added)?;
-        Ok(answer)
+        if !has_room(&self.known) {
+            return Err(OutOfMemory);
+        }
+        let reaction = react(self.alloc, &self.own, pool, &mut self.known, tick, input)?;
+        let records = reaction.records.as_slice();
+        apply_all(self.alloc, rt, pool, &self.own, &mut self.known, records)?;
+        Ok(reaction)
     }
 
-    /// The `k`-th of the steps for which the peer is ready, counted from 0 by poll number.
-    #[tactic(auto, unfolding(lks_law::specs::Due::ready_at))]
+    /// The `k`-th of the steps for which the peer is ready, counted from 0 in order of its running polls.
+    #[tactic(auto, unfolding(lks_law::specs::Turning::ready_on), using(crate::proofs::Listing::steps_seen))]
     pub fn ready(&self, k: u32) -> Option<PeerStep>
-        ensures { result ≡ slice_get (ready_at self.now) k }
+        ensures { result ≡ slice_get (ready_on self.now.own self.now.state) k }
     {
-        let number = ready_number(&self.list, k)?;
-        Some(PeerStep::Tally {
-            peer: self.own.id,
-            number,
-        })
+        find_ready(self.own.id, self.known.polls.as_slice(), k)
     }
 
-    /// The `k`-th of the steps that the peer takes in its running polls when nothing else is due, counted from 0 by poll
-    /// number: a request is given up, else the outer circle is invited, else the poll is shut.
-    #[tactic(auto, unfolding(lks_law::specs::Due::turns_at))]
+    /// The `k`-th of the steps that the peer takes in its running polls when nothing else is due, counted from 0 in their
+    /// order: a request is given up, else the outer circle is invited, else the poll is shut.
+    #[tactic(auto, unfolding(lks_law::specs::Turning::turns_on), using(crate::proofs::Listing::steps_seen))]
     pub fn turn(&self, k: u32) -> Option<PeerStep>
-        ensures { result ≡ slice_get (turns_at self.now) k }
+        ensures { result ≡ slice_get (turns_on self.now.own self.now.state) k }
     {
-        find_turn(self.own.id, &self.list, k)
+        find_turn(self.own.id, self.known.polls.as_slice(), k)
     }
 
-    /// Whether the peer's poll `number` has this peer in its inner circle.
-    #[tactic(auto, unfolding(lks_law::specs::Entries::is_inner))]
+    /// Whether the peer's running poll `number` has this peer in its inner circle.
+    #[tactic(auto, unfolding(lks_law::specs::Turning::has_inner_in))]
     pub fn has_inner(&self, number: u32, voter: PeerId) -> bool
-        ensures { result ≡ is_inner self.now.journal number voter }
+        ensures { result ≡ has_inner_in self.now.state number voter }
     {
-        find_opening(&self.list, number).is_some_and(|opening| has_member(opening.inner, voter))
+        match find_poll(self.known.polls.as_slice(), number) {
+            Some(poll) => has_member(poll.inner(), voter),
+            None => false,
+        }
     }
 
+    /// The peer's number.
     pub fn id(&self) -> PeerId
         ensures { result ≡ self.now.own.id }
     {

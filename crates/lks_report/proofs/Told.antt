@@ -19,7 +19,7 @@ use Rattle.lks_base.specs.declared.reactions.Input.TheVariants as input
 use Rattle.lks_base.specs.declared.records.Record.{Record}
 use Rattle.lks_base.specs.declared.records.Record.TheVariants.{Deposit, PollOpened, Nominated, OuterOpened, VoteIn, Shut, Asked, RepairBad, Replaced, Closed, Overdue, Joined, Committed, Voted, Served, Ended, Tuned}
 use Rattle.lks_law.specs.Alarms.{alarm_in, alarms_of, alarms_by, alarms_from, alarms}
-use Rattle.lks_law.specs.Entries.{session_note_of, note_of, notes_at, notes_of, receiver_of, carried, entry_of, entries_from, entries}
+use Rattle.lks_law.specs.Entries.{session_note_of, note_with, note_of, notes_at, notes_of, receiver_of, carried, entry_of, entries_from, entries}
 use Rattle.lks_law.specs.World.{World, Deed, Standing, start, got, message_in, delivered, own_deed_of, deed_of, peer_at, reaction_at, after_step, happens}
 use Rattle.lks_report.specs.Alarms.{is_alarming_end, is_alarm, is_alarming, is_alarmed, has_any}
 use Rattle.lks_report.specs.Scans.{step_actor, actor, ticks_in, tick_at}
@@ -49,7 +49,7 @@ module _ (peer tick : ℕ) (journal : List Record) where
 
   record_told : (r : Record) (notes : List Note) (raised : List Alarm) → Tells peer tick notes raised
       → Tells peer tick (cons_option (note_of journal r) notes) (cons_option (alarm_in peer tick r) raised)
-  unfolding note_of session_note_of is_alarm is_alarming_end closing_alarm alarm_line
+  unfolding note_with session_note_of is_alarm is_alarming_end closing_alarm alarm_line
   record_told (Deposit au blocks) notes raised told = told
   record_told (PollOpened number au nonce inner at limits hash) notes raised told = note_told _ notes raised refl refl told
   record_told (Nominated number voter nominees) notes raised told = note_told _ notes raised refl refl told

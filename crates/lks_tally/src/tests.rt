@@ -6,7 +6,7 @@ ghost use Rattle.lks_tally.specs.Keeping.{IsCacheOf, IsReserved, IsSame};
 
 use super::*;
 use crate::counts;
-use lks_base::{Contents, HashKind, Hashes, Ids, Limits, PollName, Rules};
+use lks_base::{Contents, HashKind, Hashes, Ids, PollName, Rules};
 use lks_hash::{Chain, Steps};
 use std::alloc::Global;
 use std::marker::Brand;
@@ -115,34 +115,17 @@ fn tally_of<C: Contents, L: Ledger>(
     Ok(tally)
 }
 
-fn verdict_counted<L: Ledger>(
-    blank: Blank,
-    alloc: Global,
-    votes: &[Pair],
-) -> Result<(Verdict, Verdict), Fail>
+fn verdict_counted<L: Ledger>(blank: Blank, alloc: Global, votes: &[Pair]) -> Result<Verdict, Fail>
     requires blank { Opens blank L.name L.parts }
     requires few { length votes.now ≤ MOST_CIRCLE }
 {
     let kind = HashKind::Sha256;
     let mut steps = Steps::<L>::open(blank);
     let mut tally = tally_of(alloc, kind, kind, 2, votes, &mut steps)?;
-    let kept = tally.verdict(&Pair(*b"B"), &mut steps);
-    let mut plain = Vec::new(alloc);
-    for (i, copy) in votes.iter().enumerate() {
-        let voter = i as u16 + 2;
-        let hashes = hashes_of(alloc, kind, voter, copy, &mut steps)?;
-        plain.push(Vote { voter, hashes })?;
-    }
-    let limits = Limits {
-        quorum: RULES.quorum,
-        minority: RULES.minority,
-    };
-    let ballot = ballot_of(kind, 2);
-    let afresh = verdict_of(alloc, &ballot, limits, &plain, &Pair(*b"B"), &mut steps)?;
-    Ok((kept, afresh))
+    Ok(tally.verdict(&Pair(*b"B"), &mut steps))
 }
 
-fn verdict_on(alloc: Global, votes: &[Pair]) -> Result<(Verdict, Verdict), Fail>
+fn verdict_on(alloc: Global, votes: &[Pair]) -> Result<Verdict, Fail>
     requires { length votes.now ≤ MOST_CIRCLE }
 {
     verdict_counted::<Brand>(Blank::new(1), alloc, votes)
@@ -153,7 +136,7 @@ fn verdicts(rt: HostRuntime) -> Result<(), Fail> {
     let good = Pair(*b"B");
     let other = Pair(*b"C");
     let inquorate = verdict_on(rt.alloc(), &[good, good])?;
-    assert_eq!(rt; inquorate, (Verdict::Inquorate, Verdict::Inquorate));
+    assert_eq!(rt; inquorate, Verdict::Inquorate);
     let cases = [
         ([good, good, good, good], Verdict::Agreed),
         ([good, other, good, good], Verdict::Agreed),
@@ -163,7 +146,7 @@ fn verdicts(rt: HostRuntime) -> Result<(), Fail> {
     ];
     for (votes, want) in &cases {
         let found = verdict_on(rt.alloc(), votes)?;
-        assert_eq!(rt; found, (*want, *want));
+        assert_eq!(rt; found, *want);
     }
     Ok(())
 }
@@ -281,12 +264,8 @@ fn published(alloc: Global) -> Result<Hashes, Fail> {
     Ok(Hashes::from_vec(hashes))
 }
 
-/// Who is against the copy at its second block, who is for it, and what the votes say there.
-fn against_counted<L: Ledger>(
-    blank: Blank,
-    alloc: Global,
-    copy: &Pair,
-) -> Result<(Ids, Ids, At), Fail>
+/// Who is for the copy at its second block.
+fn holders_counted<L: Ledger>(blank: Blank, alloc: Global, copy: &Pair) -> Result<Ids, Fail>
     requires { Opens blank L.name L.parts }
 {
     let mut steps = Steps::<L>::open(blank);
@@ -296,27 +275,18 @@ fn against_counted<L: Ledger>(
         hashes: published(alloc)?,
     })?;
     let ballot = ballot_of(HashKind::Sha256, 2);
-    let against = against_of(alloc, &ballot, &votes, copy, 1, &mut steps)?;
-    let agreeing = for_of(alloc, &ballot, &votes, copy, 1, &mut steps)?;
-    let at = at_of(alloc, &ballot, 0, &votes, copy, 1, &mut steps)?;
-    Ok((against, agreeing, at))
+    Ok(for_of(alloc, &ballot, &votes, copy, 1, &mut steps)?)
 }
 
-fn against_on(alloc: Global, copy: &Pair) -> Result<(Ids, Ids, At), Fail> {
-    against_counted::<Brand>(Blank::new(1), alloc, copy)
+fn holders_of(alloc: Global, copy: &Pair) -> Result<Ids, Fail> {
+    holders_counted::<Brand>(Blank::new(1), alloc, copy)
 }
 
 #[test]
 fn published_vote(rt: HostRuntime) -> Result<(), Fail> {
     let alloc = rt.alloc();
-    let (against, agreeing, at) = against_on(alloc, &Pair(*b"B"))?;
-    assert_eq!(rt; against.as_slice(), [].as_slice());
-    assert_eq!(rt; agreeing.as_slice(), [2].as_slice());
-    assert_eq!(rt; at, At::Win);
-    let (against, agreeing, at) = against_on(alloc, &Pair(*b"C"))?;
-    assert_eq!(rt; against.as_slice(), [2].as_slice());
-    assert_eq!(rt; agreeing.as_slice(), [].as_slice());
-    assert_eq!(rt; at, At::Loss);
+    assert_eq!(rt; holders_of(alloc, &Pair(*b"B"))?.as_slice(), [2].as_slice());
+    assert_eq!(rt; holders_of(alloc, &Pair(*b"C"))?.as_slice(), [].as_slice());
 
     let q = ballot_of(HashKind::Sha256, 2);
     let mut tally = Tally::new(alloc, &RULES, q.poll, q.au, q.kind, q.nonce, q.count);

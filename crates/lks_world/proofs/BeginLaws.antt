@@ -1,6 +1,6 @@
 -- Seats are made one after another.
 use Rattle.std.proofs.Common.{◌≡◌, ◌<◌, ◌+◌, ◌∙◌, ap, sym, subst, ℕ, zero, suc, false, List, [], ◌∷◌, ◌++◌, length, get_or, take, drop, refl, add-one, drop-cons, append_assoc}
-use Rattle.std.specs.Prelude.{Option, Some, None, filter, slice_get, map, reverse}
+use Rattle.std.specs.Prelude.{Option, Some, None, option_map, filter, slice_get, map, reverse}
 use Rattle.std.proofs.lemmas.List.{map-append, reverse-append, take-append-drop, take_more}
 use Rattle.std.proofs.lemmas.List.Elements.{filter-append, filter_map-append}
 use Rattle.std.proofs.lemmas.Option.{slice_get-get_or}
@@ -9,6 +9,13 @@ use Rattle.lks_base.proofs.PlanBounds.{found_peer}
 use Rattle.lks_base.specs.Checking.{plan_fault}
 use Rattle.lks_base.specs.declared.plans.PeerPlan.{PeerPlan}
 use Rattle.lks_base.specs.declared.plans.Plan.{Plan}
+use Rattle.lks_base.specs.declared.records.Record.{Record}
+use Rattle.lks_host.proofs.Journals.{journal_is}
+use Rattle.lks_host.specs.Hosted.{StandsFor}
+use Rattle.lks_host.specs.Journals.{journal_on}
+use Rattle.lks_law.proofs.Batches.{each_alone}
+use Rattle.lks_law.specs.Batches.{alone}
+use Rattle.lks_peer.specs.Knows.{Knowing, knowing_of}
 use Rattle.lks_host.specs.declared.faults.HostFault.{HostFault}
 use Rattle.lks_host.specs.declared.faults.HostFault.TheVariants as host
 use Rattle.lks_host.specs.declared.hosts.Host.{Host}
@@ -43,6 +50,27 @@ blamed_is peer k host.Failed is = (cc, refl)
 blamed_is peer k host.Cut is = absurd cc
 blamed_is peer k host.Memory is = absurd cc
 
+-- What a host begins with is on its disk.
+
+pub record Begins {D : Type 0} (f : Face D) (pool : List ℕ) (plan : Plan) (o : Option PeerPlan) (host : Host D) : Type 0 where
+  pub peer : option_map (standing_of plan) o ≡ Some (peer_in f host)
+  pub stands : StandsFor f host (map alone (journal_on f host.journal.disk))
+  pub pooled : host.peer.pool ≡ pool
+
+pub begins : {D : Type 0} (f : Face D) (pool : List ℕ) (plan : Plan) (o : Option PeerPlan) (host : Host D) → option_map (λ (p : PeerPlan). knowing_of pool (standing_of plan p)) o ≡ Some host.peer
+    → ((p : PeerPlan) → o ≡ Some p → StandsFor f host (map alone (standing_of plan p).journal)) → Begins f pool plan o host
+begins f pool plan None host made stands = absurd cc
+begins f pool plan (Some p) host made stands =
+    let same : knowing_of pool (standing_of plan p) ≡ host.peer = cc in
+    let js = (standing_of plan p).journal in
+    let stood = stands p refl in
+    let there : journal_on f host.journal.disk ≡ js = journal_is f host (map alone js) stood ∙ each_alone js in
+    record {
+      peer = λ i. Some (record { own = ap (λ (k : Knowing). k.own) same i; journal = sym there i });
+      stands = subst (λ (xs : List Record). StandsFor f host (map alone xs)) (sym there) stood;
+      pooled = sym (ap (λ (k : Knowing). k.pool) same);
+    }
+
 -- One seat more.
 
 same_fuses : {D : Type 0} (f : Face D) (seats : List (Seat D)) (d e : D) (rest : List D) → f.fused e ≡ f.fused d → map f.fused (disks_at seats ++ e ∷ rest) ≡ map f.fused (disks_at seats ++ d ∷ rest)
@@ -72,31 +100,31 @@ in_list seats left after e now = ap (λ ds. disks_at seats ++ ds) (last_first af
 -- Seats for the peers of a plan, one after another.
 
 -- so far these seats were made for the peers that are done, and these disks are left, the next one last
-pub record AreMade {D : Type 0} (f : Face D) (plan : Plan) (first : List D) (seats : List (Seat D)) (disks : List D) (done : List PeerPlan) : Type 0 where
+pub record AreMade {D : Type 0} (f : Face D) (pool : List ℕ) (plan : Plan) (first : List D) (seats : List (Seat D)) (disks : List D) (done : List PeerPlan) : Type 0 where
   pub placed : AreSeats done seats
-  pub peers : peers_of (hosts_of seats) ≡ map (standing_of plan) (filter is_honest done)
-  pub begun : HaveBegun f (hosts_of seats)
+  pub peers : peers_of f (hosts_of seats) ≡ map (standing_of plan) (filter is_honest done)
+  pub begun : HaveBegun f pool (hosts_of seats)
   pub fresh : AreFresh f (reverse disks)
   pub serves : ServesHonest f plan.peers (reverse first) (disks_at seats ++ reverse disks) None
   pub fuses : map f.fused (disks_at seats ++ reverse disks) ≡ map f.fused (reverse first)
 
-module _ {D : Type 0} (f : Face D) (plan : Plan) where
-  pub made_start : (disks : List D) (seats : List (Seat D)) → seats ≡ [] → AreFresh f (reverse disks) → AreMade f plan disks seats disks []
+module _ {D : Type 0} (f : Face D) (pool : List ℕ) (plan : Plan) where
+  pub made_start : (disks : List D) (seats : List (Seat D)) → seats ≡ [] → AreFresh f (reverse disks) → AreMade f pool plan disks seats disks []
   made_start disks seats none fresh =
-      subst (λ (ss : List (Seat D)). AreMade f plan disks ss disks []) (sym none)
+      subst (λ (ss : List (Seat D)). AreMade f pool plan disks ss disks []) (sym none)
       (record { placed = refl; peers = refl; begun = λ place h at. absurd cc; fresh = fresh; serves = serves_none f plan.peers (reverse disks) None (λ id is. absurd cc); fuses = refl })
 
   -- what one seat more is to the list of them
   record IsNext (p : PeerPlan) (s : Seat D) : Type 0 where
     id : id_at s ≡ id_for p
-    peer : peers_of (hosts_of (s ∷ [])) ≡ map (standing_of plan) (filter is_honest (p ∷ []))
-    begun : HaveBegun f (hosts_of (s ∷ []))
+    peer : peers_of f (hosts_of (s ∷ [])) ≡ map (standing_of plan) (filter is_honest (p ∷ []))
+    begun : HaveBegun f pool (hosts_of (s ∷ []))
 
-  begun_alone : (h : Host D) → HasBegun f h → HaveBegun f (h ∷ [])
-  begun_alone h has zero k at = let same : h ≡ k = cc in subst (HasBegun f) same has
+  begun_alone : (h : Host D) → HasBegun f pool h → HaveBegun f pool (h ∷ [])
+  begun_alone h has zero k at = let same : h ≡ k = cc in subst (HasBegun f pool) same has
   begun_alone h has (suc place) k at = absurd cc
 
-  comes_next : (p : PeerPlan) (s : Seat D) → HasBegunAs f plan p s → IsNext p s
+  comes_next : (p : PeerPlan) (s : Seat D) → HasBegunAs f pool plan p s → IsNext p s
   comes_next p (seat.Host h) as_host = record {
     id = rw as_host.0 (ap (λ (st : Standing). Some st.own.id) as_host.1);
     peer = rw as_host.0 (ap (λ (st : Standing). st ∷ []) as_host.1);
@@ -104,27 +132,27 @@ module _ {D : Type 0} (f : Face D) (plan : Plan) where
   }
   comes_next p (seat.Idle d) bad = record { id = rw bad refl; peer = rw bad refl; begun = λ place h at. absurd cc }
 
-  begun_joined : (hs ks : List (Host D)) → HaveBegun f hs → HaveBegun f ks → HaveBegun f (hs ++ ks)
+  begun_joined : (hs ks : List (Host D)) → HaveBegun f pool hs → HaveBegun f pool ks → HaveBegun f pool (hs ++ ks)
   begun_joined [] ks first next place k at = next place k at
   begun_joined (h ∷ hs) ks first next zero k at = first 0 k at
   begun_joined (h ∷ hs) ks first next (suc place) k at = begun_joined hs ks (λ i x there. first (suc i) x there) next place k at
 
-  pub made_more : (first : List D) (seats seats_after : List (Seat D)) (disks disks_after : List D) (p : PeerPlan) (done left after : List PeerPlan) → AreMade f plan first seats disks done
-      → IsSeated f plan p seats seats_after → AreFresh f (reverse disks_after)
+  pub made_more : (first : List D) (seats seats_after : List (Seat D)) (disks disks_after : List D) (p : PeerPlan) (done left after : List PeerPlan) → AreMade f pool plan first seats disks done
+      → IsSeated f pool plan p seats seats_after → AreFresh f (reverse disks_after)
       → ((ps qs : List PeerPlan) → AreSeats ps seats → ServesHonest f (ps ++ p ∷ qs) (disks_at seats ++ reverse disks) (disks_at seats_after ++ reverse disks_after) None)
       → map f.fused (disks_at seats_after ++ reverse disks_after) ≡ map f.fused (disks_at seats ++ reverse disks)
-      → plan.peers ≡ done ++ p ∷ left → after ≡ done ++ p ∷ [] → AreMade f plan first seats_after disks_after after
+      → plan.peers ≡ done ++ p ∷ left → after ≡ done ++ p ∷ [] → AreMade f pool plan first seats_after disks_after after
   made_more first seats seats_after disks disks_after p done left after made seated fresh serves fuses all next =
       let s = seated.made in
       let is = comes_next p s seated.begun in
       let hosts : hosts_of seats_after ≡ hosts_of seats ++ hosts_of (s ∷ []) = ap hosts_of seated.more ∙ filter_map-append host_at seats (s ∷ []) in
-      subst (AreMade f plan first seats_after disks_after) (sym next)
+      subst (AreMade f pool plan first seats_after disks_after) (sym next)
       (record {
         placed = ap ids_at seated.more ∙ map-append id_at seats (s ∷ []) ∙ (λ i. made.placed i ++ is.id i ∷ []) ∙ sym (map-append id_for done (p ∷ []));
         peers =
-            ap peers_of hosts ∙ map-append peer_in (hosts_of seats) (hosts_of (s ∷ [])) ∙ (λ i. made.peers i ++ is.peer i)
+            ap (peers_of f) hosts ∙ map-append (peer_in f) (hosts_of seats) (hosts_of (s ∷ [])) ∙ (λ i. made.peers i ++ is.peer i)
             ∙ sym (map-append (standing_of plan) (filter is_honest done) (filter is_honest (p ∷ []))) ∙ ap (map (standing_of plan)) (sym (filter-append is_honest done (p ∷ [])));
-        begun = subst (HaveBegun f) (sym hosts) (begun_joined (hosts_of seats) (hosts_of (s ∷ [])) made.begun is.begun);
+        begun = subst (HaveBegun f pool) (sym hosts) (begun_joined (hosts_of seats) (hosts_of (s ∷ [])) made.begun is.begun);
         fresh = fresh;
         serves =
             serves_then f plan.peers (reverse first) (disks_at seats ++ reverse disks) (disks_at seats_after ++ reverse disks_after) None made.serves

@@ -7,6 +7,7 @@ use Rattle.std.proofs.Math.Seq.{drop-length}
 use Rattle.lks_disk.specs.Face.{Face}
 use Rattle.lks_base.specs.declared.records.Record.{Record}
 use Rattle.lks_host.specs.Hosted.{StandsFor}
+use Rattle.lks_host.specs.Journals.{journal_on}
 use Rattle.lks_host.specs.declared.hosts.Host.{Host}
 use Rattle.lks_law.specs.Batches.{with_batch, journal_at}
 use Rattle.lks_law.specs.World.{Standing, World}
@@ -29,7 +30,8 @@ module _ {D : Type 0} (f : Face D) where
     whole = λ e. e;
     room = omega arith;
     unfused = refl;
-    stands = λ batches stood. subst (StandsFor f h) (sym (nothing_more batches h.peer.journal)) stood;
+    pool = refl;
+    stands = λ batches stood. subst (StandsFor f h) (sym (nothing_more batches (journal_on f h.journal.disk))) stood;
   }
 
   -- nobody did anything
@@ -52,7 +54,7 @@ ok_then (Ok x) f p = f p
 ok_then (Err e) f p = tt
 
 -- the journal of a host's peer is that of its place in a world
-pub journal_there : {D : Type 0} (w : World) (hosts : List (Host D)) (place : ℕ) (h : Host D) → peers_of hosts ≡ w.peers → slice_get hosts place ≡ Some h → journal_at place w ≡ h.peer.journal
-journal_there w hosts place h peers there =
+pub journal_there : {D : Type 0} (f : Face D) (w : World) (hosts : List (Host D)) (place : ℕ) (h : Host D) → peers_of f hosts ≡ w.peers → slice_get hosts place ≡ Some h → journal_at place w ≡ journal_on f h.journal.disk
+journal_there f w hosts place h peers there =
     ap (λ (ps : List Standing). option_map_or (λ (s : Standing). s.journal) (slice_get ps place) []) (sym peers)
-    ∙ ap (λ (o : Option Standing). option_map_or (λ (s : Standing). s.journal) o []) (slice_get-map peer_in hosts place ∙ ap (option_map peer_in) there)
+    ∙ ap (λ (o : Option Standing). option_map_or (λ (s : Standing). s.journal) o []) (slice_get-map (peer_in f) hosts place ∙ ap (option_map (peer_in f)) there)

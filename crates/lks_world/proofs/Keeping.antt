@@ -1,25 +1,28 @@
 -- How a history grows, up to its limit.
 use Rattle.std.proofs.Common.{◌≡◌, ◌+◌, ◌-◌, ◌≤◌, ◌<◌, ◌∙◌, ap, sym, subst, ℕ, suc, Bool, true, false, cond, List, [], ◌∷◌, ◌++◌, length, refl, arith, append_assoc}
-use Rattle.std.specs.Prelude.{Option, Some, None, map, filter, slice_get, min, nat_lt}
+use Rattle.std.specs.Prelude.{Option, Some, None, map, filter, option_map, slice_get, min, nat_lt}
 use Rattle.std.specs.Option.{option_map_or}
 use Rattle.std.proofs.lemmas.Bool.{lt-ltb, le-ltb}
 use Rattle.std.proofs.lemmas.List.{append-nil, length-map}
+use Rattle.std.proofs.lemmas.Option.{slice_get-map}
 use Rattle.lks_disk.specs.Face.{Face}
 use Rattle.lks_base.specs.declared.entries.Entry.{Entry}
 use Rattle.lks_base.specs.declared.events.Event.{Event}
 use Rattle.lks_base.specs.declared.limits.TheConstants.{MOST_EVENTS, MOST_TICKS}
 use Rattle.lks_base.specs.declared.plans.Plan.{Plan}
 use Rattle.lks_host.specs.Hosted.{StandsFor}
+use Rattle.lks_host.specs.Journals.{journal_on}
 use Rattle.lks_host.specs.declared.hosts.Host.{Host}
 use Rattle.lks_law.specs.Batches.{alone, batches_at}
 use Rattle.lks_law.specs.Due.{is_pending, pending as waiting}
 use Rattle.lks_law.specs.Entries.{entries}
 use Rattle.lks_law.proofs.Happening.{no_events}
+use Rattle.lks_law.proofs.Writing.{written_in}
 use Rattle.lks_law.specs.Histories.{IsHistory}
-use Rattle.lks_law.specs.World.{Standing, world, start, standing_of, is_honest}
+use Rattle.lks_law.specs.World.{Standing, World, world, start, standing_of, is_honest}
 use Rattle.lks_world.proofs.HostLaws.{journal_there}
 use Rattle.lks_world.specs.Begun.{HaveBegun}
-use Rattle.lks_world.specs.Hosts.{peers_of, AreReady, IsHostAt}
+use Rattle.lks_world.specs.Hosts.{peer_in, peers_of, AreReady, IsHostAt}
 use Rattle.lks_world.specs.Follows.{kept, done_within, done}
 use Rattle.lks_world.specs.declared.states.State.{State}
 use Rattle.lks_world.specs.Seats.{hosts_of}
@@ -87,44 +90,58 @@ module _ {D : Type 0} (f : Face D) where
   extends_by plan s t more is events = record { more = more; events = events; happened = is.happened; entries = is.entries }
 
   -- the state with which a world begins
-  pub begun : (plan : Plan) (s : State D) → peers_of (hosts_of s.seats.items) ≡ map (standing_of plan) (filter is_honest plan.peers) → s.bag.items ≡ [] → s.pending.items ≡ [] → s.history.items ≡ [] → s.tick ≡ 0
-      → ((place : ℕ) (h : Host D) → slice_get (hosts_of s.seats.items) place ≡ Some h → IsHostAt f (batches_at place plan []) 0 h) → IsStateOf f plan s
+  pub begun : (plan : Plan) (s : State D) → peers_of f (hosts_of s.seats.items) ≡ map (standing_of plan) (filter is_honest plan.peers) → s.bag.items ≡ [] → s.pending.items ≡ [] → s.history.items ≡ [] → s.tick ≡ 0
+      → ((place : ℕ) (h : Host D) → slice_get (hosts_of s.seats.items) place ≡ Some h → IsHostAt f s.pool.now (batches_at place plan []) 0 h) → IsStateOf f plan s
   begun plan s peers bag pending history tick hosts =
       let events : events_in s ≡ [] = ap (map (λ (e : Entry). e.event)) history in
       record {
         happened = subst (IsHistory plan) (sym events) (no_events plan);
-        world = (λ i. record { peers = peers_of (hosts_of s.seats.items); bag = bag i; tick = tick i }) ∙ begun_world plan (peers_of (hosts_of s.seats.items)) peers ∙ ap (world plan) (sym events);
+        world = (λ i. record { peers = peers_of f (hosts_of s.seats.items); bag = bag i; tick = tick i }) ∙ begun_world plan (peers_of f (hosts_of s.seats.items)) peers ∙ ap (world plan) (sym events);
         entries = history ∙ begun_entries plan ∙ ap (entries plan) (sym events);
         pending = pending ∙ begun_pending plan ∙ ap (waiting plan) (sym events);
         clock = omega (arith, tick);
         fresh = λ i le. ap (λ h. is_pending h i) events;
         hosts = λ place h at.
-            subst (λ (n : ℕ). IsHostAt f (batches_at place plan (events_in s)) n h) (sym (ap length history))
-            (subst (λ es. IsHostAt f (batches_at place plan es) 0 h) (sym events) (hosts place h at));
+            subst (λ (n : ℕ). IsHostAt f s.pool.now (batches_at place plan (events_in s)) n h) (sym (ap length history))
+            (subst (λ es. IsHostAt f s.pool.now (batches_at place plan es) 0 h) (sym events) (hosts place h at));
       }
 
-  begun_journal : (plan : Plan) (hosts : List (Host D)) (place : ℕ) (h : Host D) → peers_of hosts ≡ map (standing_of plan) (filter is_honest plan.peers) → slice_get hosts place ≡ Some h → batches_at place plan [] ≡ map alone h.peer.journal
+  begun_journal : (plan : Plan) (hosts : List (Host D)) (place : ℕ) (h : Host D) → peers_of f hosts ≡ map (standing_of plan) (filter is_honest plan.peers) → slice_get hosts place ≡ Some h → batches_at place plan [] ≡ map alone (journal_on f h.journal.disk)
   unfolding batches_at start
-  begun_journal plan hosts place h peers at = ap (map alone) (journal_there (start plan) hosts place h peers at)
+  begun_journal plan hosts place h peers at = ap (map alone) (journal_there f (start plan) hosts place h peers at)
 
   -- a world begins with the batches of its deposits
-  pub begun_host : (plan : Plan) (hosts : List (Host D)) → peers_of hosts ≡ map (standing_of plan) (filter is_honest plan.peers) → HaveBegun f hosts
-      → (place : ℕ) (h : Host D) → slice_get hosts place ≡ Some h → IsHostAt f (batches_at place plan []) 0 h
-  begun_host plan hosts peers begun place h at =
+  pub begun_host : (pool : List ℕ) (plan : Plan) (hosts : List (Host D)) → peers_of f hosts ≡ map (standing_of plan) (filter is_honest plan.peers) → HaveBegun f pool hosts
+      → (place : ℕ) (h : Host D) → slice_get hosts place ≡ Some h → IsHostAt f pool (batches_at place plan []) 0 h
+  begun_host pool plan hosts peers begun place h at =
       let begins = begun place h at in
       record {
         stands = subst (StandsFor f h) (sym (begun_journal plan hosts place h peers at)) begins.stands;
+        pooled = begins.pooled;
         whole = begins.whole;
         room = omega (arith, begins.room);
         unfused = begins.unfused;
       }
 
+  -- the peer of a host stands in the world
+  pub peer_there : (plan : Plan) (s : State D) → IsStateOf f plan s → (place : ℕ) (h : Host D) → slice_get (hosts_of s.seats.items) place ≡ Some h → slice_get (world plan (events_in s)).peers place ≡ Some (peer_in f h)
+  peer_there plan s is place h at =
+      ap (λ (w : World). slice_get w.peers place) (sym is.world) ∙ slice_get-map (peer_in f) (hosts_of s.seats.items) place ∙ ap (option_map (peer_in f)) at
+
   -- while there is room for an event, each host can take a step, and the clock can move on
-  pub can_step : (plan : Plan) (s : State D) → IsStateOf f plan s → 0 < MOST_EVENTS - length s.history.items → AreReady f (hosts_of s.seats.items)
+  pub can_step : (plan : Plan) (s : State D) → IsStateOf f plan s → 0 < MOST_EVENTS - length s.history.items → AreReady f s.pool.now (hosts_of s.seats.items)
   can_step plan s is room place h at =
       let host = is.hosts place h at in
       let most : MOST_EVENTS ≡ 4096 = refl in
-      record { whole = host.whole; room = omega (arith, host.room, room, most); unfused = host.unfused; batches = batches_at place plan (events_in s); stands = host.stands }
+      record {
+        whole = host.whole;
+        room = omega (arith, host.room, room, most);
+        unfused = host.unfused;
+        pooled = host.pooled;
+        batches = batches_at place plan (events_in s);
+        stands = host.stands;
+        written = written_in plan (events_in s) place (peer_in f h) (peer_there plan s is place h at);
+      }
 
   pub can_tick : (plan : Plan) (s : State D) (by : ℕ) → IsStateOf f plan s → 0 < MOST_EVENTS - length s.history.items → by ≤ MOST_TICKS → s.tick + by ≤ 4294967295
   can_tick plan s by is room few =

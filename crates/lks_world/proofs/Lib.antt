@@ -1,3 +1,4 @@
+mod Acting
 mod BeginLaws
 pub mod CountLaws
 mod Following

@@ -42,17 +42,17 @@ none_waits [] e = refl
 none_waits (j ∷ js) e = absurd cc
 
 module _ {D : Type 0} (f : Face D) (plan : Plan) (s : State D) (is : IsStateOf f plan s) where
-  course_is : (course : Course) → first_due s.pending.items (own_steps course (peers_of (hosts_of s.seats.items))) ≡ next_of course plan (events_in s)
+  course_is : (course : Course) → first_due s.pending.items (own_steps course (peers_of f (hosts_of s.seats.items))) ≡ next_of course plan (events_in s)
   unfolding next_to_settle next_to_deliver next_to_finish ready turns
   course_is Settling = λ i. first_due (is.pending i) (own_steps Settling (is.world i).peers)
   course_is Delivering = λ i. first_due (is.pending i) []
   course_is Finishing = λ i. first_due (is.pending i) (own_steps Finishing (is.world i).peers)
 
   pub delivers_first : (course : Course) (i : ℕ) → slice_get s.pending.items 0 ≡ Some i → Some (Delivery i) ≡ next_of course plan (events_in s)
-  delivers_first course i first = first_is s.pending.items (own_steps course (peers_of (hosts_of s.seats.items))) i first ∙ course_is course
+  delivers_first course i first = first_is s.pending.items (own_steps course (peers_of f (hosts_of s.seats.items))) i first ∙ course_is course
 
-  pub own_first : (course : Course) → slice_get s.pending.items 0 ≡ None → first_own (own_steps course (peers_of (hosts_of s.seats.items))) ≡ next_of course plan (events_in s)
-  own_first course none = own_is s.pending.items (own_steps course (peers_of (hosts_of s.seats.items))) none ∙ course_is course
+  pub own_first : (course : Course) → slice_get s.pending.items 0 ≡ None → first_own (own_steps course (peers_of f (hosts_of s.seats.items))) ≡ next_of course plan (events_in s)
+  own_first course none = own_is s.pending.items (own_steps course (peers_of f (hosts_of s.seats.items))) none ∙ course_is course
 
   -- what comes next on a course may happen
 
@@ -61,7 +61,7 @@ module _ {D : Type 0} (f : Face D) (plan : Plan) (s : State D) (is : IsStateOf f
   course_may verdict Delivering d next = deliver_may verdict plan (events_in s) d next
   course_may verdict Finishing d next = finish_may verdict plan (events_in s) d next
 
-  pub next_may : (verdict : Verdicts) (course : Course) (d : Due) (p : PeerStep) → Some d ≡ next_of course plan (events_in s) → Step p ≡ event_of verdict plan (events_in s) d → MayStep plan (world_in s) p
+  pub next_may : (verdict : Verdicts) (course : Course) (d : Due) (p : PeerStep) → Some d ≡ next_of course plan (events_in s) → Step p ≡ event_of verdict plan (events_in s) d → MayStep plan (world_in f s) p
   next_may verdict course d p next made =
       subst (λ w. MayHappen plan w (Step p)) (sym is.world)
       (subst (MayHappen plan (world plan (events_in s))) (sym made) (course_may verdict course d (sym next)))
@@ -73,12 +73,12 @@ module _ {D : Type 0} (f : Face D) (plan : Plan) (s : State D) (is : IsStateOf f
   none_is verdict course none = ap (option_map (event_of verdict plan (events_in s))) none
 
   -- a delivery is judged by the question that it puts
-  pub is_delivery : (verdict : Verdicts) (i : ℕ) (q : Option Question) (j : Judged) → q ≡ question_at (world_in s) i → ((before : List Question) → j ≡ judged verdict before q)
+  pub is_delivery : (verdict : Verdicts) (i : ℕ) (q : Option Question) (j : Judged) → q ≡ question_at (world_in f s) i → ((before : List Question) → j ≡ judged verdict before q)
       → Step (Deliver i j) ≡ delivery_of verdict plan (events_in s) i
   is_delivery verdict i q j asked says =
       ap (λ x. Step (Deliver i x)) (says (questions plan (events_in s)) ∙ ap (judged verdict (questions plan (events_in s))) (asked ∙ ap (λ w. question_at w i) is.world))
 
-  pub sent_may : (verdict : Verdicts) (i : ℕ) (p : PeerStep) → i < length s.bag.items → Step p ≡ delivery_of verdict plan (events_in s) i → MayStep plan (world_in s) p
+  pub sent_may : (verdict : Verdicts) (i : ℕ) (p : PeerStep) → i < length s.bag.items → Step p ≡ delivery_of verdict plan (events_in s) i → MayStep plan (world_in f s) p
   sent_may verdict i p sent made =
       let size = ap (λ (w : World). length w.bag) is.world in
       subst (λ w. MayHappen plan w (Step p)) (sym is.world)
@@ -86,7 +86,7 @@ module _ {D : Type 0} (f : Face D) (plan : Plan) (s : State D) (is : IsStateOf f
 
   -- what is lost, and what is delivered again
 
-  pub first_sent : (i : ℕ) → slice_get s.pending.items 0 ≡ Some i → WasSent (world_in s) i
+  pub first_sent : (i : ℕ) → slice_get s.pending.items 0 ≡ Some i → WasSent (world_in f s) i
   unfolding next_to_lose
   first_sent i first =
       let size = ap (λ (w : World). length w.bag) is.world in
@@ -111,20 +111,20 @@ module _ {D : Type 0} (f : Face D) (plan : Plan) (s : State D) (is : IsStateOf f
   abbrev again_in : Verdicts → ℕ → World → List Event
   again_in verdict i w = if nat_lt i (length w.bag) then kept (events_in s) (delivery_of verdict plan (events_in s) i) else events_in s
 
-  again_is : (verdict : Verdicts) (i : ℕ) → again_in verdict i (world_in s) ≡ delivered_again verdict i plan (events_in s)
+  again_is : (verdict : Verdicts) (i : ℕ) → again_in verdict i (world_in f s) ≡ delivered_again verdict i plan (events_in s)
   unfolding delivered_again
   again_is verdict i = ap (again_in verdict i) is.world
 
   pub is_again : (verdict : Verdicts) (t : State D) (i : ℕ) (p : PeerStep) → nat_lt i (length s.bag.items) ≡ true → Step p ≡ delivery_of verdict plan (events_in s) i → Becomes f plan (kept (events_in s) (Step p)) t
       → Becomes f plan (delivered_again verdict i plan (events_in s)) t
   is_again verdict t i p stands made b =
-      let here : kept (events_in s) (Step p) ≡ again_in verdict i (world_in s) =
+      let here : kept (events_in s) (Step p) ≡ again_in verdict i (world_in f s) =
       ap (kept (events_in s)) made
       ∙ ap (λ c. if c then kept (events_in s) (delivery_of verdict plan (events_in s) i) else events_in s) (sym stands) in
       record { state = b.state; events = b.events ∙ here ∙ again_is verdict i }
 
   pub never_sent : (verdict : Verdicts) (i : ℕ) → nat_lt i (length s.bag.items) ≡ false → Becomes f plan (delivered_again verdict i plan (events_in s)) s
   never_sent verdict i beyond =
-      let here : events_in s ≡ again_in verdict i (world_in s) =
+      let here : events_in s ≡ again_in verdict i (world_in f s) =
       ap (λ c. if c then kept (events_in s) (delivery_of verdict plan (events_in s) i) else events_in s) (sym beyond) in
       record { state = is; events = here ∙ again_is verdict i }

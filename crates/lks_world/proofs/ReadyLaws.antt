@@ -1,14 +1,35 @@
 -- The first step that is due of some peer.
 use Rattle.std.proofs.Common.{◌≡◌, ◌<◌, ◌+◌, ◌∙◌, ap, sym, ℕ, suc, List, [], ◌∷◌, ◌++◌, length, get_or, drop, refl, add-one, drop-cons}
 use Rattle.std.specs.Prelude.{Some, None, slice_get}
-use Rattle.std.specs.List.{flat_map}
+use Rattle.std.specs.List.{flat_map, range_with_len}
 use Rattle.lks_base.specs.declared.events.Due.{Due}
 use Rattle.lks_base.specs.declared.events.Due.TheVariants.{Own}
 use Rattle.lks_base.specs.declared.events.PeerStep.{PeerStep}
 use Rattle.lks_law.specs.Due.{first_own}
-use Rattle.lks_world.specs.Hosts.{peers_of}
+use Rattle.lks_base.specs.declared.plans.Plan.{Plan}
+use Rattle.lks_base.specs.declared.records.Record.{Record}
+use Rattle.lks_disk.specs.Face.{Face}
+use Rattle.lks_host.proofs.Journals.{journal_is}
+use Rattle.lks_host.specs.Hosted.{StandsFor}
+use Rattle.lks_host.specs.Journals.{journal_on}
+use Rattle.lks_host.specs.declared.hosts.Host.{Host}
+use Rattle.lks_law.proofs.Journals.{polls_keep}
+use Rattle.lks_law.proofs.Turning.{ready_is, turns_are}
+use Rattle.lks_law.proofs.Writing.{written_in}
+use Rattle.lks_law.specs.Batches.{batches_at}
+use Rattle.lks_law.specs.Journal.{opened_numbers, openings}
+use Rattle.lks_law.specs.State.{state_of}
+use Rattle.lks_law.specs.Turning.{ready_on, turns_on}
+use Rattle.lks_law.specs.World.{world}
+use Rattle.lks_law.specs.Written.{AreWritten}
+use Rattle.lks_world.proofs.Keeping.{peer_there}
+use Rattle.lks_world.specs.Hosts.{peer_in, peers_of}
 use Rattle.lks_world.specs.Seats.{hosts_of}
-use Rattle.lks_world.specs.States.{steps_of, seat_steps}
+use Rattle.lks_world.specs.States.{events_in, IsStateOf, own_steps, seat_steps, steps_of, steps_on, steps_there}
+use Rattle.lks_world.specs.declared.settling.Course.{Course}
+use Rattle.lks_world.specs.declared.settling.Course.TheVariants.{Settling, Delivering, Finishing}
+use Rattle.lks_world.specs.declared.settling.Part.TheVariants.{Ready, Turns}
+use Rattle.lks_world.specs.declared.states.State.{State}
 use Rattle.lks_world.specs.declared.seats.Seat.{Seat}
 use Rattle.lks_world.specs.declared.seats.Seat.TheVariants as seat
 use Rattle.lks_world.specs.declared.settling.Part.{Part}
@@ -43,8 +64,42 @@ pub first_behind : (xs ys : List PeerStep) → None ≡ first_own xs → first_o
 first_behind [] ys e = refl
 first_behind (x ∷ xs) ys e = absurd cc
 
--- the steps of the peers are those of their seats
-pub steps_seated : {D : Type 0} (part : Part) (seats : List (Seat D)) → flat_map (seat_steps part) seats ≡ flat_map (steps_of part) (peers_of (hosts_of seats))
-steps_seated part [] = refl
-steps_seated part (seat.Host h ∷ ss) = ap (λ ps. steps_of part h.peer ++ ps) (steps_seated part ss)
-steps_seated part (seat.Idle d ∷ ss) = steps_seated part ss
+module _ {D : Type 0} (f : Face D) where
+  -- the steps of the seats are those of their peers
+  steps_seated : (part : Part) (seats : List (Seat D)) → ((place : ℕ) (h : Host D) → slice_get (hosts_of seats) place ≡ Some h → steps_on part h.peer ≡ steps_of part (peer_in f h))
+      → flat_map (seat_steps part) seats ≡ flat_map (steps_of part) (peers_of f (hosts_of seats))
+  steps_seated part [] same = refl
+  steps_seated part (seat.Host h ∷ ss) same = λ i. same 0 h refl i ++ steps_seated part ss (λ place. same (suc place)) i
+  steps_seated part (seat.Idle d ∷ ss) same = steps_seated part ss same
+
+  -- a peer takes in its state the steps that it takes over its journal
+  steps_there_are : (plan : Plan) (s : State D) → IsStateOf f plan s → (part : Part) (place : ℕ) (h : Host D) → slice_get (hosts_of s.seats.items) place ≡ Some h → steps_on part h.peer ≡ steps_of part (peer_in f h)
+  steps_there_are plan s is part place h at = by_part part
+    where
+      stood : StandsFor f h (batches_at place plan (events_in s))
+      stood = (is.hosts place h at).stands
+
+      journal : List Record
+      journal = journal_on f h.journal.disk
+
+      state : h.peer.state ≡ state_of h.peer.own journal
+      state = stood.state ∙ ap (state_of h.peer.own) (sym (journal_is f h (batches_at place plan (events_in s)) stood))
+
+      there : slice_get (world plan (events_in s)).peers place ≡ Some (peer_in f h)
+      there = peer_there f plan s is place h at
+
+      written : AreWritten [] journal
+      written = written_in plan (events_in s) place (peer_in f h) there
+
+      numbered : opened_numbers journal ≡ range_with_len 1 (openings journal)
+      numbered = (polls_keep plan (events_in s) place (peer_in f h) there).numbered
+
+      by_part : (part : Part) → steps_on part h.peer ≡ steps_of part (peer_in f h)
+      by_part Ready = ap (ready_on h.peer.own) state ∙ ready_is h.peer.own journal written numbered
+      by_part Turns = ap (turns_on h.peer.own) state ∙ turns_are h.peer.own journal written numbered
+
+  pub steps_are : (plan : Plan) (s : State D) → IsStateOf f plan s → (course : Course) → steps_there course s.seats.items ≡ own_steps course (peers_of f (hosts_of s.seats.items))
+  steps_are plan s is Settling = steps_seated Ready s.seats.items (steps_there_are plan s is Ready)
+  steps_are plan s is Delivering = refl
+  steps_are plan s is Finishing =
+      λ i. steps_seated Ready s.seats.items (steps_there_are plan s is Ready) i ++ steps_seated Turns s.seats.items (steps_there_are plan s is Turns) i

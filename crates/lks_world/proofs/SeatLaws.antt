@@ -20,7 +20,7 @@ use Rattle.lks_world.specs.Begun.{IsServed}
 use Rattle.lks_world.specs.Counts.{fault_in, honest_ids, ServesHonest}
 use Rattle.lks_world.specs.Disks.{honest_disks, corrupt_disks}
 use Rattle.lks_world.specs.Held.{HoldsBatches, HaveBatches}
-use Rattle.lks_world.specs.Hosts.{peers_of, disk_in, disks_of, with_added, GoesOn, HaveGoneOn, IsAbsent}
+use Rattle.lks_world.specs.Hosts.{peer_in, peers_of, disk_in, disks_of, with_added, GoesOn, HaveGoneOn, HasActed, IsAbsent}
 use Rattle.lks_world.specs.Seats.{hosts_of, disk_at, disks_at, id_at, ids_at, is_seat_of, id_for, AreSeats, Counted, StandsAt}
 use Rattle.lks_world.specs.States.{events_in, IsStateOf}
 use Rattle.lks_world.specs.declared.faults.WorldFault.{WorldFault}
@@ -49,8 +49,8 @@ none_at : (id : ℕ) → peer_at id [] ≡ None
 unfolding peer_at
 none_at id = refl
 
-module _ {D : Type 0} (id : ℕ) where
-  stands_first : (s : Seat D) (ss : List (Seat D)) → is_seat_of id s ≡ true → StandsAt id (s ∷ ss) 0
+module _ {D : Type 0} (f : Face D) (id : ℕ) where
+  stands_first : (s : Seat D) (ss : List (Seat D)) → is_seat_of id s ≡ true → StandsAt f id (s ∷ ss) 0
   stands_first (seat.Idle d) ss is = absurd cc
   stands_first (seat.Host h) ss is = record {
     host = h;
@@ -58,12 +58,12 @@ module _ {D : Type 0} (id : ℕ) where
     within = omega arith;
     there = refl;
     ranked = refl;
-    found = at_front id h.peer (peers_of (hosts_of ss)) is;
+    found = at_front id (peer_in f h) (peers_of f (hosts_of ss)) is;
     sets = λ k. refl;
-    added = λ rs k grown. ap (λ (p : Standing). p ∷ peers_of (hosts_of ss)) grown ∙ sym (added_front id h.peer (peers_of (hosts_of ss)) rs is);
+    added = λ rs k grown. ap (λ (p : Standing). p ∷ peers_of f (hosts_of ss)) grown ∙ sym (added_front id (peer_in f h) (peers_of f (hosts_of ss)) rs is);
   }
 
-  stands_behind : (s : Seat D) (ss : List (Seat D)) (place : ℕ) → is_seat_of id s ≡ false → StandsAt id ss place → StandsAt id (s ∷ ss) (suc place)
+  stands_behind : (s : Seat D) (ss : List (Seat D)) (place : ℕ) → is_seat_of id s ≡ false → StandsAt f id ss place → StandsAt f id (s ∷ ss) (suc place)
   stands_behind (seat.Idle d) ss place other st = record {
     host = st.host;
     rank = st.rank;
@@ -80,22 +80,22 @@ module _ {D : Type 0} (id : ℕ) where
     within = omega (arith, st.within);
     there = st.there;
     ranked = st.ranked;
-    found = not_front id h.peer (peers_of (hosts_of ss)) other ∙ st.found;
+    found = not_front id (peer_in f h) (peers_of f (hosts_of ss)) other ∙ st.found;
     sets = λ k. ap (λ (hs : List (Host D)). h ∷ hs) (st.sets k);
-    added = λ rs k grown. ap (λ (ps : List Standing). h.peer ∷ ps) (st.added rs k grown) ∙ sym (not_added id h.peer (peers_of (hosts_of ss)) rs other);
+    added = λ rs k grown. ap (λ (ps : List Standing). peer_in f h ∷ ps) (st.added rs k grown) ∙ sym (not_added id (peer_in f h) (peers_of f (hosts_of ss)) rs other);
   }
 
-  absent_behind : (s : Seat D) (ss : List (Seat D)) → is_seat_of id s ≡ false → IsAbsent id (peers_of (hosts_of ss)) → IsAbsent id (peers_of (hosts_of (s ∷ ss)))
+  absent_behind : (s : Seat D) (ss : List (Seat D)) → is_seat_of id s ≡ false → IsAbsent id (peers_of f (hosts_of ss)) → IsAbsent id (peers_of f (hosts_of (s ∷ ss)))
   absent_behind (seat.Idle d) ss other absent = absent
   absent_behind (seat.Host h) ss other absent = record {
-    none = not_front id h.peer (peers_of (hosts_of ss)) other ∙ absent.none;
-    same = λ rs. not_added id h.peer (peers_of (hosts_of ss)) rs other ∙ ap (λ (ps : List Standing). h.peer ∷ ps) (absent.same rs);
+    none = not_front id (peer_in f h) (peers_of f (hosts_of ss)) other ∙ absent.none;
+    same = λ rs. not_added id (peer_in f h) (peers_of f (hosts_of ss)) rs other ∙ ap (λ (ps : List Standing). peer_in f h ∷ ps) (absent.same rs);
   }
 
   record Stands (seats : List (Seat D)) (i place : ℕ) : Type 0 where
     k : ℕ
     is : place ≡ i + k
-    stands : StandsAt id seats k
+    stands : StandsAt f id seats k
 
   stands_from : (seats : List (Seat D)) (i place : ℕ) → position_from (is_seat_of id) i seats ≡ Some place → Stands seats i place
   stands_from [] i place e = absurd cc
@@ -106,36 +106,36 @@ module _ {D : Type 0} (id : ℕ) where
       by_test true is e later = let same : i ≡ place = some_is e in record { k = 0; is = omega (arith, same); stands = stands_first s ss is }
       by_test false is e later = let rest = later e in record { k = suc rest.k; is = omega (arith, rest.is); stands = stands_behind s ss rest.k is rest.stands }
 
-  absent_from : (seats : List (Seat D)) (i : ℕ) → position_from (is_seat_of id) i seats ≡ None → IsAbsent id (peers_of (hosts_of seats))
+  absent_from : (seats : List (Seat D)) (i : ℕ) → position_from (is_seat_of id) i seats ≡ None → IsAbsent id (peers_of f (hosts_of seats))
   absent_from [] i e = record { none = none_at id; same = λ rs. refl }
   absent_from (s ∷ ss) i e = by_test (is_seat_of id s) refl e (absent_from ss (i + 1))
     where
       by_test : (b : Bool) → is_seat_of id s ≡ b → cond b (Some i) (position_from (is_seat_of id) (i + 1) ss) ≡ None
-          → (position_from (is_seat_of id) (i + 1) ss ≡ None → IsAbsent id (peers_of (hosts_of ss))) → IsAbsent id (peers_of (hosts_of (s ∷ ss)))
+          → (position_from (is_seat_of id) (i + 1) ss ≡ None → IsAbsent id (peers_of f (hosts_of ss))) → IsAbsent id (peers_of f (hosts_of (s ∷ ss)))
       by_test true is e later = absurd cc
       by_test false is e later = absent_behind s ss is (later e)
 
   -- the first seat of a peer's number is its own
-  pub place_is : (seats : List (Seat D)) (r : Option ℕ) → r ≡ position (is_seat_of id) seats → MatchOption r (IsAbsent id (peers_of (hosts_of seats))) (StandsAt id seats)
+  pub place_is : (seats : List (Seat D)) (r : Option ℕ) → r ≡ position (is_seat_of id) seats → MatchOption r (IsAbsent id (peers_of f (hosts_of seats))) (StandsAt f id seats)
   place_is seats None e = absent_from seats 0 (sym (e ∙ position_from-zero (is_seat_of id) seats))
   place_is seats (Some place) e =
       let st = stands_from seats 0 place (sym (e ∙ position_from-zero (is_seat_of id) seats)) in
       let same : st.k ≡ place = omega (arith, st.is) in
-      subst (StandsAt id seats) same st.stands
+      subst (StandsAt f id seats) same st.stands
 
 -- the host h of the peer is on its seat
-pub record ActsAt {D : Type 0} (id : ℕ) (seats : List (Seat D)) (place : ℕ) (h : Host D) : Type 0 where
-  pub stands : StandsAt id seats place
+pub record ActsAt {D : Type 0} (f : Face D) (id : ℕ) (seats : List (Seat D)) (place : ℕ) (h : Host D) : Type 0 where
+  pub stands : StandsAt f id seats place
   pub is : stands.host ≡ h
 
-module _ {D : Type 0} (id : ℕ) (found seats : List (Seat D)) (place : ℕ) (s : Seat D) (same : found ≡ seats) (stands : StandsAt id found place) (is : s ≡ get_or seats place s) where
+module _ {D : Type 0} (f : Face D) (id : ℕ) (found seats : List (Seat D)) (place : ℕ) (s : Seat D) (same : found ≡ seats) (stands : StandsAt f id found place) (is : s ≡ get_or seats place s) where
   seat_read : slice_get seats place ≡ Some s
   seat_read = slice_get-get_or seats place s (omega (arith, stands.within, ap length same)) ∙ ap Some (sym is)
 
-  stands_same : StandsAt id seats place
-  stands_same = subst (λ (ss : List (Seat D)). StandsAt id ss place) same stands
+  stands_same : StandsAt f id seats place
+  stands_same = subst (λ (ss : List (Seat D)). StandsAt f id ss place) same stands
 
-  pub acts_at : (h : Host D) → s ≡ seat.Host h → ActsAt id seats place h
+  pub acts_at : (h : Host D) → s ≡ seat.Host h → ActsAt f id seats place h
   acts_at h as_host =
       let both : Some (seat.Host stands_same.host) ≡ Some (seat.Host h) = sym stands_same.there ∙ seat_read ∙ ap Some as_host in
       record { stands = stands_same; is = cc }
@@ -145,21 +145,21 @@ module _ {D : Type 0} (id : ℕ) (found seats : List (Seat D)) (place : ℕ) (s 
       let both : Some (seat.Host stands_same.host) ≡ Some (seat.Idle d) = sym stands_same.there ∙ seat_read ∙ ap Some as_idle in
       cc
 
-module _ {D : Type 0} (id : ℕ) (seats : List (Seat D)) (place : ℕ) (h : Host D) (acts : ActsAt id seats place h) where
+module _ {D : Type 0} (f : Face D) (id : ℕ) (seats : List (Seat D)) (place : ℕ) (h : Host D) (acts : ActsAt f id seats place h) where
   pub acts_there : slice_get seats place ≡ Some (seat.Host h)
   acts_there = acts.stands.there ∙ ap (λ (x : Host D). Some (seat.Host x)) acts.is
 
   pub acts_ranked : slice_get (hosts_of seats) acts.stands.rank ≡ Some h
   acts_ranked = acts.stands.ranked ∙ ap Some acts.is
 
-  pub acts_found : peer_at id (peers_of (hosts_of seats)) ≡ Some h.peer
-  acts_found = acts.stands.found ∙ ap (λ (x : Host D). Some x.peer) acts.is
+  pub acts_found : peer_at id (peers_of f (hosts_of seats)) ≡ Some (peer_in f h)
+  acts_found = acts.stands.found ∙ ap (λ (x : Host D). Some (peer_in f x)) acts.is
 
-  pub acts_added : (added : List Record) (k : Host D) → k.peer ≡ with_added h.peer added → peers_of (hosts_of (slice_set seats place (seat.Host k))) ≡ with_records id added (peers_of (hosts_of seats))
-  acts_added added k grown = acts.stands.added added k (grown ∙ ap (λ (x : Host D). with_added x.peer added) (sym acts.is))
+  pub acts_added : (added : List Record) (k : Host D) → peer_in f k ≡ with_added (peer_in f h) added → peers_of f (hosts_of (slice_set seats place (seat.Host k))) ≡ with_records id added (peers_of f (hosts_of seats))
+  acts_added added k grown = acts.stands.added added k (grown ∙ ap (λ (x : Host D). with_added (peer_in f x) added) (sym acts.is))
 
-  pub acts_on : (f : Face D) (k : Host D) → GoesOn f h k → HaveGoneOn f (hosts_of seats) (hosts_of (slice_set seats place (seat.Host k)))
-  acts_on f k on = subst (HaveGoneOn f (hosts_of seats)) (sym (acts.stands.sets k)) (one_went_on f (hosts_of seats) acts.stands.rank h k acts_ranked on)
+  pub acts_on : (k : Host D) → GoesOn f h k → HaveGoneOn f (hosts_of seats) (hosts_of (slice_set seats place (seat.Host k)))
+  acts_on k on = subst (HaveGoneOn f (hosts_of seats)) (sym (acts.stands.sets k)) (one_went_on f (hosts_of seats) acts.stands.rank h k acts_ranked on)
 
 -- Whose seat it is.
 
@@ -295,15 +295,13 @@ module _ {D : Type 0} (f : Face D) where
   blames id (Ok x) is = absurd cc
   blames id (Err fault) is = ap Err (some_is is)
 
-  pub counted_one : {T : Type 0} (seats : List (Seat D)) (place : ℕ) (h k : Host D) (result : Result T WorldFault) → slice_get seats place ≡ Some (seat.Host h) → k.peer.own.id ≡ h.peer.own.id
-      → f.fused (disk_in k) ≡ f.fused (disk_in h) → f.faults (disk_in h) ≤ f.faults (disk_in k)
-      → ((id : ℕ) → IsErrOf result (Disk id) → (h.peer.own.id ≡ id) × Rose (f.faults (disk_in h)) (f.faults (disk_in k)))
+  pub counted_one : {T : Type 0} (seats : List (Seat D)) (place : ℕ) (h k : Host D) (result : Result T WorldFault) → slice_get seats place ≡ Some (seat.Host h) → HasActed f h k result
       → Counted f seats (slice_set seats place (seat.Host k)) result
-  counted_one seats place h k result there same fuse later cause =
-      let blamed : (id : ℕ) → fault_in result ≡ Some (Disk id) → (h.peer.own.id ≡ id) × Rose (f.faults (disk_in h)) (f.faults (disk_in k)) = λ id is. cause id (blames id result is) in record {
-        ids = set-ids h k (fault_in result) fuse later blamed seats place there same;
-        fuses = set-fuses h k (fault_in result) fuse later blamed seats place there;
-        serves = λ peers rest are. serves_at h k (fault_in result) fuse later blamed peers seats place rest are there;
+  counted_one seats place h k result there acted =
+      let blamed : (id : ℕ) → fault_in result ≡ Some (Disk id) → (h.peer.own.id ≡ id) × Rose (f.faults (disk_in h)) (f.faults (disk_in k)) = λ id is. acted.cause id (blames id result is) in record {
+        ids = set-ids h k (fault_in result) acted.fuse acted.later blamed seats place there (ap (λ own. own.id) acted.own);
+        fuses = set-fuses h k (fault_in result) acted.fuse acted.later blamed seats place there;
+        serves = λ peers rest are. serves_at h k (fault_in result) acted.fuse acted.later blamed peers seats place rest are there;
       }
 
   -- no call was made

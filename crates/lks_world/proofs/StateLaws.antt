@@ -15,6 +15,7 @@ use Rattle.lks_base.specs.declared.events.PeerStep.TheVariants.{Deliver}
 use Rattle.lks_base.specs.declared.limits.TheConstants.{MOST_EVENTS, MOST_TICKS}
 use Rattle.lks_base.specs.declared.plans.Plan.{Plan}
 use Rattle.lks_host.specs.Hosted.{StandsFor}
+use Rattle.lks_host.specs.Journals.{journal_on}
 use Rattle.lks_host.specs.declared.hosts.Host.{Host}
 use Rattle.lks_law.proofs.Batches.{batches_more}
 use Rattle.lks_law.proofs.Histories.{world_more, entries_more, entry_event, pending_more, fresh_more, pass_true}
@@ -73,31 +74,32 @@ unchanged w envelope = refl
 module _ {D : Type 0} (f : Face D) where
   -- an event that put k envelopes into the bag
   record Happened (s t : State D) (e : Event) (k : ℕ) : Type 0 where
-    world : world_in t ≡ happens (world_in s) e
-    history : t.history.items ≡ s.history.items ++ entry_of (world_in s) e ∷ []
+    world : world_in f t ≡ happens (world_in f s) e
+    history : t.history.items ≡ s.history.items ++ entry_of (world_in f s) e ∷ []
     pending : t.pending.items ≡ filter (λ i. not (takes_out i e)) s.pending.items ++ range_with_len (length s.bag.items) k
     grown : length t.bag.items ≡ length s.bag.items + k
     untouched : (i : ℕ) → length s.bag.items ≤ i → takes_out i e ≡ false
     clock : t.tick ≤ s.tick + MOST_TICKS
+    pool : t.pool.now ≡ s.pool.now
     on : HaveGoneOn f (hosts_of s.seats.items) (hosts_of t.seats.items)
 
-  more_events : (s t : State D) (e : Event) → t.history.items ≡ s.history.items ++ entry_of (world_in s) e ∷ [] → events_in t ≡ events_in s ++ e ∷ []
+  more_events : (s t : State D) (e : Event) → t.history.items ≡ s.history.items ++ entry_of (world_in f s) e ∷ [] → events_in t ≡ events_in s ++ e ∷ []
   more_events s t e history =
-      ap (map (λ (x : Entry). x.event)) history ∙ map-append (λ (x : Entry). x.event) s.history.items (entry_of (world_in s) e ∷ [])
-      ∙ ap (λ d. events_in s ++ d ∷ []) (entry_event (world_in s) e)
+      ap (map (λ (x : Entry). x.event)) history ∙ map-append (λ (x : Entry). x.event) s.history.items (entry_of (world_in f s) e ∷ [])
+      ∙ ap (λ d. events_in s ++ d ∷ []) (entry_event (world_in f s) e)
 
-  one_more : (s t : State D) (e : Event) → t.history.items ≡ s.history.items ++ entry_of (world_in s) e ∷ [] → length t.history.items ≡ length s.history.items + 1
-  one_more s t e history = ap length history ∙ length-append s.history.items (entry_of (world_in s) e ∷ [])
+  one_more : (s t : State D) (e : Event) → t.history.items ≡ s.history.items ++ entry_of (world_in f s) e ∷ [] → length t.history.items ≡ length s.history.items + 1
+  one_more s t e history = ap length history ∙ length-append s.history.items (entry_of (world_in f s) e ∷ [])
 
-  host_after : (plan : Plan) (s t : State D) (e : Event) {k : ℕ} → IsStateOf f plan s → Happened s t e k → events_in t ≡ events_in s ++ e ∷ [] → world_in t ≡ world plan (events_in s ++ e ∷ [])
-      → (place : ℕ) (k : Host D) → slice_get (hosts_of t.seats.items) place ≡ Some k → IsHostAt f (batches_at place plan (events_in t)) (length t.history.items) k
+  host_after : (plan : Plan) (s t : State D) (e : Event) {k : ℕ} → IsStateOf f plan s → Happened s t e k → events_in t ≡ events_in s ++ e ∷ [] → world_in f t ≡ world plan (events_in s ++ e ∷ [])
+      → (place : ℕ) (k : Host D) → slice_get (hosts_of t.seats.items) place ≡ Some k → IsHostAt f t.pool.now (batches_at place plan (events_in t)) (length t.history.items) k
   host_after plan s t e is happened events worlds place k at =
       let went = happened.on place k at in
       let before = is.hosts place went.host went.there in
-      let older : journal_at place (world plan (events_in s)) ≡ went.host.peer.journal = journal_there (world plan (events_in s)) (hosts_of s.seats.items) place went.host (ap (λ (w : World). w.peers) is.world) went.there in
-      let newer : journal_at place (happens (world plan (events_in s)) e) ≡ k.peer.journal =
-      journal_there (happens (world plan (events_in s)) e) (hosts_of t.seats.items) place k (ap (λ (w : World). w.peers) (worlds ∙ world_more plan (events_in s) e)) at in
-      let batches : with_batch (batches_at place plan (events_in s)) (drop (length went.host.peer.journal) k.peer.journal) ≡ batches_at place plan (events_in t) =
+      let older : journal_at place (world plan (events_in s)) ≡ journal_on f went.host.journal.disk = journal_there f (world plan (events_in s)) (hosts_of s.seats.items) place went.host (ap (λ (w : World). w.peers) is.world) went.there in
+      let newer : journal_at place (happens (world plan (events_in s)) e) ≡ journal_on f k.journal.disk =
+      journal_there f (happens (world plan (events_in s)) e) (hosts_of t.seats.items) place k (ap (λ (w : World). w.peers) (worlds ∙ world_more plan (events_in s) e)) at in
+      let batches : with_batch (batches_at place plan (events_in s)) (drop (length (journal_on f went.host.journal.disk)) (journal_on f k.journal.disk)) ≡ batches_at place plan (events_in t) =
       (λ i. with_batch (batches_at place plan (events_in s)) (drop (length (sym older i)) (sym newer i)))
       ∙ sym (batches_more place plan (events_in s) e) ∙ ap (batches_at place plan) (sym events) in
       let one = one_more s t e happened.history in
@@ -106,14 +108,15 @@ module _ {D : Type 0} (f : Face D) where
         whole = went.on.whole before.whole;
         room = omega (arith, went.on.room, before.room, one);
         unfused = went.on.unfused ∙ before.unfused;
+        pooled = went.on.pool ∙ before.pooled ∙ sym happened.pool;
       }
 
-  kept : (plan : Plan) (s t : State D) (e : Event) (k : ℕ) → IsStateOf f plan s → length (events_in s) < MOST_EVENTS → MayHappen plan (world_in s) e → Happened s t e k → IsStateOf f plan t
+  kept : (plan : Plan) (s t : State D) (e : Event) (k : ℕ) → IsStateOf f plan s → length (events_in s) < MOST_EVENTS → MayHappen plan (world_in f s) e → Happened s t e k → IsStateOf f plan t
   kept plan s t e k is room may h =
       let events = more_events s t e h.history in
       let one = one_more s t e h.history in
       let size : length s.bag.items ≡ length (world plan (events_in s)).bag = ap (λ (w : World). length w.bag) is.world in
-      let worlds : world_in t ≡ world plan (events_in s ++ e ∷ []) = h.world ∙ ap (λ w. happens w e) is.world ∙ sym (world_more plan (events_in s) e) in
+      let worlds : world_in f t ≡ world plan (events_in s ++ e ∷ []) = h.world ∙ ap (λ w. happens w e) is.world ∙ sym (world_more plan (events_in s) e) in
       let grown : length (world plan (events_in s ++ e ∷ [])).bag ≡ length (world plan (events_in s)).bag + k =
       sym (ap (λ (w : World). length w.bag) worlds) ∙ h.grown ∙ ap (λ n. n + k) size in
       let fresh : (i : ℕ) → length (world plan (events_in s)).bag ≤ i → is_pending (events_in s) i ≡ true = λ i le. is.fresh i (omega (arith, size)) in
@@ -123,7 +126,7 @@ module _ {D : Type 0} (f : Face D) where
         happened = subst (IsHistory plan) (sym events) (history_more plan (events_in s) e is.happened room here);
         world = worlds ∙ ap (world plan) (sym events);
         entries =
-            h.history ∙ ap (λ es. es ++ entry_of (world_in s) e ∷ []) is.entries ∙ ap (λ w. entries plan (events_in s) ++ entry_of w e ∷ []) is.world
+            h.history ∙ ap (λ es. es ++ entry_of (world_in f s) e ∷ []) is.entries ∙ ap (λ w. entries plan (events_in s) ++ entry_of w e ∷ []) is.world
             ∙ sym (entries_more plan (events_in s) e) ∙ ap (entries plan) (sym events);
         pending =
             h.pending ∙ ap (λ is. filter (λ i. not (takes_out i e)) is ++ range_with_len (length s.bag.items) k) is.pending
@@ -136,51 +139,54 @@ module _ {D : Type 0} (f : Face D) where
             ∙ fresh_more (events_in s) e (length s.bag.items) (length t.bag.items) (omega (arith, h.grown)) is.fresh h.untouched i le;
       }
 
-  became : (plan : Plan) (s t : State D) (e : Event) (k : ℕ) → IsStateOf f plan s → length (events_in s) < MOST_EVENTS → MayHappen plan (world_in s) e → Happened s t e k → Becomes f plan (events_in s ++ e ∷ []) t
+  became : (plan : Plan) (s t : State D) (e : Event) (k : ℕ) → IsStateOf f plan s → length (events_in s) < MOST_EVENTS → MayHappen plan (world_in f s) e → Happened s t e k → Becomes f plan (events_in s ++ e ∷ []) t
   became plan s t e k is room may h = record { state = kept plan s t e k is room may h; events = more_events s t e h.history }
 
   same_hosts : (s t : State D) → t.seats.items ≡ s.seats.items → HaveGoneOn f (hosts_of s.seats.items) (hosts_of t.seats.items)
   same_hosts s t seats = subst (λ (ss : List (Seat D)). HaveGoneOn f (hosts_of s.seats.items) (hosts_of ss)) (sym seats) (stayed f (hosts_of s.seats.items))
 
-  pub became_step : (plan : Plan) (s t : State D) (p : PeerStep) → IsStateOf f plan s → length (events_in s) < MOST_EVENTS → MayStep plan (world_in s) p → world_in t ≡ happens (world_in s) (Step p) → t.history.items ≡ s.history.items ++ entry_of (world_in s) (Step p) ∷ [] → t.pending.items ≡ left_after p s.pending.items ++ range_with_len (length s.bag.items) (sends_in (world_in s) p) → HaveGoneOn f (hosts_of s.seats.items) (hosts_of t.seats.items) → Becomes f plan (events_in s ++ Step p ∷ []) t
-  became_step plan s t p is room may world history pending on =
-      became plan s t (Step p) (sends_in (world_in s) p) is room may (record {
+  pub became_step : (plan : Plan) (s t : State D) (p : PeerStep) → IsStateOf f plan s → length (events_in s) < MOST_EVENTS → MayStep plan (world_in f s) p → world_in f t ≡ happens (world_in f s) (Step p) → t.history.items ≡ s.history.items ++ entry_of (world_in f s) (Step p) ∷ [] → t.pending.items ≡ left_after p s.pending.items ++ range_with_len (length s.bag.items) (sends_in (world_in f s) p) → HaveGoneOn f (hosts_of s.seats.items) (hosts_of t.seats.items) → t.pool.now ≡ s.pool.now → Becomes f plan (events_in s ++ Step p ∷ []) t
+  became_step plan s t p is room may world history pending on pool =
+      became plan s t (Step p) (sends_in (world_in f s) p) is room may (record {
         world = world;
         history = history;
-        pending = pending ∙ ap (λ is. is ++ range_with_len (length s.bag.items) (sends_in (world_in s) p)) (left_by p s.pending.items);
-        grown = ap (λ (w : World). length w.bag) world ∙ grown_by (world_in s) p;
-        untouched = untouched_by plan (world_in s) p may;
-        clock = let same = ap (λ (w : World). w.tick) world ∙ same_tick (world_in s) p in omega (arith, same);
+        pending = pending ∙ ap (λ is. is ++ range_with_len (length s.bag.items) (sends_in (world_in f s) p)) (left_by p s.pending.items);
+        grown = ap (λ (w : World). length w.bag) world ∙ grown_by (world_in f s) p;
+        untouched = untouched_by plan (world_in f s) p may;
+        clock = let same = ap (λ (w : World). w.tick) world ∙ same_tick (world_in f s) p in omega (arith, same);
+        pool = pool;
         on = on;
       })
 
-  pub became_forge : (plan : Plan) (s t : State D) (from to : ℕ) (bytes : List ℕ) → IsStateOf f plan s → length (events_in s) < MOST_EVENTS → MayForge plan from to bytes → world_in t ≡ happens (world_in s) (Forge from to bytes) → t.history.items ≡ s.history.items ++ entry_of (world_in s) (Forge from to bytes) ∷ [] → t.pending.items ≡ s.pending.items ++ length s.bag.items ∷ [] → t.seats.items ≡ s.seats.items → Becomes f plan (events_in s ++ Forge from to bytes ∷ []) t
-  became_forge plan s t from to bytes is room may world history pending hosts =
+  pub became_forge : (plan : Plan) (s t : State D) (from to : ℕ) (bytes : List ℕ) → IsStateOf f plan s → length (events_in s) < MOST_EVENTS → MayForge plan from to bytes → world_in f t ≡ happens (world_in f s) (Forge from to bytes) → t.history.items ≡ s.history.items ++ entry_of (world_in f s) (Forge from to bytes) ∷ [] → t.pending.items ≡ s.pending.items ++ length s.bag.items ∷ [] → t.seats.items ≡ s.seats.items → t.pool.now ≡ s.pool.now → Becomes f plan (events_in s ++ Forge from to bytes ∷ []) t
+  became_forge plan s t from to bytes is room may world history pending hosts pool =
       became plan s t (Forge from to bytes) 1 is room may (record {
         world = world;
         history = history;
         pending = pending ∙ ap (λ is. is ++ length s.bag.items ∷ []) (sym (pass_true s.pending.items));
-        grown = ap (λ (w : World). length w.bag) world ∙ grown_by_one (world_in s) from to bytes;
+        grown = ap (λ (w : World). length w.bag) world ∙ grown_by_one (world_in f s) from to bytes;
         untouched = λ i le. refl;
-        clock = let same = ap (λ (w : World). w.tick) world ∙ no_tick (world_in s) from to bytes in omega (arith, same);
+        clock = let same = ap (λ (w : World). w.tick) world ∙ no_tick (world_in f s) from to bytes in omega (arith, same);
+        pool = pool;
         on = same_hosts s t hosts;
       })
 
-  pub became_tick : (plan : Plan) (s t : State D) (by : ℕ) → IsStateOf f plan s → length (events_in s) < MOST_EVENTS → 1 ≤ by → by ≤ MOST_TICKS → world_in t ≡ happens (world_in s) (Tick by) → t.history.items ≡ s.history.items ++ entry_of (world_in s) (Tick by) ∷ [] → t.pending.items ≡ s.pending.items → t.seats.items ≡ s.seats.items → Becomes f plan (events_in s ++ Tick by ∷ []) t
-  became_tick plan s t by is room some few world history pending hosts =
+  pub became_tick : (plan : Plan) (s t : State D) (by : ℕ) → IsStateOf f plan s → length (events_in s) < MOST_EVENTS → 1 ≤ by → by ≤ MOST_TICKS → world_in f t ≡ happens (world_in f s) (Tick by) → t.history.items ≡ s.history.items ++ entry_of (world_in f s) (Tick by) ∷ [] → t.pending.items ≡ s.pending.items → t.seats.items ≡ s.seats.items → t.pool.now ≡ s.pool.now → Becomes f plan (events_in s ++ Tick by ∷ []) t
+  became_tick plan s t by is room some few world history pending hosts pool =
       became plan s t (Tick by) 0 is room (some, few) (record {
         world = world;
         history = history;
         pending = pending ∙ sym (pass_true s.pending.items) ∙ sym (append-nil (filter (λ i. true) s.pending.items));
-        grown = let same = ap (λ (w : World). length w.bag) world ∙ same_bag (world_in s) by in omega (arith, same);
+        grown = let same = ap (λ (w : World). length w.bag) world ∙ same_bag (world_in f s) by in omega (arith, same);
         untouched = λ i le. refl;
-        clock = let later = ap (λ (w : World). w.tick) world ∙ ticked (world_in s) by in omega (arith, later, few);
+        clock = let later = ap (λ (w : World). w.tick) world ∙ ticked (world_in f s) by in omega (arith, later, few);
+        pool = pool;
         on = same_hosts s t hosts;
       })
 
-  pub became_lose : (plan : Plan) (s t : State D) (envelope : ℕ) → IsStateOf f plan s → length (events_in s) < MOST_EVENTS → envelope < length s.bag.items → world_in t ≡ happens (world_in s) (Lose envelope) → t.history.items ≡ s.history.items ++ entry_of (world_in s) (Lose envelope) ∷ [] → t.pending.items ≡ filter (λ i. not (i == envelope)) s.pending.items → t.seats.items ≡ s.seats.items → Becomes f plan (events_in s ++ Lose envelope ∷ []) t
-  became_lose plan s t envelope is room stands world history pending hosts =
-      let same = world ∙ unchanged (world_in s) envelope in
+  pub became_lose : (plan : Plan) (s t : State D) (envelope : ℕ) → IsStateOf f plan s → length (events_in s) < MOST_EVENTS → envelope < length s.bag.items → world_in f t ≡ happens (world_in f s) (Lose envelope) → t.history.items ≡ s.history.items ++ entry_of (world_in f s) (Lose envelope) ∷ [] → t.pending.items ≡ filter (λ i. not (i == envelope)) s.pending.items → t.seats.items ≡ s.seats.items → t.pool.now ≡ s.pool.now → Becomes f plan (events_in s ++ Lose envelope ∷ []) t
+  became_lose plan s t envelope is room stands world history pending hosts pool =
+      let same = world ∙ unchanged (world_in f s) envelope in
       became plan s t (Lose envelope) 0 is room stands (record {
         world = world;
         history = history;
@@ -188,5 +194,6 @@ module _ {D : Type 0} (f : Face D) where
         grown = let size = ap (λ (w : World). length w.bag) same in omega (arith, size);
         untouched = λ i le. not_same i envelope (length s.bag.items) stands le;
         clock = let tick = ap (λ (w : World). w.tick) same in omega (arith, tick);
+        pool = pool;
         on = same_hosts s t hosts;
       })

@@ -1,13 +1,18 @@
 -- Seats as they begin.
-use Rattle.std.specs.Prelude.{◌≡◌, ◌≤◌, ℕ, true, false, Option, Some, None, Result, Ok, Err, List, [], ◌∷◌, ◌++◌, map, reverse, slice_get}
+use Rattle.std.specs.Prelude.{◌≡◌, ◌≤◌, ◌<◌, ◌+◌, ℕ, true, false, Option, Some, None, Result, Ok, Err, OnOk, List, [], ◌∷◌, ◌++◌, length, map, reverse, slice_get, Vec, vec_len, vec_capacity}
+use Rattle.std.specs.declared.alloc.Global.{Global}
+use Rattle.lks_base.specs.Checking.{plan_fault}
 use Rattle.lks_disk.specs.Counts.{Rose}
 use Rattle.lks_disk.specs.Face.{Face}
 use Rattle.lks_base.specs.declared.plans.PeerPlan.{PeerPlan}
 use Rattle.lks_base.specs.declared.plans.Plan.{Plan}
 use Rattle.lks_host.specs.Hosted.{StandsFor}
+use Rattle.lks_host.specs.Journals.{journal_on}
 use Rattle.lks_host.specs.declared.hosts.Host.{Host}
 use Rattle.lks_law.specs.Batches.{alone}
-use Rattle.lks_law.specs.World.{standing_of}
+use Rattle.lks_law.specs.World.{honest_peer, standing_of}
+use Rattle.lks_world.specs.Held.{AreFresh}
+use Rattle.lks_world.specs.Hosts.{peer_in}
 use Rattle.lks_world.specs.Seats.{disk_at, disks_at}
 use Rattle.lks_world.specs.declared.faults.WorldFault.{WorldFault}
 use Rattle.lks_world.specs.declared.faults.WorldFault.TheVariants.{Disk}
@@ -17,26 +22,27 @@ use Rattle.lks_world.specs.declared.states.State.{State}
 use Rattle.lks_world.specs.declared.worlds.Parts.{Parts}
 use Rattle.lks_world.specs.declared.worlds.World.{World}
 
--- a host whose disk holds its peer's deposits, one batch each
-pub record HasBegun {D : Type 0} (f : Face D) (h : Host D) : Type 0 where
-  pub stands : StandsFor f h (map alone h.peer.journal)
+-- a host whose disk holds its peer's deposits, one batch each, and whose blocks are in this pool
+pub record HasBegun {D : Type 0} (f : Face D) (pool : List ℕ) (h : Host D) : Type 0 where
+  pub stands : StandsFor f h (map alone (journal_on f h.journal.disk))
+  pub pooled : h.peer.pool ≡ pool
   pub whole : h.broken ≡ false
   pub room : h.journal.end ≤ 33558580
   pub unfused : f.fused h.journal.disk ≡ false
 
-abbrev pub HaveBegun : {D : Type 0} → Face D → List (Host D) → Type 0
-HaveBegun {D} f hosts = (place : ℕ) (h : Host D) → slice_get hosts place ≡ Some h → HasBegun f h
+abbrev pub HaveBegun : {D : Type 0} → Face D → List ℕ → List (Host D) → Type 0
+HaveBegun {D} f pool hosts = (place : ℕ) (h : Host D) → slice_get hosts place ≡ Some h → HasBegun f pool h
 
 -- the seat with which a peer begins
-abbrev pub HasBegunAs : {D : Type 0} → Face D → Plan → PeerPlan → Seat D → Type 0
-HasBegunAs f plan p (seat.Host h) = (p.corrupt ≡ false) × (h.peer ≡ standing_of plan p) × HasBegun f h
-HasBegunAs f plan p (seat.Idle d) = p.corrupt ≡ true
+abbrev pub HasBegunAs : {D : Type 0} → Face D → List ℕ → Plan → PeerPlan → Seat D → Type 0
+HasBegunAs f pool plan p (seat.Host h) = (p.corrupt ≡ false) × (peer_in f h ≡ standing_of plan p) × HasBegun f pool h
+HasBegunAs f pool plan p (seat.Idle d) = p.corrupt ≡ true
 
 -- one seat more, of this peer
-pub record IsSeated {D : Type 0} (f : Face D) (plan : Plan) (p : PeerPlan) (before after : List (Seat D)) : Type 0 where
+pub record IsSeated {D : Type 0} (f : Face D) (pool : List ℕ) (plan : Plan) (p : PeerPlan) (before after : List (Seat D)) : Type 0 where
   pub made : Seat D
   pub more : after ≡ before ++ made ∷ []
-  pub begun : HasBegunAs f plan p made
+  pub begun : HasBegunAs f pool plan p made
 
 -- what making the seat of a peer did to its disk: nothing, if the peer is corrupt
 pub record IsServed {D : Type 0} (f : Face D) (p : PeerPlan) (before after : D) (fault : Option WorldFault) : Type 0 where
@@ -69,3 +75,32 @@ disks_made (Err e) = e.0.disks.items
 abbrev pub fault_made : {D : Type 0} → Result (World D) (Parts D × WorldFault) → Option WorldFault
 fault_made (Ok world) = None
 fault_made (Err e) = Some e.1
+
+-- The plan is good, and there is a fresh disk for each peer, the last of the list for the first one.
+pub record CanBegin {D : Type 0} (f : Face D) (plan : Plan) (disks : Vec D Global) : Type 0 where
+  pub good : plan_fault plan ≡ None
+  pub enough : length plan.peers ≤ vec_len disks
+  pub fresh : AreFresh f (reverse disks.items)
+
+-- and no seat is made yet, but there is room for all
+pub record CanSeat {D : Type 0} (f : Face D) (plan : Plan) (disks : Vec D Global) (seats : Vec (Seat D) Global) : Type 0 where
+  pub begins : CanBegin f plan disks
+  pub none : seats.items ≡ []
+  pub none_there : vec_len seats ≡ 0
+  pub room : length plan.peers ≤ vec_capacity seats
+
+-- there is a fresh disk for the next peer of the plan, and room for its seat
+pub record HasNext {D : Type 0} (f : Face D) (plan : Plan) (p : PeerPlan) (disks : Vec D Global) (seats : Vec (Seat D) Global) : Type 0 where
+  pub good : plan_fault plan ≡ None
+  pub planned : p.corrupt ≡ false → honest_peer p.id plan ≡ Some p
+  pub some : 0 < vec_len disks
+  pub fresh : AreFresh f (reverse disks.items)
+  pub room : vec_len seats < vec_capacity seats
+
+-- a disk went to a seat, or back to the list, and no list lost room
+pub record HaveRoom {D T : Type 0} (disks disks_after : Vec D Global) (seats seats_after : Vec (Seat D) Global) (result : Result T WorldFault) : Type 0 where
+  pub less : OnOk result (vec_len disks_after + 1 ≡ vec_len disks)
+  pub more : OnOk result (vec_len seats_after ≡ vec_len seats + 1)
+  pub all : vec_len disks_after + vec_len seats_after ≡ vec_len disks + vec_len seats
+  pub seats_room : vec_capacity seats ≤ vec_capacity seats_after
+  pub disks_room : vec_capacity disks ≤ vec_capacity disks_after

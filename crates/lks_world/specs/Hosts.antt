@@ -1,21 +1,25 @@
 -- The hosts of a world, and how they go on.
-use Rattle.std.specs.Prelude.{◌≡◌, ◌≤◌, ◌+◌, ◌*◌, ◌++◌, ℕ, false, Some, None, List, length, drop, map, slice_get}
+use Rattle.std.specs.Prelude.{◌≡◌, ◌≤◌, ◌+◌, ◌*◌, ◌++◌, ℕ, false, Some, None, List, [], length, drop, map, slice_get, Result, IsErrOf}
+use Rattle.lks_disk.specs.Counts.{Rose}
 use Rattle.lks_disk.specs.Face.{Face}
 use Rattle.lks_base.specs.declared.records.Record.{Record}
 use Rattle.lks_host.specs.Hosted.{StandsFor}
+use Rattle.lks_host.specs.Journals.{journal_on}
 use Rattle.lks_host.specs.declared.faults.HostFault.{HostFault}
 use Rattle.lks_host.specs.declared.faults.HostFault.TheVariants as host
 use Rattle.lks_host.specs.declared.hosts.Host.{Host}
 use Rattle.lks_law.specs.Batches.{with_batch}
 use Rattle.lks_law.specs.World.{Standing, peer_at, with_records}
+use Rattle.lks_law.specs.Written.{AreWritten}
 use Rattle.lks_world.specs.declared.faults.WorldFault.{WorldFault}
 use Rattle.lks_world.specs.declared.faults.WorldFault.TheVariants.{Disk, Memory}
 
-abbrev pub peer_in : {D : Type 0} → Host D → Standing
-peer_in h = h.peer
+-- the peer of a host, with the journal that its disk holds
+abbrev pub peer_in : {D : Type 0} → Face D → Host D → Standing
+peer_in f h = record { own = h.peer.own; journal = journal_on f h.journal.disk }
 
-abbrev pub peers_of : {D : Type 0} → List (Host D) → List Standing
-peers_of hosts = map peer_in hosts
+abbrev pub peers_of : {D : Type 0} → Face D → List (Host D) → List Standing
+peers_of f hosts = map (peer_in f) hosts
 
 abbrev pub disk_in : {D : Type 0} → Host D → D
 disk_in h = h.journal.disk
@@ -23,23 +27,26 @@ disk_in h = h.journal.disk
 abbrev pub disks_of : {D : Type 0} → List (Host D) → List D
 disks_of hosts = map disk_in hosts
 
--- a host that can take a step
-pub record IsReady {D : Type 0} (f : Face D) (h : Host D) : Type 0 where
+-- a host that can take a step, whose blocks are in this pool, and whose journal is one that the rules make
+pub record IsReady {D : Type 0} (f : Face D) (pool : List ℕ) (h : Host D) : Type 0 where
   pub whole : h.broken ≡ false
   pub room : h.journal.end + 32769 ≤ 2147483647
   pub unfused : f.fused h.journal.disk ≡ false
+  pub pooled : h.peer.pool ≡ pool
   pub batches : List (List Record)
   pub stands : StandsFor f h batches
+  pub written : AreWritten [] (journal_on f h.journal.disk)
 
-abbrev pub AreReady : {D : Type 0} → Face D → List (Host D) → Type 0
-AreReady {D} f hosts = (place : ℕ) (h : Host D) → slice_get hosts place ≡ Some h → IsReady f h
+abbrev pub AreReady : {D : Type 0} → Face D → List ℕ → List (Host D) → Type 0
+AreReady {D} f pool hosts = (place : ℕ) (h : Host D) → slice_get hosts place ≡ Some h → IsReady f pool h
 
--- a host went on: what its peer's journal has more is one batch more on its disk
+-- a host went on: what its disk's journal has more is one batch more
 pub record GoesOn {D : Type 0} (f : Face D) (h k : Host D) : Type 0 where
   pub whole : h.broken ≡ false → k.broken ≡ false
   pub room : k.journal.end ≤ h.journal.end + 32768
   pub unfused : f.fused k.journal.disk ≡ f.fused h.journal.disk
-  pub stands : (batches : List (List Record)) → StandsFor f h batches → StandsFor f k (with_batch batches (drop (length h.peer.journal) k.peer.journal))
+  pub pool : k.peer.pool ≡ h.peer.pool
+  pub stands : (batches : List (List Record)) → StandsFor f h batches → StandsFor f k (with_batch batches (drop (length (journal_on f h.journal.disk)) (journal_on f k.journal.disk)))
 
 pub record WentOn {D : Type 0} (f : Face D) (before : List (Host D)) (place : ℕ) (k : Host D) : Type 0 where
   pub host : Host D
@@ -49,12 +56,20 @@ pub record WentOn {D : Type 0} (f : Face D) (before : List (Host D)) (place : �
 abbrev pub HaveGoneOn : {D : Type 0} → Face D → List (Host D) → List (Host D) → Type 0
 HaveGoneOn {D} f before after = (place : ℕ) (k : Host D) → slice_get after place ≡ Some k → WentOn f before place k
 
--- a host after so many events, whose disk holds these batches
-pub record IsHostAt {D : Type 0} (f : Face D) (batches : List (List Record)) (events : ℕ) (h : Host D) : Type 0 where
+-- a host after so many events, whose disk holds these batches, and whose blocks are in this pool
+pub record IsHostAt {D : Type 0} (f : Face D) (pool : List ℕ) (batches : List (List Record)) (events : ℕ) (h : Host D) : Type 0 where
   pub stands : StandsFor f h batches
+  pub pooled : h.peer.pool ≡ pool
   pub whole : h.broken ≡ false
   pub room : h.journal.end ≤ 33558580 + 32768 * events
   pub unfused : f.fused h.journal.disk ≡ false
+
+-- It is the same peer's host, no fuse was set or ended, and its disk is blamed where its count of faults rose.
+pub record HasActed {D T : Type 0} (f : Face D) (h k : Host D) (result : Result T WorldFault) : Type 0 where
+  pub own : k.peer.own ≡ h.peer.own
+  pub fuse : f.fused k.journal.disk ≡ f.fused h.journal.disk
+  pub later : f.faults h.journal.disk ≤ f.faults k.journal.disk
+  pub cause : (id : ℕ) → IsErrOf result (Disk id) → (h.peer.own.id ≡ id) × Rose (f.faults h.journal.disk) (f.faults k.journal.disk)
 
 -- what a refusal of a peer's host is to the world, in which no fuse is set
 abbrev pub blamed : ℕ → HostFault → WorldFault

@@ -7,7 +7,7 @@ use Rattle.lks_base.specs.declared.records.Record.{Record}
 use Rattle.lks_host.specs.declared.hosts.Host.{Host}
 use Rattle.lks_law.specs.World.{peer_at, with_records}
 use Rattle.lks_world.specs.Counts.{fault_in, ServesHonest}
-use Rattle.lks_world.specs.Hosts.{peers_of, with_added}
+use Rattle.lks_world.specs.Hosts.{peer_in, peers_of, with_added}
 use Rattle.lks_world.specs.declared.faults.WorldFault.{WorldFault}
 use Rattle.lks_world.specs.declared.seats.Seat.{Seat}
 use Rattle.lks_world.specs.declared.seats.Seat.TheVariants as seat
@@ -57,12 +57,12 @@ pub record Counted {D T : Type 0} (f : Face D) (before after : List (Seat D)) (r
   pub serves : (peers : List PeerPlan) (rest : List D) → AreSeats peers before → ServesHonest f peers (disks_at before ++ rest) (disks_at after ++ rest) (fault_in result)
 
 -- The peer's host is on this seat, the host of this rank; its records are added there, and nothing else changes.
-pub record StandsAt {D : Type 0} (id : ℕ) (seats : List (Seat D)) (place : ℕ) : Type 0 where
+pub record StandsAt {D : Type 0} (f : Face D) (id : ℕ) (seats : List (Seat D)) (place : ℕ) : Type 0 where
   pub host : Host D
   pub rank : ℕ
   pub within : place < length seats
   pub there : slice_get seats place ≡ Some (seat.Host host)
   pub ranked : slice_get (hosts_of seats) rank ≡ Some host
-  pub found : peer_at id (peers_of (hosts_of seats)) ≡ Some host.peer
+  pub found : peer_at id (peers_of f (hosts_of seats)) ≡ Some (peer_in f host)
   pub sets : (k : Host D) → hosts_of (slice_set seats place (seat.Host k)) ≡ slice_set (hosts_of seats) rank k
-  pub added : (added : List Record) (k : Host D) → k.peer ≡ with_added host.peer added → peers_of (hosts_of (slice_set seats place (seat.Host k))) ≡ with_records id added (peers_of (hosts_of seats))
+  pub added : (added : List Record) (k : Host D) → peer_in f k ≡ with_added (peer_in f host) added → peers_of f (hosts_of (slice_set seats place (seat.Host k))) ≡ with_records id added (peers_of f (hosts_of seats))

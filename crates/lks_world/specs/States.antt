@@ -14,7 +14,9 @@ use Rattle.lks_law.specs.Batches.{batches_at}
 use Rattle.lks_law.specs.Due.{is_pending, pending, ready_at, turns_at, next_to_settle, next_to_deliver, next_to_finish}
 use Rattle.lks_law.specs.Entries.{entries}
 use Rattle.lks_law.specs.Histories.{IsHistory}
+use Rattle.lks_law.specs.Turning.{ready_on, turns_on}
 use Rattle.lks_law.specs.World.{World, Standing, world, effect_of, deed_of}
+use Rattle.lks_peer.specs.Knows.{Knowing}
 use Rattle.lks_world.specs.Hosts.{peers_of, IsHostAt}
 use Rattle.lks_world.specs.Seats.{hosts_of}
 use Rattle.lks_world.specs.declared.settling.Course.{Course}
@@ -39,8 +41,8 @@ left_after (Check peer) waiting = waiting
 left_after (Tune peer quorum minority repairs) waiting = waiting
 left_after (Deliver envelope judged) waiting = filter (λ i. not (i == envelope)) waiting
 
-abbrev pub world_in : {D : Type 0} → State D → World
-world_in s = record { peers = peers_of (hosts_of s.seats.items); bag = s.bag.items; tick = s.tick }
+abbrev pub world_in : {D : Type 0} → Face D → State D → World
+world_in f s = record { peers = peers_of f (hosts_of s.seats.items); bag = s.bag.items; tick = s.tick }
 
 -- how many envelopes a step sends
 unfoldable pub sends_in : World → PeerStep → ℕ
@@ -57,12 +59,12 @@ events_in s = events_of s.history.items
 -- these events; the clock moved by at most 1,000,000 at each
 pub record IsStateOf {D : Type 0} (f : Face D) (plan : Plan) (s : State D) : Type 0 where
   pub happened : IsHistory plan (events_in s)
-  pub world : world_in s ≡ world plan (events_in s)
+  pub world : world_in f s ≡ world plan (events_in s)
   pub entries : s.history.items ≡ entries plan (events_in s)
   pub pending : s.pending.items ≡ pending plan (events_in s)
   pub clock : s.tick ≤ MOST_TICKS * length s.history.items
   pub fresh : (i : ℕ) → length s.bag.items ≤ i → is_pending (events_in s) i ≡ true
-  pub hosts : (place : ℕ) (h : Host D) → slice_get (hosts_of s.seats.items) place ≡ Some h → IsHostAt f (batches_at place plan (events_in s)) (length s.history.items) h
+  pub hosts : (place : ℕ) (h : Host D) → slice_get (hosts_of s.seats.items) place ≡ Some h → IsHostAt f s.pool.now (batches_at place plan (events_in s)) (length s.history.items) h
 
 -- the state is that of the plan's world after this history
 pub record Becomes {D : Type 0} (f : Face D) (plan : Plan) (history : List Event) (s : State D) : Type 0 where
@@ -82,8 +84,13 @@ abbrev pub steps_of : Part → Standing → List PeerStep
 steps_of Ready = ready_at
 steps_of Turns = turns_at
 
+-- those of a peer in its state
+abbrev pub steps_on : Part → Knowing → List PeerStep
+steps_on Ready k = ready_on k.own k.state
+steps_on Turns k = turns_on k.own k.state
+
 abbrev pub seat_steps : {D : Type 0} → Part → Seat D → List PeerStep
-seat_steps part (seat.Host h) = steps_of part h.peer
+seat_steps part (seat.Host h) = steps_on part h.peer
 seat_steps part (seat.Idle d) = []
 
 -- what comes next on each course, and the steps of their own that peers take on it
@@ -97,3 +104,9 @@ abbrev pub own_steps : Course → List Standing → List PeerStep
 own_steps Settling peers = flat_map ready_at peers
 own_steps Delivering peers = []
 own_steps Finishing peers = flat_map ready_at peers ++ flat_map turns_at peers
+
+-- the same of the seats
+abbrev pub steps_there : {D : Type 0} → Course → List (Seat D) → List PeerStep
+steps_there Settling seats = flat_map (seat_steps Ready) seats
+steps_there Delivering seats = []
+steps_there Finishing seats = flat_map (seat_steps Ready) seats ++ flat_map (seat_steps Turns) seats

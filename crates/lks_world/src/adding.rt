@@ -16,29 +16,31 @@ use crate::states::{State, step};
 use lks_base::{Bytes, MOST_EVENTS, OutOfMemory, PeerId, PeerStep};
 use lks_disk::CrashDisk;
 use std::alloc::Global;
+use std::sync::Wait;
 
 /// How many events the history has room for.
-pub fn room<D: CrashDisk>(state: &State<D>) -> usize
+pub fn room<D: CrashDisk>(state: &State<'_, D>) -> usize
     ensures { result ≡ MOST_EVENTS - length state.now.history.items }
 {
     (MOST_EVENTS as usize).saturating_sub(state.history.as_slice().len())
 }
 
 /// One step of a peer.
-pub fn add_step<D: CrashDisk>(
+pub fn add_step<R: Wait, D: CrashDisk>(
     alloc: Global,
-    state: &mut State<D>,
+    rt: &R,
+    state: &mut State<'_, D>,
     s: PeerStep,
 ) -> Result<(), WorldFault>
     requires { (plan : Plan) × IsStateOf D.face plan state.old }
-    ensures becomes { (plan : Plan) → IsStateOf D.face plan state.old → MayStep plan (world_in state.old) s →
+    ensures becomes { (plan : Plan) → IsStateOf D.face plan state.old → MayStep plan (world_in D.face state.old) s →
         OnOk result (Becomes D.face plan (kept (events_in state.old) (events.Step s)) state.new) }
-    ensures extends { (plan : Plan) → IsStateOf D.face plan state.old → MayStep plan (world_in state.old) s →
+    ensures extends { (plan : Plan) → IsStateOf D.face plan state.old → MayStep plan (world_in D.face state.old) s →
         Extends plan state.old.history.items state.new.history.items }
     ensures counted { Counted D.face state.old.seats.items state.new.seats.items result }
 {
     if room(state) > 0 {
-        step(alloc, state, s)?;
+        step(alloc, rt, state, s)?;
     }
     Ok(())
 }
@@ -50,7 +52,7 @@ fn are_bytes(bytes: &[u8])
 
 /// A forgery.
 pub fn add_forgery<D: CrashDisk>(
-    state: &mut State<D>,
+    state: &mut State<'_, D>,
     from: PeerId,
     to: PeerId,
     bytes: Bytes,
@@ -69,7 +71,7 @@ pub fn add_forgery<D: CrashDisk>(
 }
 
 /// So many ticks of the clock. In a history with room they fit.
-pub fn add_ticks<D: CrashDisk>(state: &mut State<D>, by: u32) -> Result<(), OutOfMemory>
+pub fn add_ticks<D: CrashDisk>(state: &mut State<'_, D>, by: u32) -> Result<(), OutOfMemory>
     requires some { 1 ≤ by }
     requires few { by ≤ MOST_TICKS }
     requires state { (plan : Plan) × IsStateOf D.face plan state.old }
@@ -85,10 +87,10 @@ pub fn add_ticks<D: CrashDisk>(state: &mut State<D>, by: u32) -> Result<(), OutO
 }
 
 /// The loss of an envelope that stands in the bag.
-pub fn add_loss<D: CrashDisk>(state: &mut State<D>, envelope: u32) -> Result<(), OutOfMemory>
-    ensures becomes { (plan : Plan) → IsStateOf D.face plan state.old → WasSent (world_in state.old) envelope →
+pub fn add_loss<D: CrashDisk>(state: &mut State<'_, D>, envelope: u32) -> Result<(), OutOfMemory>
+    ensures becomes { (plan : Plan) → IsStateOf D.face plan state.old → WasSent (world_in D.face state.old) envelope →
         OnOk result (Becomes D.face plan (kept (events_in state.old) (events.Lose envelope)) state.new) }
-    ensures extends { (plan : Plan) → IsStateOf D.face plan state.old → WasSent (world_in state.old) envelope →
+    ensures extends { (plan : Plan) → IsStateOf D.face plan state.old → WasSent (world_in D.face state.old) envelope →
         Extends plan state.old.history.items state.new.history.items }
     ensures seats { state.new.seats.items ≡ state.old.seats.items }
 {

@@ -6,24 +6,28 @@ ghost use Rattle.lks_base.specs.declared.plans.PeerPlan.{PeerPlan as Planned};
 ghost use Rattle.lks_disk.specs.Counts.{Rose};
 ghost use Rattle.lks_host.specs.Hosted.{answer_of, disk_hosted};
 ghost use Rattle.lks_law.specs.World.{standing_of, is_honest, honest_peer};
-ghost use Rattle.lks_world.specs.Begun.{HasBegun, HasBegunAs, HaveBegun, IsSeated, IsServed, disk_seated, fault_seated, disks_after};
+ghost use Rattle.lks_world.specs.Begun.{CanBegin, CanSeat, HasBegun, HasBegunAs, HasNext, HaveBegun, HaveRoom, IsSeated, IsServed, disk_seated, fault_seated, disks_after};
 ghost use Rattle.lks_world.specs.Counts.{fault_in, ServesHonest};
 ghost use Rattle.lks_world.specs.Held.{IsFresh, AreFresh};
-ghost use Rattle.lks_world.specs.Hosts.{peers_of};
+ghost use Rattle.lks_world.specs.Hosts.{peer_in, peers_of};
 ghost use Rattle.lks_world.specs.Seats.{AreSeats, disks_at, hosts_of};
 ghost use Rattle.lks_world.specs.States.{IsStateOf};
 
 use crate::faults::{WorldFault, blame};
-use crate::seats::{Seat, put, unseat};
+use crate::seats::{Seat, unseat};
 use crate::states::State;
 use lks_base::{PeerId, PeerPlan, Plan};
+use lks_blocks::BlockPool;
 use lks_disk::CrashDisk;
 use lks_host::Host;
 use std::alloc::Global;
+use std::sync::Wait;
 
 /// The host of a peer on a fresh disk.
-fn create_host<D: CrashDisk>(
+fn create_host<R: Wait, D: CrashDisk>(
     alloc: Global,
+    rt: &R,
+    pool: &BlockPool,
     plan: &Plan,
     id: PeerId,
     disk: D,
@@ -31,21 +35,23 @@ fn create_host<D: CrashDisk>(
     requires good { plan_fault plan.now ≡ None }
     requires honest { IsSome (honest_peer id plan.now) }
     requires fresh { IsFresh D.face disk }
-    ensures peer { IfOk result (λ host. option_map (standing_of plan.now) (honest_peer id plan.now) ≡ Some host.peer) }
-    ensures begun { IfOk result (λ host. HasBegun D.face host) }
+    ensures peer { IfOk result (λ host. option_map (standing_of plan.now) (honest_peer id plan.now) ≡ Some (peer_in D.face host)) }
+    ensures begun { IfOk result (λ host. HasBegun D.face pool.now host) }
     ensures fuse { D.face.fused (disk_hosted result) ≡ D.face.fused disk }
     ensures later { D.face.faults disk ≤ D.face.faults (disk_hosted result) }
     ensures cause { (k : ℕ) → IsErrOf (answer_of result) (WorldFault.Disk k) → (id ≡ k) × Rose (D.face.faults disk) (D.face.faults (disk_hosted result)) }
 {
-    match Host::create(alloc, plan, id, disk) {
+    match Host::create(alloc, rt, pool, plan, id, disk) {
         Ok(host) => Ok(host),
         Err((disk, fault)) => Err((disk, blame(id, fault))),
     }
 }
 
 /// The seat of a peer, on a fresh disk.
-fn make_seat<D: CrashDisk>(
+fn make_seat<R: Wait, D: CrashDisk>(
     alloc: Global,
+    rt: &R,
+    pool: &BlockPool,
     plan: &Plan,
     peer: &PeerPlan,
     disk: D,
@@ -53,51 +59,46 @@ fn make_seat<D: CrashDisk>(
     requires good { plan_fault plan.now ≡ None }
     requires planned { peer.now.corrupt ≡ false → honest_peer peer.now.id plan.now ≡ Some peer.now }
     requires fresh { IsFresh D.face disk }
-    ensures begun { IfOk result (HasBegunAs D.face plan.now peer.now) }
+    ensures begun { IfOk result (HasBegunAs D.face pool.now plan.now peer.now) }
     ensures served { IsServed D.face peer.now disk (disk_seated result) (fault_seated result) }
 {
     if peer.corrupt {
         return Ok(Seat::Idle(disk));
     }
-    match create_host(alloc, plan, peer.id, disk) {
+    match create_host(alloc, rt, pool, plan, peer.id, disk) {
         Ok(host) => Ok(Seat::Host(host)),
         Err((disk, fault)) => Err((disk, fault)),
     }
 }
 
 /// Makes the next peer's seat on the last disk of the list. Where its host is refused, the disk is back in its place.
-fn seat_next<D: CrashDisk + Drop>(
+fn seat_next<R: Wait, D: CrashDisk + Drop>(
     alloc: Global,
+    rt: &R,
+    pool: &BlockPool,
     plan: &Plan,
     peer: &PeerPlan,
     disks: &mut Vec<D>,
     seats: &mut Vec<Seat<D>>,
 ) -> Result<(), WorldFault>
-    requires good { plan_fault plan.now ≡ None }
-    requires planned { peer.now.corrupt ≡ false → honest_peer peer.now.id plan.now ≡ Some peer.now }
-    requires some { 0 < vec_len disks.old }
-    requires fresh { AreFresh D.face (reverse disks.old.items) }
-    requires room { vec_len seats.old < vec_capacity seats.old }
-    ensures seated { OnOk result (IsSeated D.face plan.now peer.now seats.old.items seats.new.items) }
+    requires next { HasNext D.face plan.now peer.now disks.old seats.old }
+    ensures seated { OnOk result (IsSeated D.face pool.now plan.now peer.now seats.old.items seats.new.items) }
     ensures fresh { OnOk result (AreFresh D.face (reverse disks.new.items)) }
     ensures serves { (before after : List Planned) → AreSeats before seats.old.items →
         ServesHonest D.face (before ++ peer.now ∷ after) (disks_at seats.old.items ++ reverse disks.old.items) (disks_at seats.new.items ++ reverse disks.new.items) (fault_in result) }
     ensures fuses { map D.face.fused (disks_at seats.new.items ++ reverse disks.new.items) ≡ map D.face.fused (disks_at seats.old.items ++ reverse disks.old.items) }
-    ensures one_less { OnOk result (vec_len disks.new + 1 ≡ vec_len disks.old) }
-    ensures one_more { OnOk result (vec_len seats.new ≡ vec_len seats.old + 1) }
-    ensures len { vec_len disks.new + vec_len seats.new ≡ vec_len disks.old + vec_len seats.old }
-    ensures rooms { (vec_capacity seats.old ≤ vec_capacity seats.new) × (vec_capacity disks.old ≤ vec_capacity disks.new) }
+    ensures rooms { HaveRoom disks.old disks.new seats.old seats.new result }
 {
     let Some(disk) = disks.pop() else {
         unreachable!()
     };
-    match make_seat(alloc, plan, peer, disk) {
+    match make_seat(alloc, rt, pool, plan, peer, disk) {
         Ok(seat) => {
-            put(seats, seat);
+            seats.push_reserved(seat);
             Ok(())
         }
         Err((disk, fault)) => {
-            put(disks, disk);
+            disks.push_reserved(disk);
             Err(fault)
         }
     }
@@ -105,41 +106,38 @@ fn seat_next<D: CrashDisk + Drop>(
 
 /// Makes the seat of each peer, in the plan's order, as long as no host is refused. The last disk of the list is the first
 /// peer's.
-fn seat_each<D: CrashDisk + Drop>(
+fn seat_each<R: Wait, D: CrashDisk + Drop>(
     alloc: Global,
+    rt: &R,
+    pool: &BlockPool,
     plan: &Plan,
     disks: &mut Vec<D>,
     seats: &mut Vec<Seat<D>>,
 ) -> Result<(), WorldFault>
-    requires good { plan_fault plan.now ≡ None }
-    requires enough { length plan.now.peers ≤ vec_len disks.old }
-    requires fresh { AreFresh D.face (reverse disks.old.items) }
-    requires none { seats.old.items ≡ [] }
-    requires none_there { vec_len seats.old ≡ 0 }
-    requires room { length plan.now.peers ≤ vec_capacity seats.old }
+    requires seats { CanSeat D.face plan.now disks.old seats.old }
     ensures seats { OnOk result (AreSeats plan.now.peers seats.new.items) }
-    ensures peers { OnOk result (peers_of (hosts_of seats.new.items) ≡ map (standing_of plan.now) (filter is_honest plan.now.peers)) }
-    ensures begun { OnOk result (HaveBegun D.face (hosts_of seats.new.items)) }
+    ensures peers { OnOk result (peers_of D.face (hosts_of seats.new.items) ≡ map (standing_of plan.now) (filter is_honest plan.now.peers)) }
+    ensures begun { OnOk result (HaveBegun D.face pool.now (hosts_of seats.new.items)) }
     ensures serves { ServesHonest D.face plan.now.peers (reverse disks.old.items) (disks_at seats.new.items ++ reverse disks.new.items) (fault_in result) }
     ensures fuses { map D.face.fused (disks_at seats.new.items ++ reverse disks.new.items) ≡ map D.face.fused (reverse disks.old.items) }
     ensures len { vec_len disks.new + vec_len seats.new ≤ vec_capacity disks.new }
 {
     for p in plan.peers.as_slice() {
-        seat_next(alloc, plan, p, disks, seats)?;
+        seat_next(alloc, rt, pool, plan, p, disks, seats)?;
     }
     Ok(())
 }
 
 /// The state with which a world begins. The last disk of the list is the first peer's; those that no peer has are left
 /// there, and where a host is refused, all are.
-pub fn begin<D: CrashDisk + Drop>(
+pub fn begin<'a, R: Wait, D: CrashDisk + Drop>(
     alloc: Global,
+    rt: &R,
+    pool: &'a BlockPool,
     plan: &Plan,
     disks: &mut Vec<D>,
-) -> Result<State<D>, WorldFault>
-    requires good { plan_fault plan.now ≡ None }
-    requires enough { length plan.now.peers ≤ vec_len disks.old }
-    requires fresh { AreFresh D.face (reverse disks.old.items) }
+) -> Result<State<'a, D>, WorldFault>
+    requires disks { CanBegin D.face plan.now disks.old }
     ensures state { IfOk result (λ state. IsStateOf D.face plan.now state) }
     ensures nothing { IfOk result (λ state. state.history.items ≡ []) }
     ensures seats { IfOk result (λ state. AreSeats plan.now.peers state.seats.items) }
@@ -148,8 +146,9 @@ pub fn begin<D: CrashDisk + Drop>(
     ensures room { IfOk result (λ state. vec_len disks.new + length state.seats.items ≤ vec_capacity disks.new) }
 {
     let mut seats = Vec::with_capacity(alloc, plan.peers.as_slice().len())?;
-    match seat_each(alloc, plan, disks, &mut seats) {
+    match seat_each(alloc, rt, pool, plan, disks, &mut seats) {
         Ok(()) => Ok(State {
+            pool,
             seats,
             bag: Vec::new(alloc),
             pending: Vec::new(alloc),

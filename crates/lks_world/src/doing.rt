@@ -20,11 +20,13 @@ use lks_disk::CrashDisk;
 use lks_message::encode;
 use lks_script::Step;
 use std::alloc::Global;
+use std::sync::Wait;
 
 /// Does what comes next, so many times, as long as there is something.
-fn go_on<D: CrashDisk>(
+fn go_on<R: Wait, D: CrashDisk>(
     alloc: Global,
-    state: &mut State<D>,
+    rt: &R,
+    state: &mut State<'_, D>,
     times: usize,
     course: Course,
 ) -> Result<(), WorldFault>
@@ -38,7 +40,7 @@ fn go_on<D: CrashDisk>(
         match next(state, course) {
             Some(due) => {
                 let s = step_of(alloc, state, due)?;
-                step(alloc, state, s)?;
+                step(alloc, rt, state, s)?;
             }
             None => return Ok(()),
         }
@@ -47,7 +49,7 @@ fn go_on<D: CrashDisk>(
 }
 
 /// The first envelope that waits is lost.
-fn lose_first<D: CrashDisk>(state: &mut State<D>) -> Result<(), OutOfMemory>
+fn lose_first<D: CrashDisk>(state: &mut State<'_, D>) -> Result<(), OutOfMemory>
     ensures becomes { (plan : Planned) → IsStateOf D.face plan state.old →
         OnOk result (Becomes D.face plan (lost plan (events_in state.old)) state.new) }
     ensures extends { (plan : Planned) → IsStateOf D.face plan state.old → Extends plan state.old.history.items state.new.history.items }
@@ -59,16 +61,17 @@ fn lose_first<D: CrashDisk>(state: &mut State<D>) -> Result<(), OutOfMemory>
     }
 }
 
-fn was_sent<D: CrashDisk>(state: &State<D>, envelope: u32) -> bool
+fn was_sent<D: CrashDisk>(state: &State<'_, D>, envelope: u32) -> bool
     ensures { result ≡ nat_lt envelope (length state.now.bag.items) }
 {
     (envelope as usize) < state.bag.as_slice().len()
 }
 
 /// Delivers an envelope that was sent, whether it waits or not.
-fn deliver_again<D: CrashDisk>(
+fn deliver_again<R: Wait, D: CrashDisk>(
     alloc: Global,
-    state: &mut State<D>,
+    rt: &R,
+    state: &mut State<'_, D>,
     envelope: u32,
 ) -> Result<(), WorldFault>
     requires { (plan : Planned) × IsStateOf D.face plan state.old }
@@ -81,13 +84,13 @@ fn deliver_again<D: CrashDisk>(
         return Ok(());
     }
     let s = delivery(alloc, state, envelope)?;
-    add_step(alloc, state, s)
+    add_step(alloc, rt, state, s)
 }
 
 /// What a corrupt peer says is what it forges.
 fn speak<D: CrashDisk>(
     alloc: Global,
-    state: &mut State<D>,
+    state: &mut State<'_, D>,
     said: &Option<Saying>,
 ) -> Result<(), OutOfMemory>
     requires within { IfSome said.now (λ x. IsWithin x.message) }
@@ -108,7 +111,7 @@ fn speak<D: CrashDisk>(
 fn say<D: CrashDisk>(
     alloc: Global,
     plan: &Plan,
-    state: &mut State<D>,
+    state: &mut State<'_, D>,
     step: &Step,
 ) -> Result<(), OutOfMemory>
     requires good { plan_fault plan.now ≡ None }
@@ -124,10 +127,12 @@ fn say<D: CrashDisk>(
     speak(alloc, state, &said)
 }
 
-pub fn do_step<D: CrashDisk>(
+/// Does one step of a script whole.
+pub fn do_step<R: Wait, D: CrashDisk>(
     alloc: Global,
+    rt: &R,
     plan: &Plan,
-    state: &mut State<D>,
+    state: &mut State<'_, D>,
     step: &Step,
 ) -> Result<(), WorldFault>
     requires good { plan_fault plan.now ≡ None }
@@ -139,13 +144,13 @@ pub fn do_step<D: CrashDisk>(
     ensures counted { Counted D.face state.old.seats.items state.new.seats.items result }
 {
     match step {
-        Step::Peer(s) => add_step(alloc, state, *s),
+        Step::Peer(s) => add_step(alloc, rt, state, *s),
         Step::Tick { by } => Ok(add_ticks(state, *by)?),
-        Step::Next { times } => go_on(alloc, state, *times as usize, Course::Delivering),
+        Step::Next { times } => go_on(alloc, rt, state, *times as usize, Course::Delivering),
         Step::Lose => Ok(lose_first(state)?),
-        Step::Again { envelope } => deliver_again(alloc, state, *envelope),
-        Step::Settle => go_on(alloc, state, MOST_EVENTS as usize, Course::Settling),
-        Step::Finish => go_on(alloc, state, MOST_EVENTS as usize, Course::Finishing),
+        Step::Again { envelope } => deliver_again(alloc, rt, state, *envelope),
+        Step::Settle => go_on(alloc, rt, state, MOST_EVENTS as usize, Course::Settling),
+        Step::Finish => go_on(alloc, rt, state, MOST_EVENTS as usize, Course::Finishing),
         Step::Forge { from, to, bytes } => {
             let bytes = bytes.clone()?;
             Ok(add_forgery(state, *from, *to, bytes)?)

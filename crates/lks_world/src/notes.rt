@@ -2,7 +2,8 @@
 
 ghost use Rattle.std.specs.Prelude.{◌≡◌, IfOk};
 ghost use Rattle.std.specs.List.{filter_map};
-ghost use Rattle.lks_law.specs.Entries.{session_note_of, note_of};
+ghost use Rattle.lks_law.specs.Entries.{session_note_of, note_with};
+ghost use Rattle.lks_law.specs.Turning.{has_inner_in};
 
 use lks_base::{Note, OutOfMemory, Record, Seq};
 use lks_disk::Disk;
@@ -52,9 +53,9 @@ fn session_note(item: &Record) -> Option<Note>
     }
 }
 
-#[tactic(auto, unfolding(lks_law::specs::Entries::note_of))]
+#[tactic(auto, unfolding(lks_law::specs::Entries::note_with))]
 fn note<D: Disk>(host: &Host<D>, item: &Record) -> Option<Note>
-    ensures { result ≡ note_of host.now.peer.journal item.now }
+    ensures { result ≡ note_with (has_inner_in host.now.peer.state) item.now }
 {
     match item {
         Record::Deposit { .. } => None,
@@ -123,13 +124,13 @@ fn note<D: Disk>(host: &Host<D>, item: &Record) -> Option<Note>
     }
 }
 
-/// The notes of records that stand in the peer's journal.
+/// The notes of records that were noted by the peer.
 pub fn notes<D: Disk>(
     alloc: Global,
     host: &Host<D>,
     records: &[Record],
 ) -> Result<Seq<Note>, OutOfMemory>
-    ensures { IfOk result (λ notes. notes ≡ filter_map (note_of host.now.peer.journal) records.now) }
+    ensures { IfOk result (λ notes. notes ≡ filter_map (note_with (has_inner_in host.now.peer.state)) records.now) }
 {
     let mut notes = Vec::new(alloc);
     for item in records {

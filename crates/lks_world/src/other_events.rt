@@ -29,14 +29,15 @@ fn note_down(history: &mut Vec<Entry>, event: Event, sends: u32) -> Result<(), O
 /// A corrupt peer sends bytes.
 #[tactic(auto, unfolding(lks_law::specs::World::happens, lks_law::specs::Entries::entry_of))]
 pub fn forge<D: CrashDisk>(
-    state: &mut State<D>,
+    state: &mut State<'_, D>,
     from: PeerId,
     to: PeerId,
     bytes: Bytes,
 ) -> Result<(), OutOfMemory>
     ensures seats { state.new.seats.items ≡ state.old.seats.items }
-    ensures world { OnOk result (world_in state.new ≡ happens (world_in state.old) (events.Forge from to bytes)) }
-    ensures history { OnOk result (state.new.history.items ≡ state.old.history.items ++ entry_of (world_in state.old) (events.Forge from to bytes) ∷ []) }
+    ensures pool { state.new.pool.now ≡ state.old.pool.now }
+    ensures world { OnOk result (world_in D.face state.new ≡ happens (world_in D.face state.old) (events.Forge from to bytes)) }
+    ensures history { OnOk result (state.new.history.items ≡ state.old.history.items ++ entry_of (world_in D.face state.old) (events.Forge from to bytes) ∷ []) }
     ensures err { OnErr result (state.new.history.items ≡ state.old.history.items) }
     ensures pending { OnOk result (state.new.pending.items ≡ state.old.pending.items ++ length state.old.bag.items ∷ []) }
 {
@@ -52,11 +53,12 @@ pub fn forge<D: CrashDisk>(
 
 /// The clock moves on.
 #[tactic(auto, unfolding(lks_law::specs::World::happens, lks_law::specs::Entries::entry_of))]
-pub fn tick<D: CrashDisk>(state: &mut State<D>, by: u32) -> Result<(), OutOfMemory>
+pub fn tick<D: CrashDisk>(state: &mut State<'_, D>, by: u32) -> Result<(), OutOfMemory>
     requires fits { state.old.tick + by ≤ u32.MAX }
     ensures seats { state.new.seats.items ≡ state.old.seats.items }
-    ensures world { OnOk result (world_in state.new ≡ happens (world_in state.old) (events.Tick by)) }
-    ensures history { OnOk result (state.new.history.items ≡ state.old.history.items ++ entry_of (world_in state.old) (events.Tick by) ∷ []) }
+    ensures pool { state.new.pool.now ≡ state.old.pool.now }
+    ensures world { OnOk result (world_in D.face state.new ≡ happens (world_in D.face state.old) (events.Tick by)) }
+    ensures history { OnOk result (state.new.history.items ≡ state.old.history.items ++ entry_of (world_in D.face state.old) (events.Tick by) ∷ []) }
     ensures err { OnErr result (state.new.history.items ≡ state.old.history.items) }
     ensures pending { OnOk result (state.new.pending.items ≡ state.old.pending.items) }
 {
@@ -66,10 +68,11 @@ pub fn tick<D: CrashDisk>(state: &mut State<D>, by: u32) -> Result<(), OutOfMemo
 
 /// An envelope is lost, so it doesn't wait any more.
 #[tactic(auto, unfolding(lks_law::specs::World::happens, lks_law::specs::Entries::entry_of))]
-pub fn lose<D: CrashDisk>(state: &mut State<D>, envelope: u32) -> Result<(), OutOfMemory>
+pub fn lose<D: CrashDisk>(state: &mut State<'_, D>, envelope: u32) -> Result<(), OutOfMemory>
     ensures seats { state.new.seats.items ≡ state.old.seats.items }
-    ensures world { OnOk result (world_in state.new ≡ happens (world_in state.old) (events.Lose envelope)) }
-    ensures history { OnOk result (state.new.history.items ≡ state.old.history.items ++ entry_of (world_in state.old) (events.Lose envelope) ∷ []) }
+    ensures pool { state.new.pool.now ≡ state.old.pool.now }
+    ensures world { OnOk result (world_in D.face state.new ≡ happens (world_in D.face state.old) (events.Lose envelope)) }
+    ensures history { OnOk result (state.new.history.items ≡ state.old.history.items ++ entry_of (world_in D.face state.old) (events.Lose envelope) ∷ []) }
     ensures err { OnErr result (state.new.history.items ≡ state.old.history.items) }
     ensures pending { OnOk result (state.new.pending.items ≡ filter (λ i. not (i == envelope)) state.old.pending.items) }
 {

@@ -19,6 +19,7 @@ pub enum Seat<D: Disk> {
 }
 
 impl<D: Disk> Seat<D> {
+    /// The disk of the seat.
     pub fn into_disk(self) -> D
         ensures { result ≡ disk_at self }
     {
@@ -59,22 +60,9 @@ fn find<D: Disk>(seats: &[Seat<D>], id: PeerId) -> Option<usize>
 
 /// The place of the honest peer of this number.
 pub fn place_of<D: Disk>(seats: &[Seat<D>], id: PeerId) -> Option<usize>
-    ensures { MatchOption result (IsAbsent id (peers_of (hosts_of seats.now))) (StandsAt id seats.now) }
+    ensures { MatchOption result (IsAbsent id (peers_of D.face (hosts_of seats.now))) (StandsAt D.face id seats.now) }
 {
     find(seats, id)
-}
-
-/// Puts an item where there is room.
-pub fn put<T: Drop>(items: &mut Vec<T>, item: T)
-    requires { vec_len items.old < vec_capacity items.old }
-    ensures items { items.new.items ≡ items.old.items ++ item ∷ [] }
-    ensures len { vec_len items.new ≡ vec_len items.old + 1 }
-    ensures room { vec_capacity items.old ≤ vec_capacity items.new }
-{
-    match items.push(item) {
-        Ok(()) => {}
-        Err(_) => unreachable!(),
-    }
 }
 
 /// Turns the order of the disks round.
@@ -92,6 +80,6 @@ pub fn unseat<D: Disk + Drop>(mut seats: Vec<Seat<D>>, disks: &mut Vec<D>)
     ensures items { disks.new.items ≡ disks.old.items ++ reverse (disks_at seats.items) }
 {
     while let Some(seat) = seats.pop() {
-        put(disks, seat.into_disk());
+        disks.push_reserved(seat.into_disk());
     }
 }

@@ -12,7 +12,7 @@ ghost use Rattle.lks_law.specs.Questions.{question_by, question_in, question_to,
 ghost use Rattle.lks_law.specs.World.{message_in, peer_at};
 ghost use Rattle.lks_world.specs.Hosts.{peers_of};
 ghost use Rattle.lks_world.specs.Seats.{hosts_of};
-ghost use Rattle.lks_world.specs.States.{IsStateOf, events_in, next_of, own_steps, steps_of, world_in};
+ghost use Rattle.lks_world.specs.States.{IsStateOf, events_in, next_of, seat_steps, steps_there, world_in};
 
 use crate::deeds::read;
 use crate::seats::{Seat, place_of};
@@ -63,7 +63,7 @@ fn question_to<D: Disk>(
     seats: &[Seat<D>],
     envelope: &Envelope,
 ) -> Result<Option<Question>, OutOfMemory>
-    ensures { IfOk result (λ q. q ≡ question_to (peer_at envelope.now.to (peers_of (hosts_of seats.now))) envelope.now) }
+    ensures { IfOk result (λ q. q ≡ question_to (peer_at envelope.now.to (peers_of D.face (hosts_of seats.now))) envelope.now) }
 {
     match place_of(seats, envelope.to) {
         Some(_) => question_in(alloc, envelope),
@@ -75,10 +75,10 @@ fn question_to<D: Disk>(
 #[tactic(auto, unfolding(lks_law::specs::Questions::question_at))]
 fn question_at<D: CrashDisk>(
     alloc: Global,
-    state: &State<D>,
+    state: &State<'_, D>,
     envelope: u32,
 ) -> Result<Option<Question>, OutOfMemory>
-    ensures { IfOk result (λ q. q ≡ question_at (world_in state.now) envelope) }
+    ensures { IfOk result (λ q. q ≡ question_at (world_in D.face state.now) envelope) }
 {
     match state.bag.get(envelope as usize) {
         Some(e) => question_to(alloc, &state.seats, e),
@@ -105,7 +105,7 @@ fn judge(question: Option<Question>) -> Judged
 /// The delivery of an envelope, with what the judge says.
 pub fn delivery<D: CrashDisk>(
     alloc: Global,
-    state: &State<D>,
+    state: &State<'_, D>,
     envelope: u32,
 ) -> Result<PeerStep, OutOfMemory>
     ensures { (plan : Plan) → IsStateOf D.face plan state.now →
@@ -119,7 +119,7 @@ pub fn delivery<D: CrashDisk>(
 /// The step of what is due.
 pub fn step_of<D: CrashDisk>(
     alloc: Global,
-    state: &State<D>,
+    state: &State<'_, D>,
     due: Due,
 ) -> Result<PeerStep, OutOfMemory>
     ensures { (plan : Plan) → IsStateOf D.face plan state.now →
@@ -142,7 +142,7 @@ pub enum Part {
 
 /// The first of these steps of all peers.
 fn first_step<D: Disk>(seats: &[Seat<D>], part: Part) -> Option<Due>
-    ensures { result ≡ first_own (flat_map (steps_of part) (peers_of (hosts_of seats.now))) }
+    ensures { result ≡ first_own (flat_map (seat_steps part) seats.now) }
 {
     for seat in seats {
         match seat.first(part) {
@@ -154,7 +154,7 @@ fn first_step<D: Disk>(seats: &[Seat<D>], part: Part) -> Option<Due>
 }
 
 /// The first envelope that waits.
-pub fn first_waiting<D: CrashDisk>(state: &State<D>) -> Option<u32>
+pub fn first_waiting<D: CrashDisk>(state: &State<'_, D>) -> Option<u32>
     ensures { result ≡ slice_get state.now.pending.items 0 }
 {
     state.pending.as_slice().first().copied()
@@ -173,7 +173,7 @@ pub enum Course {
 
 /// The first ready work, else the first turn of a peer.
 fn first_until_finished<D: Disk>(seats: &[Seat<D>]) -> Option<Due>
-    ensures { result ≡ first_own (own_steps Course.Finishing (peers_of (hosts_of seats.now))) }
+    ensures { result ≡ first_own (steps_there Course.Finishing seats.now) }
 {
     match first_step(seats, Part::Ready) {
         Some(due) => Some(due),
@@ -183,7 +183,7 @@ fn first_until_finished<D: Disk>(seats: &[Seat<D>]) -> Option<Due>
 
 /// What is due next on this course where no envelope waits.
 fn first_own<D: Disk>(seats: &[Seat<D>], course: Course) -> Option<Due>
-    ensures { result ≡ first_own (own_steps course (peers_of (hosts_of seats.now))) }
+    ensures { result ≡ first_own (steps_there course seats.now) }
 {
     match course {
         Course::Settling => first_step(seats, Part::Ready),
@@ -193,7 +193,7 @@ fn first_own<D: Disk>(seats: &[Seat<D>], course: Course) -> Option<Due>
 }
 
 /// What is due next on this course, if anything.
-pub fn next<D: CrashDisk>(state: &State<D>, course: Course) -> Option<Due>
+pub fn next<D: CrashDisk>(state: &State<'_, D>, course: Course) -> Option<Due>
     ensures { (plan : Plan) → IsStateOf D.face plan state.now → result ≡ next_of course plan (events_in state.now) }
 {
     match first_waiting(state) {

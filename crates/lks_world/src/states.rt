@@ -1,14 +1,12 @@
 //! The state of a world, and what an event does to it.
 
-ghost use Rattle.std.specs.Prelude.{◌≡◌, ◌≤◌, ◌++◌, ◌∷◌, [], ℕ, Some, IfOk, IfSome, OnOk, OnErr, IsErrOf, ◌==◌, length, filter, map, not};
+ghost use Rattle.std.specs.Prelude.{◌≡◌, ◌++◌, ◌∷◌, [], Some, IfOk, IfSome, OnOk, OnErr, ◌==◌, length, filter, map, not};
 ghost use Rattle.std.specs.List.{range_with_len};
 ghost use Rattle.lks_base.specs.declared.events.Event.TheVariants as events;
 ghost use Rattle.lks_law.specs.Entries.{notes_at, notes_of, entry_of};
-ghost use Rattle.lks_law.specs.Reaction.{reaction};
 ghost use Rattle.lks_law.specs.World.{Standing, reaction_at, with_records, peer_at, sent_by, actor_of, effect_of, peers_after, happens};
-ghost use Rattle.lks_disk.specs.Counts.{Rose};
 ghost use Rattle.lks_law.specs.Facts.{IsHeard};
-ghost use Rattle.lks_world.specs.Hosts.{peers_of, IsReady, AreReady, GoesOn, HaveGoneOn, with_added};
+ghost use Rattle.lks_world.specs.Hosts.{peer_in, peers_of, IsReady, AreReady, GoesOn, HaveGoneOn, HasActed, with_added};
 ghost use Rattle.lks_world.specs.Seats.{hosts_of, Counted};
 ghost use Rattle.lks_world.specs.States.{left_after, world_in, sends_in};
 
@@ -19,14 +17,17 @@ use crate::seats::{Seat, place_of};
 use lks_base::{
     Entry, Envelope, Event, Input, Note, OutOfMemory, Outgoing, PeerId, PeerStep, Reaction, Seq,
 };
+use lks_blocks::BlockPool;
 use lks_disk::CrashDisk;
 use lks_host::Host;
 use std::alloc::Global;
+use std::sync::Wait;
 
-/// The seats of the peers in the plan's order, the bag with the numbers of the envelopes that wait, the
-/// clock, and what happened.
+/// The pool of all blocks, the seats of the peers in the plan's order, the bag with the numbers of the envelopes that wait,
+/// the clock, and what happened.
 #[derive(Drop)]
-pub struct State<D: CrashDisk> {
+pub struct State<'a, D: CrashDisk> {
+    pub pool: &'a BlockPool,
     pub seats: Vec<Seat<D>>,
     pub bag: Vec<Envelope>,
     pub pending: Vec<u32>,
@@ -51,24 +52,23 @@ fn nothing_done(alloc: Global) -> Done
     }
 }
 
-fn act_as<D: CrashDisk>(
+fn act_as<R: Wait, D: CrashDisk>(
     alloc: Global,
+    rt: &R,
+    pool: &BlockPool,
     host: &mut Host<D>,
     tick: u32,
     input: &Input,
 ) -> Result<Done, WorldFault>
-    requires ready { IsReady D.face host.old }
+    requires ready { IsReady D.face pool.now host.old }
     requires heard { IsHeard input.now }
-    ensures sends { IfOk result (λ d. d.sends ≡ (reaction host.old.peer.own host.old.peer.journal tick input.now).sends) }
-    ensures notes { IfOk result (λ d. d.notes ≡ notes_at (Some host.old.peer) (reaction host.old.peer.own host.old.peer.journal tick input.now).records) }
-    ensures peer { OnOk result (host.new.peer ≡ with_added host.old.peer (reaction host.old.peer.own host.old.peer.journal tick input.now).records) }
+    ensures sends { IfOk result (λ d. d.sends ≡ (reaction_at tick (Some (peer_in D.face host.old)) input.now).sends) }
+    ensures notes { IfOk result (λ d. d.notes ≡ notes_at (Some (peer_in D.face host.old)) (reaction_at tick (Some (peer_in D.face host.old)) input.now).records) }
+    ensures peer { OnOk result (peer_in D.face host.new ≡ with_added (peer_in D.face host.old) (reaction_at tick (Some (peer_in D.face host.old)) input.now).records) }
     ensures on { OnOk result (GoesOn D.face host.old host.new) }
-    ensures own { host.new.peer.own ≡ host.old.peer.own }
-    ensures fuse { D.face.fused host.new.journal.disk ≡ D.face.fused host.old.journal.disk }
-    ensures later { D.face.faults host.old.journal.disk ≤ D.face.faults host.new.journal.disk }
-    ensures cause { (id : ℕ) → IsErrOf result (WorldFault.Disk id) → (host.old.peer.own.id ≡ id) × Rose (D.face.faults host.old.journal.disk) (D.face.faults host.new.journal.disk) }
+    ensures acted { HasActed D.face host.old host.new result }
 {
-    let Reaction { records, sends } = match host.step(tick, input) {
+    let Reaction { records, sends } = match host.step(rt, pool, tick, input) {
         Ok(reaction) => reaction,
         Err(fault) => return Err(blame(host.id(), fault)),
     };
@@ -76,17 +76,19 @@ fn act_as<D: CrashDisk>(
     Ok(Done { notes, sends })
 }
 
-fn act<D: CrashDisk>(
+fn act<R: Wait, D: CrashDisk>(
     alloc: Global,
+    rt: &R,
+    pool: &BlockPool,
     seats: &mut Vec<Seat<D>>,
     tick: u32,
     deed: &Deed,
 ) -> Result<Done, WorldFault>
-    requires ready { AreReady D.face (hosts_of seats.old.items) }
+    requires ready { AreReady D.face pool.now (hosts_of seats.old.items) }
     requires heard { IsHeard deed.now.input }
-    ensures sends { IfOk result (λ d. d.sends ≡ (reaction_at tick (peer_at deed.now.peer (peers_of (hosts_of seats.old.items))) deed.now.input).sends) }
-    ensures notes { IfOk result (λ d. d.notes ≡ notes_at (peer_at deed.now.peer (peers_of (hosts_of seats.old.items))) (reaction_at tick (peer_at deed.now.peer (peers_of (hosts_of seats.old.items))) deed.now.input).records) }
-    ensures peers { OnOk result (peers_of (hosts_of seats.new.items) ≡ with_records deed.now.peer (reaction_at tick (peer_at deed.now.peer (peers_of (hosts_of seats.old.items))) deed.now.input).records (peers_of (hosts_of seats.old.items))) }
+    ensures sends { IfOk result (λ d. d.sends ≡ (reaction_at tick (peer_at deed.now.peer (peers_of D.face (hosts_of seats.old.items))) deed.now.input).sends) }
+    ensures notes { IfOk result (λ d. d.notes ≡ notes_at (peer_at deed.now.peer (peers_of D.face (hosts_of seats.old.items))) (reaction_at tick (peer_at deed.now.peer (peers_of D.face (hosts_of seats.old.items))) deed.now.input).records) }
+    ensures peers { OnOk result (peers_of D.face (hosts_of seats.new.items) ≡ with_records deed.now.peer (reaction_at tick (peer_at deed.now.peer (peers_of D.face (hosts_of seats.old.items))) deed.now.input).records (peers_of D.face (hosts_of seats.old.items))) }
     ensures on { OnOk result (HaveGoneOn D.face (hosts_of seats.old.items) (hosts_of seats.new.items)) }
     ensures counted { Counted D.face seats.old.items seats.new.items result }
 {
@@ -94,7 +96,7 @@ fn act<D: CrashDisk>(
         return Ok(nothing_done(alloc));
     };
     match &mut seats[place] {
-        Seat::Host(host) => act_as(alloc, host, tick, &deed.input),
+        Seat::Host(host) => act_as(alloc, rt, pool, host, tick, &deed.input),
         Seat::Idle(_) => unreachable!(),
     }
 }
@@ -163,22 +165,24 @@ fn send(
     Ok(())
 }
 
-fn do_deed<D: CrashDisk>(
+fn do_deed<R: Wait, D: CrashDisk>(
     alloc: Global,
+    rt: &R,
+    pool: &BlockPool,
     seats: &mut Vec<Seat<D>>,
     tick: u32,
     deed: &Option<Deed>,
 ) -> Result<Done, WorldFault>
-    requires ready { AreReady D.face (hosts_of seats.old.items) }
+    requires ready { AreReady D.face pool.now (hosts_of seats.old.items) }
     requires heard { IfSome deed.now (λ d. IsHeard d.input) }
-    ensures sends { IfOk result (λ d. d.sends ≡ (effect_of tick (peers_of (hosts_of seats.old.items)) deed.now).sends) }
-    ensures notes { IfOk result (λ d. d.notes ≡ notes_of tick (peers_of (hosts_of seats.old.items)) deed.now) }
-    ensures peers { OnOk result (peers_of (hosts_of seats.new.items) ≡ peers_after tick (peers_of (hosts_of seats.old.items)) deed.now) }
+    ensures sends { IfOk result (λ d. d.sends ≡ (effect_of tick (peers_of D.face (hosts_of seats.old.items)) deed.now).sends) }
+    ensures notes { IfOk result (λ d. d.notes ≡ notes_of tick (peers_of D.face (hosts_of seats.old.items)) deed.now) }
+    ensures peers { OnOk result (peers_of D.face (hosts_of seats.new.items) ≡ peers_after tick (peers_of D.face (hosts_of seats.old.items)) deed.now) }
     ensures on { OnOk result (HaveGoneOn D.face (hosts_of seats.old.items) (hosts_of seats.new.items)) }
     ensures counted { Counted D.face seats.old.items seats.new.items result }
 {
     match deed {
-        Some(deed) => act(alloc, seats, tick, deed),
+        Some(deed) => act(alloc, rt, pool, seats, tick, deed),
         None => Ok(nothing_done(alloc)),
     }
 }
@@ -195,22 +199,31 @@ fn actor(deed: &Option<Deed>) -> PeerId
 /// One step of a peer: its records are in its journal before its messages go into the bag. After want of
 /// memory the state is that of no history.
 #[tactic(auto, unfolding(lks_law::specs::World::happens, lks_law::specs::World::after_step, lks_law::specs::Entries::entry_of, crate::specs::States::sends_in))]
-pub fn step<D: CrashDisk>(
+pub fn step<R: Wait, D: CrashDisk>(
     alloc: Global,
-    state: &mut State<D>,
+    rt: &R,
+    state: &mut State<'_, D>,
     s: PeerStep,
 ) -> Result<(), WorldFault>
-    requires ready { AreReady D.face (hosts_of state.old.seats.items) }
-    ensures world { OnOk result (world_in state.new ≡ happens (world_in state.old) (events.Step s)) }
-    ensures history { OnOk result (state.new.history.items ≡ state.old.history.items ++ entry_of (world_in state.old) (events.Step s) ∷ []) }
+    requires ready { AreReady D.face state.old.pool.now (hosts_of state.old.seats.items) }
+    ensures world { OnOk result (world_in D.face state.new ≡ happens (world_in D.face state.old) (events.Step s)) }
+    ensures history { OnOk result (state.new.history.items ≡ state.old.history.items ++ entry_of (world_in D.face state.old) (events.Step s) ∷ []) }
     ensures err { OnErr result (state.new.history.items ≡ state.old.history.items) }
-    ensures pending { OnOk result (state.new.pending.items ≡ left_after s state.old.pending.items ++ range_with_len (length state.old.bag.items) (sends_in (world_in state.old) s)) }
+    ensures pending { OnOk result (state.new.pending.items ≡ left_after s state.old.pending.items ++ range_with_len (length state.old.bag.items) (sends_in (world_in D.face state.old) s)) }
     ensures on { OnOk result (HaveGoneOn D.face (hosts_of state.old.seats.items) (hosts_of state.new.seats.items)) }
     ensures counted { Counted D.face state.old.seats.items state.new.seats.items result }
+    ensures pool { state.new.pool.now ≡ state.old.pool.now }
 {
     let (from, to) = ends_of(&state.bag, s);
     let deed = make_deed(alloc, &state.bag, s)?;
-    let Done { notes, sends } = do_deed(alloc, &mut state.seats, state.tick, &deed)?;
+    let Done { notes, sends } = do_deed(
+        alloc,
+        rt,
+        state.pool,
+        &mut state.seats,
+        state.tick,
+        &deed,
+    )?;
     let count = sends.as_slice().len();
     if count > u32::MAX as usize {
         return Err(WorldFault::Memory);

@@ -17,10 +17,12 @@ use crate::faults::WorldFault;
 use crate::seats::{turn_round, unseat};
 use crate::states::State;
 use lks_base::{Entry, Plan};
+use lks_blocks::BlockPool;
 use lks_disk::CrashDisk;
 use lks_script::Step;
 use std::alloc::Global;
 use std::marker::Model;
+use std::sync::Wait;
 
 /// What a world gives back at its end: the history, and all disks in the order in which they were handed in.
 #[derive(Drop)]
@@ -33,16 +35,16 @@ pub struct Parts<D> {
 /// fault that stopped it, and the disks. The i-th disk is that of the i-th peer of the plan, and those of honest
 /// peers hold their journals.
 #[derive(Drop)]
-pub struct World<D: CrashDisk> {
+pub struct World<'a, D: CrashDisk> {
     alloc: Global,
     plan: Plan,
-    state: State<D>,
+    state: State<'a, D>,
     /// The list of disks that was handed in, with room for all: those that no peer has, the last one first.
     rest: Vec<D>,
     stopped: Option<WorldFault>,
 }
 
-impl<D: CrashDisk> Model for World<D> {
+impl<'a, D: CrashDisk> Model for World<'a, D> {
     ghost use Rattle.lks_world.specs.Worlds.{Seen, seen_in, IsKept};
 
     ghost Value = { Seen D };
@@ -52,15 +54,18 @@ impl<D: CrashDisk> Model for World<D> {
     ghost invariant = { IsKept D.face };
 }
 
-impl<D: CrashDisk + Drop> World<D> {
+impl<'a, D: CrashDisk + Drop> World<'a, D> {
     ghost use Rattle.lks_world.specs.Begun.{disks_made, fault_made};
 
-    /// A world in which nothing happened yet. The plan is good, and there is a fresh disk for each of its peers.
-    pub fn new(
+    /// A world in which nothing happened yet. The plan is good, and there is a fresh disk for each of its peers; the pool takes
+    /// the blocks of all.
+    pub fn new<R: Wait>(
         alloc: Global,
+        rt: &R,
+        pool: &'a BlockPool,
         plan: Plan,
         mut disks: Vec<D>,
-    ) -> Result<World<D>, (Parts<D>, WorldFault)>
+    ) -> Result<World<'a, D>, (Parts<D>, WorldFault)>
         requires good { plan_fault plan ≡ None }
         requires enough { length plan.peers ≤ length disks.items }
         requires fresh { AreFresh D.face disks.items }
@@ -71,7 +76,7 @@ impl<D: CrashDisk + Drop> World<D> {
         ensures disks { ServesHonest D.face plan.peers disks.items (disks_made result) (fault_made result) }
     {
         turn_round(&mut disks);
-        match begin(alloc, &plan, &mut disks) {
+        match begin(alloc, rt, pool, &plan, &mut disks) {
             Ok(state) => Ok(World {
                 alloc,
                 plan,
@@ -87,7 +92,7 @@ impl<D: CrashDisk + Drop> World<D> {
     }
 
     /// Does one step of a script whole. After a fault the world takes no further step.
-    pub fn perform(&mut self, step: &Step) -> Result<(), WorldFault>
+    pub fn perform<R: Wait>(&mut self, rt: &R, step: &Step) -> Result<(), WorldFault>
         requires running { self.old.stopped ≡ None }
         requires legal { is_step_of self.old.plan step.now ≡ true }
         ensures plan { self.new.plan ≡ self.old.plan }
@@ -96,7 +101,7 @@ impl<D: CrashDisk + Drop> World<D> {
         ensures stopped { self.new.stopped ≡ fault_in result }
         ensures disks { ServesHonest D.face self.old.plan.peers self.old.disks self.new.disks (fault_in result) }
     {
-        match do_step(self.alloc, &self.plan, &mut self.state, step) {
+        match do_step(self.alloc, rt, &self.plan, &mut self.state, step) {
             Ok(()) => Ok(()),
             Err(fault) => {
                 self.stopped = Some(fault);
@@ -130,11 +135,11 @@ impl<D: CrashDisk + Drop> World<D> {
     /// Gives the history and the disks back, no disk with a fuse. Unless a fault stopped the world, the honest peers'
     /// disks hold their journals.
     pub fn into_parts(self) -> Parts<D>
-        ensures history { result.history.items ≡ entries self.plan self.history }
-        ensures happened { IsHistory self.plan self.history }
+        ensures history { result.history.items ≡ entries self.entry.plan self.entry.history }
+        ensures happened { IsHistory self.entry.plan self.entry.history }
         ensures unfused { AreUnfused D.face result.disks.items }
-        ensures disks { result.disks.items ≡ self.disks }
-        ensures holds { self.stopped ≡ None → HaveBatches D.face self.plan self.history self.disks }
+        ensures disks { result.disks.items ≡ self.entry.disks }
+        ensures holds { self.entry.stopped ≡ None → HaveBatches D.face self.entry.plan self.entry.history self.entry.disks }
     {
         let World {
             state,

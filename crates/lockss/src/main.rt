@@ -50,7 +50,7 @@ fn main(rt: HostRuntime) -> ExitCode {
     let mut sink = StdSink::new(rt.stdout());
     let status = match (words_of(&rt), fresh_disks(rt.alloc())) {
         (Ok(words), Ok(mut disks)) => {
-            run(rt.alloc(), &words, &mut source, &mut sink, &mut disks)
+            run(rt.alloc(), &rt, &words, &mut source, &mut sink, &mut disks)
         }
         (Err(status), _) => status,
         (_, Err(_)) => Status::NoMemory,

@@ -13,6 +13,7 @@ ghost use Rattle.lks_world.specs.Held.{AreFresh};
 ghost use Rattle.lockss.specs.Playing.{stopped_as, fault_told, TellsReport, PlaysIn, Plays, IsServed};
 
 use crate::statuses::Status;
+use lks_blocks::BlockPool;
 use lks_disk::CrashDisk;
 use lks_outside::{Sink, WriteStop};
 use lks_report::{has_alarm, report};
@@ -20,8 +21,13 @@ use lks_script::{Script, Step};
 use lks_world::{Parts, World, WorldFault};
 use std::alloc::Global;
 use std::mem;
+use std::sync::Wait;
 
-fn perform_all<D: CrashDisk + Drop>(world: &mut World<D>, steps: &[Step]) -> Result<(), WorldFault>
+fn perform_all<R: Wait, D: CrashDisk + Drop>(
+    rt: &R,
+    world: &mut World<'_, D>,
+    steps: &[Step],
+) -> Result<(), WorldFault>
     requires running { world.old.stopped ≡ None }
     requires legal { are_steps_of world.old.plan steps.now ≡ true }
     ensures plan { world.new.plan ≡ world.old.plan }
@@ -30,13 +36,13 @@ fn perform_all<D: CrashDisk + Drop>(world: &mut World<D>, steps: &[Step]) -> Res
     ensures serves { ServesHonest D.face world.old.plan.peers world.old.disks world.new.disks (fault_in result) }
 {
     for step in steps {
-        world.perform(step)?;
+        world.perform(rt, step)?;
     }
     Ok(())
 }
 
 /// Writes the report of what happened in the world.
-fn tell<K: Sink, D: CrashDisk + Drop>(alloc: Global, world: &World<D>, sink: &mut K) -> Status
+fn tell<K: Sink, D: CrashDisk + Drop>(alloc: Global, world: &World<'_, D>, sink: &mut K) -> Status
     ensures happened { IsHistory world.now.plan world.now.history }
     ensures tells { TellsReport world.now.plan world.now.history (K.taken sink.old) (K.taken sink.new) result }
     ensures failed { result ≡ Status.WriteFault → Rose (K.faults sink.old) (K.faults sink.new) }
@@ -67,9 +73,10 @@ fn stopped_by(fault: WorldFault) -> Status
 }
 
 /// Does the steps in a world, and writes the report.
-fn play_in<K: Sink, D: CrashDisk + Drop>(
+fn play_in<R: Wait, K: Sink, D: CrashDisk + Drop>(
     alloc: Global,
-    world: &mut World<D>,
+    rt: &R,
+    world: &mut World<'_, D>,
     steps: &[Step],
     sink: &mut K,
 ) -> Status
@@ -81,15 +88,16 @@ fn play_in<K: Sink, D: CrashDisk + Drop>(
     ensures failed { result ≡ Status.WriteFault → Rose (K.faults sink.old) (K.faults sink.new) }
     ensures count { K.faults sink.old ≤ K.faults sink.new }
 {
-    match perform_all(world, steps) {
+    match perform_all(rt, world, steps) {
         Ok(()) => tell(alloc, world, sink),
         Err(fault) => stopped_by(fault),
     }
 }
 
 /// Plays a script on disks, which are back in their places afterwards, and writes the report of its history.
-pub fn play<K: Sink, D: CrashDisk + Drop>(
+pub fn play<R: Wait, K: Sink, D: CrashDisk + Drop>(
     alloc: Global,
+    rt: &R,
     script: Script,
     disks: &mut Vec<D>,
     sink: &mut K,
@@ -105,16 +113,19 @@ pub fn play<K: Sink, D: CrashDisk + Drop>(
     ensures not_usage { result ≢ Status.Usage }
     ensures not_read { result ≢ Status.ReadFault }
 {
+    let Ok(pool) = BlockPool::new(alloc) else {
+        return Status::NoMemory;
+    };
     let Script { plan, steps } = script;
     let handed = mem::replace(disks, Vec::new(alloc));
-    let mut world = match World::new(alloc, plan, handed) {
+    let mut world = match World::new(alloc, rt, &pool, plan, handed) {
         Ok(world) => world,
         Err((parts, fault)) => {
             *disks = parts.disks;
             return stopped_by(fault);
         }
     };
-    let status = play_in(alloc, &mut world, steps.as_slice(), sink);
+    let status = play_in(alloc, rt, &mut world, steps.as_slice(), sink);
     *disks = world.into_parts().disks;
     status
 }

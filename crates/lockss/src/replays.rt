@@ -17,6 +17,7 @@ use lks_disk::CrashDisk;
 use lks_outside::{ReadStop, Sink, Source, read_all};
 use lks_script::{Script, ScriptFault, read_script};
 use std::alloc::Global;
+use std::sync::Wait;
 
 /// The most bytes of a script.
 const MOST_BYTES: usize = 16_777_216;
@@ -30,8 +31,9 @@ fn names_replay(words: &[String]) -> bool
     }
 }
 
-fn play_bytes<K: Sink, D: CrashDisk + Drop>(
+fn play_bytes<R: Wait, K: Sink, D: CrashDisk + Drop>(
     alloc: Global,
+    rt: &R,
     bytes: &[u8],
     disks: &mut Vec<D>,
     sink: &mut K,
@@ -45,14 +47,15 @@ fn play_bytes<K: Sink, D: CrashDisk + Drop>(
     ensures not_read { result ≢ Status.ReadFault }
 {
     match read_script(alloc, bytes) {
-        Ok(script) => play(alloc, script, disks, sink),
+        Ok(script) => play(alloc, rt, script, disks, sink),
         Err(ScriptFault::BadLine { line }) => Status::BadScript { line },
         Err(ScriptFault::Memory) => Status::NoMemory,
     }
 }
 
-fn replay<S: Source, K: Sink, D: CrashDisk + Drop>(
+fn replay<R: Wait, S: Source, K: Sink, D: CrashDisk + Drop>(
     alloc: Global,
+    rt: &R,
     source: &mut S,
     sink: &mut K,
     disks: &mut Vec<D>,
@@ -67,7 +70,7 @@ fn replay<S: Source, K: Sink, D: CrashDisk + Drop>(
     ensures not_usage { result ≢ Status.Usage }
 {
     match read_all(alloc, source, MOST_BYTES) {
-        Ok(bytes) => play_bytes(alloc, &bytes, disks, sink),
+        Ok(bytes) => play_bytes(alloc, rt, &bytes, disks, sink),
         Err(ReadStop::Failed) => Status::ReadFault,
         Err(ReadStop::TooLong) => Status::TooLong,
         Err(ReadStop::Memory) => Status::NoMemory,
@@ -77,8 +80,9 @@ fn replay<S: Source, K: Sink, D: CrashDisk + Drop>(
 /// Does the command that the words name: `replay` reads a script from the source, plays it, and writes the
 /// report of its history to the sink. The i-th disk is that of the script's i-th peer; those of honest peers
 /// hold their journals. All disks are fresh, and there are as many as a script may have peers.
-pub fn run<S: Source, K: Sink, D: CrashDisk + Drop>(
+pub fn run<R: Wait, S: Source, K: Sink, D: CrashDisk + Drop>(
     alloc: Global,
+    rt: &R,
     words: &[String],
     source: &mut S,
     sink: &mut K,
@@ -100,7 +104,7 @@ pub fn run<S: Source, K: Sink, D: CrashDisk + Drop>(
     ensures sink_count { K.faults sink.old ≤ K.faults sink.new }
 {
     if names_replay(words) {
-        replay(alloc, source, sink, disks)
+        replay(alloc, rt, source, sink, disks)
     } else {
         Status::Usage
     }

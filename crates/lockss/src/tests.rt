@@ -5,19 +5,13 @@ mod lists;
 mod turns;
 
 use super::*;
-use lks_base::{Input, Judged, Message, Plan, Record, Seq};
 use lks_outside::{MemSink, MemSource};
-use lks_peer::Peer;
-use lks_script::read_script;
 use std::alloc::Global;
 use std::process::Abort;
+use std::sync::Wait;
 use std::test::Fail;
 
 const REPLAY: &[&str] = &["replay"];
-
-// The nonce of poll 1 of a peer whose seed is the byte 01 and 31 zero bytes, by another implementation of SHA-256.
-const NONCE: [u8; 32] =
-    *b"\x0d\x00\xe5\xe6\xa8\xa8\x16\xce\x10\x26\x5b\xd3\x71\xe0\x54\x0c\xe6\x12\x67\xae\xae\x9a\x83\x5e\x35\xde\x02\x48\x49\x3c\x5d\x44";
 
 // Peer 1 is honest and audits two blocks; peers 2, 3 and 4 are corrupt, and their accepted votes count like any others.
 const HEAD: &str = "\
@@ -544,13 +538,13 @@ fn alarmed<'a>(script: &'a [&'a str], report: &'a [&'a str]) -> Row<'a> {
 }
 
 /// Runs each script, and compares what it answers and writes.
-fn check_rows<R: Abort>(rt: &R, alloc: Global, rows: &[Row<'_>]) -> Result<(), Fail> {
+fn check_rows<R: Abort + Wait>(rt: &R, alloc: Global, rows: &[Row<'_>]) -> Result<(), Fail> {
     let words = words_of(alloc, REPLAY)?;
     for (at, row) in rows.iter().enumerate() {
         let mut source = MemSource::new(alloc, joined(alloc, row.script)?, [].to_vec(alloc)?);
         let mut sink = MemSink::new(alloc, [].to_vec(alloc)?);
         let mut disks = fresh_disks(alloc)?;
-        let status = run(alloc, &words, &mut source, &mut sink, &mut disks);
+        let status = run(alloc, rt, &words, &mut source, &mut sink, &mut disks);
         assert_eq!(rt; status, row.status, "row {at}");
         assert_eq!(rt;
             sink.bytes(),
@@ -642,7 +636,7 @@ fn refusals(rt: HostRuntime) -> Result<(), Fail> {
         let mut source = MemSource::new(alloc, script, row.failing_reads.to_vec(alloc)?);
         let mut sink = MemSink::new(alloc, row.failing_writes.to_vec(alloc)?);
         let mut disks = fresh_disks(alloc)?;
-        let status = run(alloc, &words, &mut source, &mut sink, &mut disks);
+        let status = run(alloc, &rt, &words, &mut source, &mut sink, &mut disks);
         assert_eq!(rt; status, row.status, "row {at}");
         assert!(rt; sink.bytes().is_empty(), "row {at}");
     }
@@ -657,63 +651,8 @@ fn too_long(rt: HostRuntime) -> Result<(), Fail> {
     let mut source = MemSource::new(alloc, bytes, [].to_vec(alloc)?);
     let mut sink = MemSink::new(alloc, [].to_vec(alloc)?);
     let mut disks = fresh_disks(alloc)?;
-    let status = run(alloc, &words, &mut source, &mut sink, &mut disks);
+    let status = run(alloc, &rt, &words, &mut source, &mut sink, &mut disks);
     assert_eq!(rt; status, Status::TooLong);
     assert!(rt; sink.bytes().is_empty());
-    Ok(())
-}
-
-// Poll 1, its nonce, and the poller's proof of effort, of one byte.
-fn proof(alloc: Global) -> Result<Vec<u8>, Fail> {
-    let mut bytes = Vec::from_slice(alloc, &[1, 3, 0, 0, 0, 1])?;
-    bytes.extend_from_slice(&NONCE)?;
-    bytes.extend_from_slice(&[1, 1])?;
-    Ok(bytes)
-}
-
-/// The first peer of a plan with AU 1 of no blocks, once it opened a poll.
-fn polling(alloc: Global, plan: &Plan) -> Result<Peer, Fail> {
-    let [planned, ..] = plan.peers.as_slice() else {
-        return Err("a peer".into());
-    };
-    if planned.proof.as_slice().len() > 64 {
-        return Err("a proof of one byte".into());
-    }
-    let mut list = Vec::new(alloc);
-    list.push(Record::Deposit {
-        au: 1,
-        blocks: Seq::from_vec(Vec::new(alloc)),
-    })?;
-    let mut peer = Peer::begin(alloc, plan, planned, list)
-        .ok()
-        .ok_or("memory")?;
-    peer.step(0, &Input::OpenPoll { au: 1 })
-        .ok()
-        .ok_or("memory")?;
-    Ok(peer)
-}
-
-#[test]
-fn proof_after_challenge(rt: HostRuntime) -> Result<(), Fail> {
-    let alloc = rt.alloc();
-    let script = read_script(alloc, HEAD.as_bytes())
-        .ok()
-        .ok_or("the head is a script")?;
-    let mut peer = polling(alloc, &script.plan)?;
-    let agreed = Input::Got {
-        from: 2,
-        message: Message::PollChallenge {
-            number: 1,
-            yes: true,
-        },
-        judged: Judged::NotAsked,
-    };
-    let answer = peer.step(0, &agreed).ok().ok_or("memory")?;
-    assert!(rt; answer.records.as_slice().is_empty());
-    let [outgoing] = answer.sends.as_slice() else {
-        return Err("one message".into());
-    };
-    assert_eq!(rt; outgoing.to, 2);
-    assert_eq!(rt; outgoing.bytes.as_slice(), proof(alloc)?.as_slice());
     Ok(())
 }

@@ -26,8 +26,9 @@ fn failing_disks(alloc: Global, fail: &[u32]) -> Result<Vec<MemDisk>, Fail>
 }
 
 /// The answer to a script whose first peer's disk fails at these calls, and that disk.
-fn replay_on(
+fn replay_on<R: Wait>(
     alloc: Global,
+    rt: &R,
     script: &[&str],
     fail: &[u32],
 ) -> Result<(Status, Option<MemDisk>), Fail> {
@@ -35,7 +36,7 @@ fn replay_on(
     let mut source = MemSource::new(alloc, joined(alloc, script)?, [].to_vec(alloc)?);
     let mut sink = MemSink::new(alloc, [].to_vec(alloc)?);
     let mut disks = failing_disks(alloc, fail)?;
-    let status = run(alloc, &words, &mut source, &mut sink, &mut disks);
+    let status = run(alloc, rt, &words, &mut source, &mut sink, &mut disks);
     disks.truncate(1);
     Ok((status, disks.pop()))
 }
@@ -54,7 +55,7 @@ fn batches_on(alloc: Global, disk: Option<MemDisk>) -> Result<Vec<Bytes>, Fail> 
 #[test]
 fn deposits_first(rt: HostRuntime) -> Result<(), Fail> {
     let alloc = rt.alloc();
-    let (status, disk) = replay_on(alloc, &[HEAD], &[])?;
+    let (status, disk) = replay_on(alloc, &rt, &[HEAD], &[])?;
     assert_eq!(rt; status, Status::Done);
     let Some(disk) = disk else {
         return Err("a disk".into());
@@ -68,13 +69,13 @@ fn deposits_first(rt: HostRuntime) -> Result<(), Fail> {
 #[test]
 fn each_call_fails(rt: HostRuntime) -> Result<(), Fail> {
     let alloc = rt.alloc();
-    let (status, _disk) = replay_on(alloc, &[HEAD, AGREED], &[31])?;
+    let (status, _disk) = replay_on(alloc, &rt, &[HEAD, AGREED], &[31])?;
     assert_eq!(rt; status, Status::Done);
-    let (_status, disk) = replay_on(alloc, &[HEAD, AGREED], &[])?;
+    let (_status, disk) = replay_on(alloc, &rt, &[HEAD, AGREED], &[])?;
     let whole = batches_on(alloc, disk)?;
     assert_eq!(rt; whole.len(), 7);
     for call in 1..31u32 {
-        let (status, disk) = replay_on(alloc, &[HEAD, AGREED], &[call])?;
+        let (status, disk) = replay_on(alloc, &rt, &[HEAD, AGREED], &[call])?;
         assert_eq!(rt; status, Status::DiskFault { peer: 1 }, "call {call}");
         if call < 3 {
             continue;

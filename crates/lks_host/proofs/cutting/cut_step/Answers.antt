@@ -2,7 +2,6 @@ use Rattle.std.proofs.Common.{◌≡◌, ◌∙◌, ◌+◌, ◌≤◌, ◌<◌,
 use Rattle.std.specs.Prelude.{IsErrOf}
 use Rattle.lks_base.specs.declared.reactions.Reaction.{Reaction}
 use Rattle.lks_host.proofs.Cuts.{cut_lies, cut_read, kept_by_count, lost_by_count, little_longer, none_or_some, rose_between}
-use Rattle.lks_host.proofs.Fitting.{fit_after, reaction_fits}
 use Rattle.lks_host.specs.Cutting.{IsCutShort}
 use Rattle.lks_host.specs.Faults.{as_journal}
 use Rattle.lks_host.specs.Hosted.{StandsFor, LiesOn}
@@ -10,8 +9,8 @@ use Rattle.lks_host.specs.declared.faults.HostFault.TheVariants.{Memory}
 use Rattle.lks_journal.specs.declared.faults.JournalFault.TheVariants.{Cut}
 use Rattle.lks_law.specs.Batches.{with_batch}
 use Rattle.lks_law.specs.Polls.{Station}
-use Rattle.lks_law.specs.Reaction.{reaction}
-use Rattle.lks_law.specs.World.{Standing}
+use Rattle.lks_law.specs.Reacting.{react_on}
+use Rattle.lks_peer.specs.Knows.{Knowing}
 use Rattle.lks_record.specs.Spelling.{batch_spelling}
 use Rattle.lks_host.proofs.cutting.cut_step.Goals as goal
 
@@ -35,12 +34,12 @@ recover-requires-in-Err-Cut-clause-lies g c =
     let told : g.D.Disk.face.told c.fuse.new.self.journal.disk = laws.tells c.fuse.new.self.journal.disk in
     let stood = c.fuse.ensures.stands batches at in
     let peer = c.fuse.new.self.peer in
-    let records = (reaction peer.own peer.journal c.args.tick c.args.input.now).records in
+    let records = (react_on peer.own peer.state c.args.tick c.args.input.now).records in
     let cut : IsErrOf (as_journal c.step.result) Cut = search rules in
     let enough : IsErrOf c.step.result Memory → ⊥ = search rules in
-    let own : c.fuse.new.self.peer.own ≡ c.power_cut-in-Err-Cut.new.self.peer.own = sym (ap (λ (s : Standing). s.own) c.power_cut-in-Err-Cut.ensures.peer ∙ c.step.ensures.stepped.own) in
+    let own : c.fuse.new.self.peer.own ≡ c.power_cut-in-Err-Cut.new.self.peer.own = sym (ap (λ (k : Knowing). k.own) c.power_cut-in-Err-Cut.ensures.peer ∙ c.step.ensures.stepped.own) in
     let either = cut_lies g.D.Disk.face c.fuse.new.self c.step.new.self c.power_cut-in-Err-Cut.new.self.journal.disk batches records c.args.calls (as_journal c.step.result) stood
-    (fit_after peer.own peer.journal c.args.tick c.args.input.now stood.fit) (c.step.ensures.adds told batches stood) cut c.fuse.ensures.fused.left (c.step.ensures.read enough) c.power_cut-in-Err-Cut.ensures.lost in
+    (c.step.ensures.read enough).fit (c.step.ensures.adds told batches stood) cut c.fuse.ensures.fused.left (c.step.ensures.read enough).read c.power_cut-in-Err-Cut.ensures.lost in
     λ κs lives. elim either [
       | inl lies ↦ (batches, (subst (λ (o : Station). LiesOn g.D.Disk.face o c.power_cut-in-Err-Cut.new.self.journal.disk batches) own lies))
       | inr p ↦ (with_batch batches records, (subst (λ (o : Station). LiesOn g.D.Disk.face o c.power_cut-in-Err-Cut.new.self.journal.disk (with_batch batches records)) own p.1))
@@ -54,13 +53,13 @@ returns-in_ok-recover-in-Ok-clause-cuts g c = λ batches at.
     let there = c.in-Ok.ensures.stands told batches stood in
     let more = with_batch batches c.in-Ok.reaction.records in
     let lies : LiesOn g.D.Disk.face c.power_cut.new.self.peer.own c.power_cut.new.self.journal.disk more = c.power_cut.ensures.lies more there in
-    let same : c.in-Ok.reaction ≡ reaction c.args.host.now.peer.own c.args.host.now.peer.journal c.args.tick c.args.input.now =
-    c.in-Ok.ensures.stepped.reaction ∙ ap (λ (s : Standing). reaction s.own s.journal c.args.tick c.args.input.now) c.fuse.ensures.peer in
-    let now = (reaction c.fuse.new.self.peer.own c.fuse.new.self.peer.journal c.args.tick c.args.input.now).records in
+    let same : c.in-Ok.reaction ≡ react_on c.args.host.now.peer.own c.args.host.now.peer.state c.args.tick c.args.input.now =
+    c.in-Ok.ensures.stepped.reaction ∙ ap (λ (k : Knowing). react_on k.own k.state c.args.tick c.args.input.now) c.fuse.ensures.peer in
+    let now = (react_on c.fuse.new.self.peer.own c.fuse.new.self.peer.state c.args.tick c.args.input.now).records in
     let spent : (now ≡ [] → ⊥) → 4 ≤ c.args.calls = λ some.
     let passed : g.D.Disk.face.left c.step.new.self.journal.disk + 4 ≡ g.D.Disk.face.left c.fuse.new.self.journal.disk = (c.in-Ok.ensures.stepped.calls.called some).fuse.passes c.fuse.ensures.fused.fused in
     omega (arith, passed, c.fuse.ensures.fused.left) in
-    let still : now ≡ (reaction c.args.host.now.peer.own c.args.host.now.peer.journal c.args.tick c.args.input.now).records = ap (λ (s : Standing). (reaction s.own s.journal c.args.tick c.args.input.now).records) c.fuse.ensures.peer in (
+    let still : now ≡ (react_on c.args.host.now.peer.own c.args.host.now.peer.state c.args.tick c.args.input.now).records = ap (λ (k : Knowing). (react_on k.own k.state c.args.tick c.args.input.now).records) c.fuse.ensures.peer in (
       same,
       subst (λ (r : Reaction). StandsFor g.D.Disk.face c.recover.new.self (with_batch batches r.records)) same (c.in_ok-recover-in-Ok.ensures.recovers more lies).stands,
       ⊎_elim (λ none. inl (sym still ∙ none)) (λ some. inr (spent some)) (none_or_some now),
@@ -86,19 +85,19 @@ returns-then-found-before-clause-cuts g c = λ batches at.
     let told : g.D.Disk.face.told c.fuse.new.self.journal.disk = laws.tells c.fuse.new.self.journal.disk in
     let stood = c.fuse.ensures.stands batches at in
     let peer = c.fuse.new.self.peer in
-    let records = (reaction peer.own peer.journal c.args.tick c.args.input.now).records in
+    let records = (react_on peer.own peer.state c.args.tick c.args.input.now).records in
     let cut : IsErrOf (as_journal c.step.result) Cut = search rules in
     let enough : IsErrOf c.step.result Memory → ⊥ = search rules in
-    let own : c.fuse.new.self.peer.own ≡ c.power_cut-in-Err-Cut.new.self.peer.own = sym (ap (λ (s : Standing). s.own) c.power_cut-in-Err-Cut.ensures.peer ∙ c.step.ensures.stepped.own) in
+    let own : c.fuse.new.self.peer.own ≡ c.power_cut-in-Err-Cut.new.self.peer.own = sym (ap (λ (k : Knowing). k.own) c.power_cut-in-Err-Cut.ensures.peer ∙ c.step.ensures.stepped.own) in
     let either = cut_lies g.D.Disk.face c.fuse.new.self c.step.new.self c.power_cut-in-Err-Cut.new.self.journal.disk batches records c.args.calls (as_journal c.step.result) stood
-    (fit_after peer.own peer.journal c.args.tick c.args.input.now stood.fit) (c.step.ensures.adds told batches stood) cut c.fuse.ensures.fused.left (c.step.ensures.read enough) c.power_cut-in-Err-Cut.ensures.lost in
+    (c.step.ensures.read enough).fit (c.step.ensures.adds told batches stood) cut c.fuse.ensures.fused.left (c.step.ensures.read enough).read c.power_cut-in-Err-Cut.ensures.lost in
     let some : records ≡ [] → ⊥ = λ none. c.step.ensures.stepped.calls.uncut none cut in
     let read = cut_read g.D.Disk.face c.recover-in-Err-Cut.new.self batches records c.args.calls c.in_ok-found-in-Err-Cut.found c.power_cut-in-Err-Cut.new.self peer.own own some either c.in_ok-found-in-Err-Cut.ensures.recovers in
     let before : c.count-before.result ≡ length batches = c.count-before.ensures ∙ at.count in
-    let still : reaction peer.own peer.journal c.args.tick c.args.input.now ≡ reaction c.args.host.now.peer.own c.args.host.now.peer.journal c.args.tick c.args.input.now =
-    ap (λ (s : Standing). reaction s.own s.journal c.args.tick c.args.input.now) c.fuse.ensures.peer in
+    let still : react_on peer.own peer.state c.args.tick c.args.input.now ≡ react_on c.args.host.now.peer.own c.args.host.now.peer.state c.args.tick c.args.input.now =
+    ap (λ (k : Knowing). react_on k.own k.state c.args.tick c.args.input.now) c.fuse.ensures.peer in
     let few : c.args.calls < 4 = omega (arith, ((c.step.ensures.stepped.calls.called some).fuse.cut cut).1, c.fuse.ensures.fused.left) in
-    let short : IsCutShort (reaction c.args.host.now.peer.own c.args.host.now.peer.journal c.args.tick c.args.input.now) c.args.calls =
+    let short : IsCutShort (react_on c.args.host.now.peer.own c.args.host.now.peer.state c.args.tick c.args.input.now) c.args.calls =
     subst (λ (r : Reaction). IsCutShort r c.args.calls) still (record { adds = some; few = few }) in
     let fuse = (c.step.ensures.stepped.calls.called some).fuse in
     let rose = rose_between _ _ _ _ c.fuse.ensures.fused.burns (fuse.burn c.fuse.ensures.fused.whole (fuse.cut cut).2)
@@ -114,18 +113,17 @@ returns-then-found-before-clause-end g c =
     let told : g.D.Disk.face.told c.fuse.new.self.journal.disk = laws.tells c.fuse.new.self.journal.disk in
     let stood = c.fuse.ensures.stands batches at in
     let peer = c.fuse.new.self.peer in
-    let records = (reaction peer.own peer.journal c.args.tick c.args.input.now).records in
+    let records = (react_on peer.own peer.state c.args.tick c.args.input.now).records in
     let cut : IsErrOf (as_journal c.step.result) Cut = search rules in
     let enough : IsErrOf c.step.result Memory → ⊥ = search rules in
-    let own : c.fuse.new.self.peer.own ≡ c.power_cut-in-Err-Cut.new.self.peer.own = sym (ap (λ (s : Standing). s.own) c.power_cut-in-Err-Cut.ensures.peer ∙ c.step.ensures.stepped.own) in
+    let own : c.fuse.new.self.peer.own ≡ c.power_cut-in-Err-Cut.new.self.peer.own = sym (ap (λ (k : Knowing). k.own) c.power_cut-in-Err-Cut.ensures.peer ∙ c.step.ensures.stepped.own) in
     let either = cut_lies g.D.Disk.face c.fuse.new.self c.step.new.self c.power_cut-in-Err-Cut.new.self.journal.disk batches records c.args.calls (as_journal c.step.result) stood
-    (fit_after peer.own peer.journal c.args.tick c.args.input.now stood.fit) (c.step.ensures.adds told batches stood) cut c.fuse.ensures.fused.left (c.step.ensures.read enough) c.power_cut-in-Err-Cut.ensures.lost in
+    (c.step.ensures.read enough).fit (c.step.ensures.adds told batches stood) cut c.fuse.ensures.fused.left (c.step.ensures.read enough).read c.power_cut-in-Err-Cut.ensures.lost in
     let some : records ≡ [] → ⊥ = λ none. c.step.ensures.stepped.calls.uncut none cut in
     let read = cut_read g.D.Disk.face c.recover-in-Err-Cut.new.self batches records c.args.calls c.in_ok-found-in-Err-Cut.found c.power_cut-in-Err-Cut.new.self peer.own own some either c.in_ok-found-in-Err-Cut.ensures.recovers in
     let before : c.count-before.result ≡ length batches = c.count-before.ensures ∙ at.count in
-    let fits = reaction_fits peer.own peer.journal c.args.tick c.args.input.now stood.fit c.requires.heard in
     let kept = kept_by_count g.D.Disk.face c.recover-in-Err-Cut.new.self batches records c.args.calls c.in_ok-found-in-Err-Cut.found c.count-before.result read before c.if-found-before.true in
-    let short : (records ≡ [] → ⊥) → length (batch_spelling records) ≤ 32763 = λ more. omega (arith, (c.step.ensures.read enough more).short, fits.short) in
+    let short : (records ≡ [] → ⊥) → length (batch_spelling records) ≤ 32763 = λ more. omega (arith, ((c.step.ensures.read enough).read more).short, (c.step.ensures.read enough).batch.short) in
     let longer = little_longer g.D.Disk.face c.fuse.new.self c.recover-in-Err-Cut.new.self batches records stood kept.stands short in
     omega (arith, longer, c.fuse.ensures.end)
 
@@ -135,19 +133,19 @@ returns-else-found-before-clause-cuts g c = λ batches at.
     let told : g.D.Disk.face.told c.fuse.new.self.journal.disk = laws.tells c.fuse.new.self.journal.disk in
     let stood = c.fuse.ensures.stands batches at in
     let peer = c.fuse.new.self.peer in
-    let records = (reaction peer.own peer.journal c.args.tick c.args.input.now).records in
+    let records = (react_on peer.own peer.state c.args.tick c.args.input.now).records in
     let cut : IsErrOf (as_journal c.step.result) Cut = search rules in
     let enough : IsErrOf c.step.result Memory → ⊥ = search rules in
-    let own : c.fuse.new.self.peer.own ≡ c.power_cut-in-Err-Cut.new.self.peer.own = sym (ap (λ (s : Standing). s.own) c.power_cut-in-Err-Cut.ensures.peer ∙ c.step.ensures.stepped.own) in
+    let own : c.fuse.new.self.peer.own ≡ c.power_cut-in-Err-Cut.new.self.peer.own = sym (ap (λ (k : Knowing). k.own) c.power_cut-in-Err-Cut.ensures.peer ∙ c.step.ensures.stepped.own) in
     let either = cut_lies g.D.Disk.face c.fuse.new.self c.step.new.self c.power_cut-in-Err-Cut.new.self.journal.disk batches records c.args.calls (as_journal c.step.result) stood
-    (fit_after peer.own peer.journal c.args.tick c.args.input.now stood.fit) (c.step.ensures.adds told batches stood) cut c.fuse.ensures.fused.left (c.step.ensures.read enough) c.power_cut-in-Err-Cut.ensures.lost in
+    (c.step.ensures.read enough).fit (c.step.ensures.adds told batches stood) cut c.fuse.ensures.fused.left (c.step.ensures.read enough).read c.power_cut-in-Err-Cut.ensures.lost in
     let some : records ≡ [] → ⊥ = λ none. c.step.ensures.stepped.calls.uncut none cut in
     let read = cut_read g.D.Disk.face c.recover-in-Err-Cut.new.self batches records c.args.calls c.in_ok-found-in-Err-Cut.found c.power_cut-in-Err-Cut.new.self peer.own own some either c.in_ok-found-in-Err-Cut.ensures.recovers in
     let before : c.count-before.result ≡ length batches = c.count-before.ensures ∙ at.count in
-    let still : reaction peer.own peer.journal c.args.tick c.args.input.now ≡ reaction c.args.host.now.peer.own c.args.host.now.peer.journal c.args.tick c.args.input.now =
-    ap (λ (s : Standing). reaction s.own s.journal c.args.tick c.args.input.now) c.fuse.ensures.peer in
+    let still : react_on peer.own peer.state c.args.tick c.args.input.now ≡ react_on c.args.host.now.peer.own c.args.host.now.peer.state c.args.tick c.args.input.now =
+    ap (λ (k : Knowing). react_on k.own k.state c.args.tick c.args.input.now) c.fuse.ensures.peer in
     let few : c.args.calls < 4 = omega (arith, ((c.step.ensures.stepped.calls.called some).fuse.cut cut).1, c.fuse.ensures.fused.left) in
-    let short : IsCutShort (reaction c.args.host.now.peer.own c.args.host.now.peer.journal c.args.tick c.args.input.now) c.args.calls =
+    let short : IsCutShort (react_on c.args.host.now.peer.own c.args.host.now.peer.state c.args.tick c.args.input.now) c.args.calls =
     subst (λ (r : Reaction). IsCutShort r c.args.calls) still (record { adds = some; few = few }) in
     let fuse = (c.step.ensures.stepped.calls.called some).fuse in
     let rose = rose_between _ _ _ _ c.fuse.ensures.fused.burns (fuse.burn c.fuse.ensures.fused.whole (fuse.cut cut).2)
@@ -163,12 +161,12 @@ returns-else-found-before-clause-end g c =
     let told : g.D.Disk.face.told c.fuse.new.self.journal.disk = laws.tells c.fuse.new.self.journal.disk in
     let stood = c.fuse.ensures.stands batches at in
     let peer = c.fuse.new.self.peer in
-    let records = (reaction peer.own peer.journal c.args.tick c.args.input.now).records in
+    let records = (react_on peer.own peer.state c.args.tick c.args.input.now).records in
     let cut : IsErrOf (as_journal c.step.result) Cut = search rules in
     let enough : IsErrOf c.step.result Memory → ⊥ = search rules in
-    let own : c.fuse.new.self.peer.own ≡ c.power_cut-in-Err-Cut.new.self.peer.own = sym (ap (λ (s : Standing). s.own) c.power_cut-in-Err-Cut.ensures.peer ∙ c.step.ensures.stepped.own) in
+    let own : c.fuse.new.self.peer.own ≡ c.power_cut-in-Err-Cut.new.self.peer.own = sym (ap (λ (k : Knowing). k.own) c.power_cut-in-Err-Cut.ensures.peer ∙ c.step.ensures.stepped.own) in
     let either = cut_lies g.D.Disk.face c.fuse.new.self c.step.new.self c.power_cut-in-Err-Cut.new.self.journal.disk batches records c.args.calls (as_journal c.step.result) stood
-    (fit_after peer.own peer.journal c.args.tick c.args.input.now stood.fit) (c.step.ensures.adds told batches stood) cut c.fuse.ensures.fused.left (c.step.ensures.read enough) c.power_cut-in-Err-Cut.ensures.lost in
+    (c.step.ensures.read enough).fit (c.step.ensures.adds told batches stood) cut c.fuse.ensures.fused.left (c.step.ensures.read enough).read c.power_cut-in-Err-Cut.ensures.lost in
     let some : records ≡ [] → ⊥ = λ none. c.step.ensures.stepped.calls.uncut none cut in
     let read = cut_read g.D.Disk.face c.recover-in-Err-Cut.new.self batches records c.args.calls c.in_ok-found-in-Err-Cut.found c.power_cut-in-Err-Cut.new.self peer.own own some either c.in_ok-found-in-Err-Cut.ensures.recovers in
     let before : c.count-before.result ≡ length batches = c.count-before.ensures ∙ at.count in

@@ -9,7 +9,7 @@ pub returns-in_ok-forge-clause-becomes : goal.returns-in_ok-forge-clause-becomes
 returns-in_ok-forge-clause-becomes g c = λ plan is corrupt known few.
     let room : 0 < MOST_EVENTS - length c.args.state.now.history.items = omega (arith, c.if-room-gt0.true, c.room.ensures) in
     room_kept g.D.Disk.face plan c.args.state.now c.forge.new.state (Forge c.args.from c.args.to c.args.bytes) room
-    (became_forge g.D.Disk.face plan c.args.state.now c.forge.new.state c.args.from c.args.to c.args.bytes is (room_left g.D.Disk.face c.args.state.now room) (record { corrupt = corrupt; known = known; few = few; are = λ i. subst (λ (bs : List ℕ). get_or bs i 0 < 256) c.as_slice.ensures (c.are_bytes.ensures i) }) c.in_ok-forge.ensures.world c.in_ok-forge.ensures.history c.in_ok-forge.ensures.pending c.in_ok-forge.ensures.seats)
+    (became_forge g.D.Disk.face plan c.args.state.now c.forge.new.state c.args.from c.args.to c.args.bytes is (room_left g.D.Disk.face c.args.state.now room) (record { corrupt = corrupt; known = known; few = few; are = λ i. subst (λ (bs : List ℕ). get_or bs i 0 < 256) c.as_slice.ensures (c.are_bytes.ensures i) }) c.in_ok-forge.ensures.world c.in_ok-forge.ensures.history c.in_ok-forge.ensures.pending c.in_ok-forge.ensures.seats c.in_ok-forge.ensures.pool)
 
 pub returns-else-room-gt0-clause-becomes : goal.returns-else-room-gt0-clause-becomes
 returns-else-room-gt0-clause-becomes g c = λ plan is corrupt known few.

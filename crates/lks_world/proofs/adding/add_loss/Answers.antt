@@ -9,7 +9,7 @@ pub returns-in_ok-lose-clause-becomes : goal.returns-in_ok-lose-clause-becomes
 returns-in_ok-lose-clause-becomes g c = λ plan is sent.
     let room : 0 < MOST_EVENTS - length c.args.state.now.history.items = omega (arith, c.if-room-gt0.true, c.room.ensures) in
     room_kept g.D.Disk.face plan c.args.state.now c.lose.new.state (Lose c.args.envelope) room
-    (became_lose g.D.Disk.face plan c.args.state.now c.lose.new.state c.args.envelope is (room_left g.D.Disk.face c.args.state.now room) sent c.in_ok-lose.ensures.world c.in_ok-lose.ensures.history c.in_ok-lose.ensures.pending c.in_ok-lose.ensures.seats)
+    (became_lose g.D.Disk.face plan c.args.state.now c.lose.new.state c.args.envelope is (room_left g.D.Disk.face c.args.state.now room) sent c.in_ok-lose.ensures.world c.in_ok-lose.ensures.history c.in_ok-lose.ensures.pending c.in_ok-lose.ensures.seats c.in_ok-lose.ensures.pool)
 
 pub returns-else-room-gt0-clause-becomes : goal.returns-else-room-gt0-clause-becomes
 returns-else-room-gt0-clause-becomes g c = λ plan is sent.

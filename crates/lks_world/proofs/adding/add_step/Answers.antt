@@ -9,7 +9,7 @@ pub returns-in_ok-step-clause-becomes : goal.returns-in_ok-step-clause-becomes
 returns-in_ok-step-clause-becomes g c = λ plan is may.
     let room : 0 < MOST_EVENTS - length c.args.state.now.history.items = omega (arith, c.if-room-gt0.true, c.room.ensures) in
     room_kept g.D.Disk.face plan c.args.state.now c.step.new.state (Step c.args.s) room
-    (became_step g.D.Disk.face plan c.args.state.now c.step.new.state c.args.s is (room_left g.D.Disk.face c.args.state.now room) may c.in_ok-step.ensures.world c.in_ok-step.ensures.history c.in_ok-step.ensures.pending c.in_ok-step.ensures.on)
+    (became_step g.D.Disk.face plan c.args.state.now c.step.new.state c.args.s is (room_left g.D.Disk.face c.args.state.now room) may c.in_ok-step.ensures.world c.in_ok-step.ensures.history c.in_ok-step.ensures.pending c.in_ok-step.ensures.on c.in_ok-step.ensures.pool)
 
 pub returns-else-room-gt0-clause-becomes : goal.returns-else-room-gt0-clause-becomes
 returns-else-room-gt0-clause-becomes g c = λ plan is may.

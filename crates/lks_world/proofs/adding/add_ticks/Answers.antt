@@ -9,7 +9,7 @@ pub returns-in_ok-tick-clause-becomes : goal.returns-in_ok-tick-clause-becomes
 returns-in_ok-tick-clause-becomes g c = λ plan is.
     let room : 0 < MOST_EVENTS - length c.args.state.now.history.items = omega (arith, c.if-room-gt0.true, c.room.ensures) in
     room_kept g.D.Disk.face plan c.args.state.now c.tick.new.state (Tick c.args.by) room
-    (became_tick g.D.Disk.face plan c.args.state.now c.tick.new.state c.args.by is (room_left g.D.Disk.face c.args.state.now room) c.requires.some c.requires.few c.in_ok-tick.ensures.world c.in_ok-tick.ensures.history c.in_ok-tick.ensures.pending c.in_ok-tick.ensures.seats)
+    (became_tick g.D.Disk.face plan c.args.state.now c.tick.new.state c.args.by is (room_left g.D.Disk.face c.args.state.now room) c.requires.some c.requires.few c.in_ok-tick.ensures.world c.in_ok-tick.ensures.history c.in_ok-tick.ensures.pending c.in_ok-tick.ensures.seats c.in_ok-tick.ensures.pool)
 
 pub returns-else-room-gt0-clause-becomes : goal.returns-else-room-gt0-clause-becomes
 returns-else-room-gt0-clause-becomes g c = λ plan is.

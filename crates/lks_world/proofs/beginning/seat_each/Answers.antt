@@ -7,11 +7,11 @@ use Rattle.lks_world.proofs.beginning.seat_each.Goals as goal
 
 pub loop-p-init : goal.loop-p-init
 loop-p-init g c = record {
-  made = made_start g.D.Disk.face c.args.plan.now c.args.disks.now.items c.args.seats.now.items c.requires.none c.requires.fresh;
-  count = c.requires.none_there;
-  enough = omega (arith, c.requires.enough);
-  room = c.requires.room;
-  disk_room = omega (arith, c.requires.none_there, c.args.disks.now.ok.1);
+  made = made_start g.D.Disk.face c.args.pool.now c.args.plan.now c.args.disks.now.items c.args.seats.now.items c.requires.seats.none c.requires.seats.begins.fresh;
+  count = c.requires.seats.none_there;
+  enough = omega (arith, c.requires.seats.begins.enough);
+  room = c.requires.seats.room;
+  disk_room = omega (arith, c.requires.seats.none_there, c.args.disks.now.ok.1);
 }
 
 pub loop-p-preserved : goal.loop-p-preserved
@@ -25,23 +25,23 @@ loop-p-preserved g c =
     let done = c.in_ok-seat_next.ensures in
     record {
       made =
-          made_more g.D.Disk.face c.args.plan.now c.args.disks.now.items c.loop-p.seats.items c.seat_next.new.seats.items c.loop-p.disks.items c.seat_next.new.disks.items p (take i peers) (drop (i + 1) peers) (take (i + 1) peers)
+          made_more g.D.Disk.face c.args.pool.now c.args.plan.now c.args.disks.now.items c.loop-p.seats.items c.seat_next.new.seats.items c.loop-p.disks.items c.seat_next.new.disks.items p (take i peers) (drop (i + 1) peers) (take (i + 1) peers)
           was.made done.seated done.fresh done.serves done.fuses (all_parts items peers same i p c.loop-p-test.true c.p-item.is) (next_done items peers same i p c.loop-p-test.true c.p-item.is);
-      count = omega (arith, was.count, done.one_more);
-      enough = omega (arith, was.enough, done.one_less);
-      room = omega (arith, was.room, done.rooms.0);
-      disk_room = omega (arith, was.disk_room, done.len, done.rooms.1);
+      count = omega (arith, was.count, done.rooms.more);
+      enough = omega (arith, was.enough, done.rooms.less);
+      room = omega (arith, was.room, done.rooms.seats_room);
+      disk_room = omega (arith, was.disk_room, done.rooms.all, done.rooms.disks_room);
     }
 
-pub seat_next-requires-clause-planned : goal.seat_next-requires-clause-planned
-seat_next-requires-clause-planned g c = λ κs lives honest.
-    peer_at_place c.args.plan.now c.requires.good c.as_slice-p-items.result.now c.as_slice-p-items.ensures c.loop-p.p-index c.p-item.result c.loop-p-test.true c.p-item.is honest
-
-pub seat_next-requires-clause-some : goal.seat_next-requires-clause-some
-seat_next-requires-clause-some g c = λ κs lives. omega (arith, c.loop-p.invariant.enough, c.loop-p-test.true, ap length c.as_slice-p-items.ensures)
-
-pub seat_next-requires-clause-room : goal.seat_next-requires-clause-room
-seat_next-requires-clause-room g c = λ κs lives. omega (arith, c.loop-p.invariant.room, c.loop-p.invariant.count, c.loop-p-test.true, ap length c.as_slice-p-items.ensures)
+pub seat_next-requires-clause-next : goal.seat_next-requires-clause-next
+seat_next-requires-clause-next g c = λ κs lives. record {
+  good = c.requires.seats.begins.good;
+  planned = λ honest.
+      peer_at_place c.args.plan.now c.requires.seats.begins.good c.as_slice-p-items.result.now c.as_slice-p-items.ensures c.loop-p.p-index c.p-item.result c.loop-p-test.true c.p-item.is honest;
+  some = omega (arith, c.loop-p.invariant.enough, c.loop-p-test.true, ap length c.as_slice-p-items.ensures);
+  fresh = c.loop-p.invariant.made.fresh;
+  room = omega (arith, c.loop-p.invariant.room, c.loop-p.invariant.count, c.loop-p-test.true, ap length c.as_slice-p-items.ensures);
+}
 
 pub returns-in_err-seat_next-clause-serves : goal.returns-in_err-seat_next-clause-serves
 returns-in_err-seat_next-clause-serves g c =

@@ -5,7 +5,7 @@ use Rattle.lks_world.proofs.beginning.seat_each.Given as goal
 
 abbrev pub invariant-loop-p : goal.invariant-loop-p
 invariant-loop-p g l = record {
-  made : AreMade g.D.Disk.face l.plan l.fn.disks.items l.seats.items l.disks.items (take l.p-index l.plan.peers);
+  made : AreMade g.D.Disk.face l.pool l.plan l.fn.disks.items l.seats.items l.disks.items (take l.p-index l.plan.peers);
   count : vec_len l.seats ≡ l.p-index;
   enough : length l.plan.peers ≤ l.p-index + vec_len l.disks;
   room : length l.plan.peers ≤ vec_capacity l.seats;

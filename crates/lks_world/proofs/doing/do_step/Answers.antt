@@ -25,17 +25,17 @@ unreachable-requires g c = elim c.in-SayPoll.is [
 pub returns-in-Peer-clause-state : goal.returns-in-Peer-clause-state
 returns-in-Peer-clause-state g c =
     ok_then c.add_step.result (λ b. b.state)
-    (c.add_step.ensures.becomes c.args.plan.now c.requires.state (step_may c.args.plan.now (world_in c.args.state.now) c.args.step.now c.in-Peer.s c.in-Peer.is c.requires.legal))
+    (c.add_step.ensures.becomes c.args.plan.now c.requires.state (step_may c.args.plan.now (world_in g.D.Disk.face c.args.state.now) c.args.step.now c.in-Peer.s c.in-Peer.is c.requires.legal))
 
 pub returns-in-Peer-clause-performs : goal.returns-in-Peer-clause-performs
 returns-in-Peer-clause-performs g c =
     ok_then c.add_step.result
     (λ b. subst (λ s. Performs first_byte c.args.plan.now (events_in c.args.state.now) s (events_in c.add_step.new.state)) (sym c.in-Peer.is) b.events)
-    (c.add_step.ensures.becomes c.args.plan.now c.requires.state (step_may c.args.plan.now (world_in c.args.state.now) c.args.step.now c.in-Peer.s c.in-Peer.is c.requires.legal))
+    (c.add_step.ensures.becomes c.args.plan.now c.requires.state (step_may c.args.plan.now (world_in g.D.Disk.face c.args.state.now) c.args.step.now c.in-Peer.s c.in-Peer.is c.requires.legal))
 
 pub returns-in-Peer-clause-extends : goal.returns-in-Peer-clause-extends
 returns-in-Peer-clause-extends g c =
-    c.add_step.ensures.extends c.args.plan.now c.requires.state (step_may c.args.plan.now (world_in c.args.state.now) c.args.step.now c.in-Peer.s c.in-Peer.is c.requires.legal)
+    c.add_step.ensures.extends c.args.plan.now c.requires.state (step_may c.args.plan.now (world_in g.D.Disk.face c.args.state.now) c.args.step.now c.in-Peer.s c.in-Peer.is c.requires.legal)
 
 pub returns-in_err-add_forgery-in-Forge-clause-extends : goal.returns-in_err-add_forgery-in-Forge-clause-extends
 returns-in_err-add_forgery-in-Forge-clause-extends g c =

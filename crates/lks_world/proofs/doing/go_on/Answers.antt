@@ -36,7 +36,7 @@ became g c plan at =
     became_step g.D.Disk.face plan c.loop-turn.state c.step.new.state c.in_ok-s-in-Some.s at
     (room_left g.D.Disk.face c.loop-turn.state (omega (arith, c.loop-turn.invariant.room, c.loop-turn-test.true)))
     (next_may g.D.Disk.face plan c.loop-turn.state at first_byte c.args.course c.in-Some.due c.in_ok-s-in-Some.s next (c.in_ok-s-in-Some.ensures plan at))
-    done.world done.history done.pending done.on
+    done.world done.history done.pending done.on done.pool
 
 pub loop-turn-preserved : goal.loop-turn-preserved
 loop-turn-preserved g c =
@@ -55,7 +55,7 @@ loop-turn-preserved g c =
           let b = became g c plan (kept.goes plan is).state in
           extends_then plan c.args.state.now.history.items s.history.items c.step.new.state.history.items (kept.extends plan is)
           (extends_by g.D.Disk.face plan s c.step.new.state (Step p ∷ []) b.state b.events);
-      room = omega (arith, kept.room, ap length c.in_ok-step-in-Some.ensures.history, length-append s.history.items (entry_of (world_in s) (Step p) ∷ []));
+      room = omega (arith, kept.room, ap length c.in_ok-step-in-Some.ensures.history, length-append s.history.items (entry_of (world_in g.D.Disk.face s) (Step p) ∷ []));
       counted = counted_then g.D.Disk.face c.args.state.now.seats.items s.seats.items c.step.new.state.seats.items (Ok tt) (Ok tt) kept.counted c.in_ok-step-in-Some.ensures.counted;
     }
 

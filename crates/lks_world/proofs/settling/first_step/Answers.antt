@@ -1,11 +1,7 @@
-use Rattle.std.proofs.Common.{sym, ap, ◌∙◌}
-use Rattle.lks_law.specs.Due.{first_own}
-use Rattle.lks_world.proofs.ReadyLaws.{first_here, first_later, steps_seated}
+use Rattle.std.proofs.Common.{sym, ◌∙◌}
+use Rattle.lks_world.proofs.ReadyLaws.{first_here, first_later}
 use Rattle.lks_world.specs.States.{seat_steps}
 use Rattle.lks_world.proofs.settling.first_step.Goals as goal
-
-pub loop-seat-init : goal.loop-seat-init
-loop-seat-init g c = ap first_own (steps_seated c.args.part c.args.seats.now)
 
 pub returns-in-Some : goal.returns-in-Some
 returns-in-Some g c =

@@ -1,4 +1,4 @@
-use Rattle.std.proofs.Common.{◌≡◌, ap, sym, subst}
+use Rattle.std.proofs.Common.{◌≡◌, sym, subst}
 use Rattle.std.specs.Prelude.{IfOk, OnOk, slice_set}
 use Rattle.lks_law.specs.Entries.{notes_at}
 use Rattle.lks_law.specs.World.{Deed, peer_at, reaction_at, with_records}
@@ -14,30 +14,30 @@ returns-in_default-clause-on g c = stayed g.D.Disk.face (hosts_of c.args.seats.n
 
 pub unreachable-requires : goal.unreachable-requires
 unreachable-requires g c =
-    never_idle c.deed.inside.peer c.deref.result.now c.args.seats.now.items c.in-Some.place c.index_mut.result.now c.deref.ensures.value c.in-Some.ensures c.index_mut.ensures.value c.in-Idle.field-0 c.in-Idle.is
+    never_idle g.D.Disk.face c.deed.inside.peer c.deref.result.now c.args.seats.now.items c.in-Some.place c.index_mut.result.now c.deref.ensures.value c.in-Some.ensures c.index_mut.ensures.value c.in-Idle.field-0 c.in-Idle.is
 
 pub act_as-requires-clause-ready : goal.act_as-requires-clause-ready
 act_as-requires-clause-ready g c = λ κs lives.
     let seats = c.args.seats.now.items in
     let h = c.in-Host.host in
-    let acts = acts_at c.deed.inside.peer c.deref.result.now seats c.in-Some.place c.index_mut.result.now c.deref.ensures.value c.in-Some.ensures c.index_mut.ensures.value h c.in-Host.is in
-    c.requires.ready acts.stands.rank h (acts_ranked c.deed.inside.peer seats c.in-Some.place h acts)
+    let acts = acts_at g.D.Disk.face c.deed.inside.peer c.deref.result.now seats c.in-Some.place c.index_mut.result.now c.deref.ensures.value c.in-Some.ensures c.index_mut.ensures.value h c.in-Host.is in
+    c.requires.ready acts.stands.rank h (acts_ranked g.D.Disk.face c.deed.inside.peer seats c.in-Some.place h acts)
 
 pub returns-clause-sends : goal.returns-clause-sends
 returns-clause-sends g c =
     let seats = c.args.seats.now.items in
     let h = c.in-Host.host in
-    let acts = acts_at c.deed.inside.peer c.deref.result.now seats c.in-Some.place c.index_mut.result.now c.deref.ensures.value c.in-Some.ensures c.index_mut.ensures.value h c.in-Host.is in
-    subst (λ (v : Deed). IfOk c.act_as.result (λ d. d.sends ≡ (reaction_at c.args.tick (peer_at v.peer (peers_of (hosts_of seats))) v.input).sends)) c.deed.view_is
-    (subst (λ o. IfOk c.act_as.result (λ d. d.sends ≡ (reaction_at c.args.tick o c.deed.inside.input).sends)) (sym (acts_found c.deed.inside.peer seats c.in-Some.place h acts)) c.act_as.ensures.sends)
+    let acts = acts_at g.D.Disk.face c.deed.inside.peer c.deref.result.now seats c.in-Some.place c.index_mut.result.now c.deref.ensures.value c.in-Some.ensures c.index_mut.ensures.value h c.in-Host.is in
+    subst (λ (v : Deed). IfOk c.act_as.result (λ d. d.sends ≡ (reaction_at c.args.tick (peer_at v.peer (peers_of g.D.Disk.face (hosts_of seats))) v.input).sends)) c.deed.view_is
+    (subst (λ o. IfOk c.act_as.result (λ d. d.sends ≡ (reaction_at c.args.tick o c.deed.inside.input).sends)) (sym (acts_found g.D.Disk.face c.deed.inside.peer seats c.in-Some.place h acts)) c.act_as.ensures.sends)
 
 pub returns-clause-notes : goal.returns-clause-notes
 returns-clause-notes g c =
     let seats = c.args.seats.now.items in
     let h = c.in-Host.host in
-    let acts = acts_at c.deed.inside.peer c.deref.result.now seats c.in-Some.place c.index_mut.result.now c.deref.ensures.value c.in-Some.ensures c.index_mut.ensures.value h c.in-Host.is in
-    subst (λ (v : Deed). IfOk c.act_as.result (λ d. d.notes ≡ notes_at (peer_at v.peer (peers_of (hosts_of seats))) (reaction_at c.args.tick (peer_at v.peer (peers_of (hosts_of seats))) v.input).records)) c.deed.view_is
-    (subst (λ o. IfOk c.act_as.result (λ d. d.notes ≡ notes_at o (reaction_at c.args.tick o c.deed.inside.input).records)) (sym (acts_found c.deed.inside.peer seats c.in-Some.place h acts)) c.act_as.ensures.notes)
+    let acts = acts_at g.D.Disk.face c.deed.inside.peer c.deref.result.now seats c.in-Some.place c.index_mut.result.now c.deref.ensures.value c.in-Some.ensures c.index_mut.ensures.value h c.in-Host.is in
+    subst (λ (v : Deed). IfOk c.act_as.result (λ d. d.notes ≡ notes_at (peer_at v.peer (peers_of g.D.Disk.face (hosts_of seats))) (reaction_at c.args.tick (peer_at v.peer (peers_of g.D.Disk.face (hosts_of seats))) v.input).records)) c.deed.view_is
+    (subst (λ o. IfOk c.act_as.result (λ d. d.notes ≡ notes_at o (reaction_at c.args.tick o c.deed.inside.input).records)) (sym (acts_found g.D.Disk.face c.deed.inside.peer seats c.in-Some.place h acts)) c.act_as.ensures.notes)
 
 pub returns-clause-peers : goal.returns-clause-peers
 returns-clause-peers g c =
@@ -45,22 +45,21 @@ returns-clause-peers g c =
     let h = c.in-Host.host in
     let k = c.act_as.new.host in
     let place = c.in-Some.place in
-    let acts = acts_at c.deed.inside.peer c.deref.result.now seats place c.index_mut.result.now c.deref.ensures.value c.in-Some.ensures c.index_mut.ensures.value h c.in-Host.is in
-    subst (λ (v : Deed). OnOk c.act_as.result (peers_of (hosts_of (slice_set seats place (seat.Host k))) ≡ with_records v.peer (reaction_at c.args.tick (peer_at v.peer (peers_of (hosts_of seats))) v.input).records (peers_of (hosts_of seats)))) c.deed.view_is
-    (subst (λ o. OnOk c.act_as.result (peers_of (hosts_of (slice_set seats place (seat.Host k))) ≡ with_records c.deed.inside.peer (reaction_at c.args.tick o c.deed.inside.input).records (peers_of (hosts_of seats)))) (sym (acts_found c.deed.inside.peer seats place h acts))
-    (ok_then c.act_as.result (acts_added c.deed.inside.peer seats place h acts _ k) c.act_as.ensures.peer))
+    let acts = acts_at g.D.Disk.face c.deed.inside.peer c.deref.result.now seats place c.index_mut.result.now c.deref.ensures.value c.in-Some.ensures c.index_mut.ensures.value h c.in-Host.is in
+    subst (λ (v : Deed). OnOk c.act_as.result (peers_of g.D.Disk.face (hosts_of (slice_set seats place (seat.Host k))) ≡ with_records v.peer (reaction_at c.args.tick (peer_at v.peer (peers_of g.D.Disk.face (hosts_of seats))) v.input).records (peers_of g.D.Disk.face (hosts_of seats)))) c.deed.view_is
+    (subst (λ o. OnOk c.act_as.result (peers_of g.D.Disk.face (hosts_of (slice_set seats place (seat.Host k))) ≡ with_records c.deed.inside.peer (reaction_at c.args.tick o c.deed.inside.input).records (peers_of g.D.Disk.face (hosts_of seats)))) (sym (acts_found g.D.Disk.face c.deed.inside.peer seats place h acts))
+    (ok_then c.act_as.result (acts_added g.D.Disk.face c.deed.inside.peer seats place h acts _ k) c.act_as.ensures.peer))
 
 pub returns-clause-on : goal.returns-clause-on
 returns-clause-on g c =
     let seats = c.args.seats.now.items in
     let h = c.in-Host.host in
-    let acts = acts_at c.deed.inside.peer c.deref.result.now seats c.in-Some.place c.index_mut.result.now c.deref.ensures.value c.in-Some.ensures c.index_mut.ensures.value h c.in-Host.is in
-    ok_then c.act_as.result (acts_on c.deed.inside.peer seats c.in-Some.place h acts g.D.Disk.face c.act_as.new.host) c.act_as.ensures.on
+    let acts = acts_at g.D.Disk.face c.deed.inside.peer c.deref.result.now seats c.in-Some.place c.index_mut.result.now c.deref.ensures.value c.in-Some.ensures c.index_mut.ensures.value h c.in-Host.is in
+    ok_then c.act_as.result (acts_on g.D.Disk.face c.deed.inside.peer seats c.in-Some.place h acts c.act_as.new.host) c.act_as.ensures.on
 
 pub returns-clause-counted : goal.returns-clause-counted
 returns-clause-counted g c =
     let seats = c.args.seats.now.items in
     let h = c.in-Host.host in
-    let acts = acts_at c.deed.inside.peer c.deref.result.now seats c.in-Some.place c.index_mut.result.now c.deref.ensures.value c.in-Some.ensures c.index_mut.ensures.value h c.in-Host.is in
-    counted_one g.D.Disk.face seats c.in-Some.place h c.act_as.new.host c.act_as.result (acts_there c.deed.inside.peer seats c.in-Some.place h acts)
-    (ap (λ own. own.id) c.act_as.ensures.own) c.act_as.ensures.fuse c.act_as.ensures.later c.act_as.ensures.cause
+    let acts = acts_at g.D.Disk.face c.deed.inside.peer c.deref.result.now seats c.in-Some.place c.index_mut.result.now c.deref.ensures.value c.in-Some.ensures c.index_mut.ensures.value h c.in-Host.is in
+    counted_one g.D.Disk.face seats c.in-Some.place h c.act_as.new.host c.act_as.result (acts_there g.D.Disk.face c.deed.inside.peer seats c.in-Some.place h acts) c.act_as.ensures.acted

@@ -1,12 +1,24 @@
-use Rattle.std.proofs.Common.{◌≡◌, ◌∙◌, false, length, rules}
+use Rattle.std.proofs.Common.{◌≡◌, ◌∙◌, ap, refl, sym}
+use Rattle.std.specs.Prelude.{Some}
+use Rattle.lks_host.proofs.Beginning.{begun_fitting, of_begun, option_at}
 use Rattle.lks_host.proofs.Standing.{stands_begun}
-use Rattle.lks_host.specs.declared.hosts.Host.{Host}
+use Rattle.lks_host.specs.declared.faults.HostFault.TheVariants.{Memory}
+use Rattle.lks_law.specs.World.{standing_of}
+use Rattle.lks_peer.specs.Knows.{knowing_of}
 use Rattle.lks_host.proofs.hosts.Host.create.Goals as goal
 
-pub returns-in-Ok-write_each-clause-stands : goal.returns-in-Ok-write_each-clause-stands
-returns-in-Ok-write_each-clause-stands g c = λ told.
-    let host : Host g.row.D.Denot = record { alloc = c.args.alloc; peer = c.in-Ok.begun.0; journal = c.write_each.new.journal; count = c.len.result; broken = false } in
-    let list : c.deref.result.now ≡ c.in-Ok.begun.0.journal = c.deref.ensures.value ∙ c.in-Ok.ensures.list in
-    let count : c.len.result ≡ length c.deref.result.now = search rules in
-    stands_begun g.D.Disk.face host c.deref.result.now list c.in-Ok.ensures.fit count
-    (c.in-Ok-write_each.ensures.ok (c.in-Ok-create.ensures.called.told.0 told)) c.in-Ok-write_each.ensures.read
+pub returns-clause-peer : goal.returns-clause-peer
+returns-clause-peer g c =
+    of_begun _ _ _ _ _ c.begin_peer.result c.found.result (c.args.disk, Memory) c.found.ensures.unmade c.begin_peer.ensures.peer c.begin_peer.ensures.list c.found.ensures.peer c.found.ensures.peer
+    (λ begun host peer list same again. peer ∙ ap Some (sym same))
+
+pub returns-clause-stands : goal.returns-clause-stands
+returns-clause-stands g c = λ told p there.
+    let plan = c.args.plan.now in
+    of_begun _ _ _ _ _ c.begin_peer.result c.found.result (c.args.disk, Memory) c.found.ensures.unmade c.begin_peer.ensures.peer c.begin_peer.ensures.list c.found.ensures.peer (c.found.ensures.holds told)
+    (λ begun host peer list same holds.
+    stands_begun g.D.Disk.face host plan c.args.pool.now p begun.1.items
+    (same ∙ option_at (λ q. knowing_of c.args.pool.now (standing_of plan q)) _ p begun.0 there peer)
+    (option_at (λ q. (standing_of plan q).journal) _ p begun.1.items there list)
+    (begun_fitting plan c.args.id p (standing_of plan p).journal c.requires.good there refl p there)
+    holds.count holds.disk holds.read)

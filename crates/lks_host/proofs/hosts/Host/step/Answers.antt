@@ -1,8 +1,14 @@
-use Rattle.std.proofs.Common.{◌≡◌, List, subst, arith}
+use Rattle.std.proofs.Common.{◌≡◌, List, ap, subst, sym, arith}
+use Rattle.std.specs.Prelude.{Err}
+use Rattle.lks_base.specs.declared.reactions.Reaction.{Reaction}
 use Rattle.lks_base.specs.declared.records.Record.{Record}
+use Rattle.lks_host.proofs.Fitting.{reaction_fits}
 use Rattle.lks_host.proofs.Standing.{stands_after, read_more}
 use Rattle.lks_host.specs.Bodies.{bodies_of, ReadBack}
+use Rattle.lks_host.specs.Fits.{FitsBatch}
 use Rattle.lks_host.specs.Hosted.{count_after}
+use Rattle.lks_host.specs.Stepping.{IsWritten}
+use Rattle.lks_host.specs.declared.faults.HostFault.TheVariants.{Memory}
 use Rattle.lks_host.specs.declared.hosts.Host.{Host}
 use Rattle.lks_journal.specs.Settled.{IsSettled}
 use Rattle.lks_law.specs.Batches.{with_batch}
@@ -11,8 +17,35 @@ use Rattle.lks_host.proofs.hosts.Host.step.Goals as goal
 pub returns-in-Ok-keep-clause-stands : goal.returns-in-Ok-keep-clause-stands
 returns-in-Ok-keep-clause-stands g c = λ told batches stood.
     let host : Host g.row.D.Denot = record { alloc = c.args.self.now.alloc; peer = c.step.new.self; journal = c.keep.new.journal; count = c.count_with-self.result; broken = c.args.self.now.broken } in
-    stands_after g.D.Disk.face c.args.self.now host batches c.args.tick c.args.input.now c.in-Ok.answer stood c.in-Ok.ensures.reaction c.in-Ok.ensures.journal
+    let records = c.in-Ok.answer.records in
+    stands_after g.D.Disk.face c.args.self.now host batches records stood c.in-Ok.ensures.own c.in-Ok.ensures.state c.in-Ok.ensures.fits
     (subst (λ (records : List Record). IsSettled g.D.Disk.face c.keep.new.journal (bodies_of (with_batch batches records))) c.as_slice.ensures (c.in-Ok-keep.ensures.adds told batches stood.disk).ok)
-    (read_more batches c.in-Ok.answer.records stood.read (subst ReadBack c.as_slice.ensures (c.in-Ok-keep.ensures.read (λ e. absurd cc))))
+    (read_more batches records stood.read (subst ReadBack c.as_slice.ensures (c.in-Ok-keep.ensures.read (λ e. absurd cc))))
     (omega (arith, c.requires.room))
     (subst (λ (records : List Record). c.count_with-self.result ≡ count_after c.args.self.now.count records) c.as_slice-in-Ok-keep.ensures c.count_with-self.ensures)
+
+pub keep-requires-clause-fits : goal.keep-requires-clause-fits
+keep-requires-clause-fits g c =
+    subst FitsBatch (sym c.as_slice.ensures)
+    (subst (λ (r : Reaction). FitsBatch r.records) (sym c.in-Ok.ensures.reaction)
+    (reaction_fits c.args.self.now.peer.own c.args.self.now.peer.state c.in-Ok.ensures.fit c.args.tick c.args.input.now c.requires.heard))
+
+pub returns-in-Ok-keep-clause-read : goal.returns-in-Ok-keep-clause-read
+returns-in-Ok-keep-clause-read g c = λ enough.
+    subst (λ (r : Reaction). IsWritten c.args.self.now.peer.own c.args.self.now.peer.state r.records) c.in-Ok.ensures.reaction
+    (record {
+      batch = subst (λ (r : Reaction). FitsBatch r.records) (sym c.in-Ok.ensures.reaction)
+          (reaction_fits c.args.self.now.peer.own c.args.self.now.peer.state c.in-Ok.ensures.fit c.args.tick c.args.input.now c.requires.heard);
+      read = subst ReadBack c.as_slice.ensures (c.in-Ok-keep.ensures.read (λ e. absurd cc));
+      fit = c.in-Ok.ensures.fits;
+    })
+
+pub returns-in-Err-keep-clause-read : goal.returns-in-Err-keep-clause-read
+returns-in-Err-keep-clause-read g c = λ enough.
+    subst (λ (r : Reaction). IsWritten c.args.self.now.peer.own c.args.self.now.peer.state r.records) c.in-Ok.ensures.reaction
+    (record {
+      batch = subst (λ (r : Reaction). FitsBatch r.records) (sym c.in-Ok.ensures.reaction)
+          (reaction_fits c.args.self.now.peer.own c.args.self.now.peer.state c.in-Ok.ensures.fit c.args.tick c.args.input.now c.requires.heard);
+      read = subst ReadBack c.as_slice.ensures (c.in-Err-keep.ensures.read (λ e. let same : c.in-Err-keep.fault ≡ Memory = cc in enough (ap Err same)));
+      fit = c.in-Ok.ensures.fits;
+    })

@@ -1,16 +1,20 @@
-use Rattle.std.proofs.Common.{◌∙◌, ap}
-use Rattle.lks_peer.specs.Small.{are_small}
-use Rattle.lks_peer.proofs.Sound.{small-append, reaction_small}
+use Rattle.std.proofs.Common.{rules, subst, sym}
+use Rattle.lks_law.specs.Fitting.{AreFitting}
+use Rattle.lks_law.specs.State.{State}
+use Rattle.lks_peer.proofs.Welling.{adds_fit}
+use Rattle.lks_peer.specs.Knows.{Knowing, state_of}
 use Rattle.lks_peer.proofs.peers.Peer.step.Goals as goal
 
-pub invariant_of-self-2 : goal.invariant_of-self-2
-invariant_of-self-2 c =
-    record {
-      small =
-          ap are_small c.in_ok-append.ensures.ok
-          ∙ small-append c.self.inside.list.items c.in_ok-added.added.items c.self.invariant.small
-          (ap are_small (c.in_ok-added.ensures ∙ c.as_slice.ensures ∙ ap (λ r. r.records) c.in_ok-answer.ensures)
-          ∙ reaction_small c.self.inside.own c.deref.result.now c.args.tick c.args.input.now (ap are_small c.deref.ensures.value ∙ c.self.invariant.small));
-      few = c.in_ok-append.ensures.few;
-      short = c.self.invariant.short;
-    }
+pub apply_all-requires-clause-fits : goal.apply_all-requires-clause-fits
+apply_all-requires-clause-fits g c =
+    let own = c.self.inside.own in
+    let r = c.in_ok-reaction.reaction in
+    let fits = adds_fit own c.self.inside.mark c.self.inside.known c.self.invariant c.args.tick c.args.input.now r (search rules) c.in_ok-reaction.ensures.reaction in
+    subst (AreFitting own (state_of c.react.new.known)) (sym c.as_slice-records.ensures)
+    (subst (λ (s : State). AreFitting own s r.records) (sym c.in_ok-reaction.ensures.seen) fits)
+
+pub returns-clause-fits : goal.returns-clause-fits
+returns-clause-fits g c =
+    let r = c.in_ok-reaction.reaction in
+    let fits = adds_fit c.self.inside.own c.self.inside.mark c.self.inside.known c.self.invariant c.args.tick c.args.input.now r (search rules) c.in_ok-reaction.ensures.reaction in
+    subst (λ (k : Knowing). AreFitting k.own k.state r.records) c.self.view_is fits

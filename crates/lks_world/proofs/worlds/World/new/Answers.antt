@@ -1,4 +1,4 @@
-use Rattle.std.proofs.Common.{◌∙◌, ◌++◌, ap, sym, subst}
+use Rattle.std.proofs.Common.{rules, ◌∙◌, ◌++◌, ap, sym, subst}
 use Rattle.std.specs.Prelude.{Some, None, reverse, map}
 use Rattle.std.proofs.lemmas.List.{reverse-reverse}
 use Rattle.lks_world.proofs.FuseLaws.{same_fuses, fresh_unfused}
@@ -7,9 +7,12 @@ use Rattle.lks_world.specs.Held.{AreFresh}
 use Rattle.lks_world.specs.Seats.{disks_at}
 use Rattle.lks_world.proofs.worlds.World.new.Goals as goal
 
-pub begin-requires-clause-fresh : goal.begin-requires-clause-fresh
-begin-requires-clause-fresh g c = λ κs lives.
-    subst (AreFresh g.D.Disk.face) (sym (ap reverse c.turn_round.ensures.items ∙ reverse-reverse c.args.disks.items)) c.requires.fresh
+pub begin-requires-clause-disks : goal.begin-requires-clause-disks
+begin-requires-clause-disks g c = λ κs lives. record {
+  good = c.requires.good;
+  enough = search rules;
+  fresh = subst (AreFresh g.D.Disk.face) (sym (ap reverse c.turn_round.ensures.items ∙ reverse-reverse c.args.disks.items)) c.requires.fresh;
+}
 
 pub invariant_of-result : goal.invariant_of-result
 invariant_of-result g c =
@@ -32,15 +35,15 @@ returns-in-Ok-clause-disks g c =
     let back = ap reverse c.turn_round.ensures.items ∙ reverse-reverse c.args.disks.items in
     subst (λ ds. ServesHonest g.D.Disk.face c.args.plan.peers ds (disks_at c.in-Ok.state.seats.items ++ reverse c.begin.new.disks.items) None) back c.in-Ok.ensures.serves
 
-pub returns-in-Err-clause-disks : goal.returns-in-Err-clause-disks
-returns-in-Err-clause-disks g c =
+pub returns-clause-disks : goal.returns-clause-disks
+returns-clause-disks g c =
     let back = ap reverse c.turn_round.ensures.items ∙ reverse-reverse c.args.disks.items in
     let given = c.nothing_done.ensures.disks ∙ c.turn_round-in-Err.ensures.items in
     subst (λ ds. ServesHonest g.D.Disk.face c.args.plan.peers c.args.disks.items ds (Some c.in-Err.fault)) (sym given)
     (subst (λ ds. ServesHonest g.D.Disk.face c.args.plan.peers ds (reverse c.begin.new.disks.items) (Some c.in-Err.fault)) back c.in-Err.ensures.serves)
 
-pub returns-in-Err-clause-refused : goal.returns-in-Err-clause-refused
-returns-in-Err-clause-refused g c =
+pub returns-clause-refused : goal.returns-clause-refused
+returns-clause-refused g c =
     let f = g.D.Disk.face in
     let disks = c.args.disks.items in
     let back = ap reverse c.turn_round.ensures.items ∙ reverse-reverse disks in

@@ -1,0 +1,7 @@
+pub mod Changing
+pub mod Counts
+pub mod Each
+pub mod Holdings
+pub mod Nominations
+pub mod Running
+pub mod Sessions
