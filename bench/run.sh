@@ -1,0 +1,26 @@
+#!/bin/sh
+# Times the program on scripts that grow, and prints a line for each: the family and its size, the least of five times, and
+# how the report ends. Run it by hand, on a machine that does nothing else: bench/run.sh
+top=$(CDPATH= cd -- "$(dirname -- "$0")/.." && pwd) || exit 70
+script=$(mktemp) || exit 70
+trap 'rm -f "$script"' EXIT
+
+# The first call proves and builds the program, where that wasn't done.
+"$top/bin/lockss" replay <"$top/examples/agreed.lockss" >/dev/null || exit 70
+
+for run in "mend 16" "mend 32" "mend 64" "small 15" "small 30" "small 60" "small 115" "hash 2" "hash 4" "hash 8"; do
+    # shellcheck disable=SC2086
+    python3 "$top/bench/scripts.py" $run >"$script" || exit 70
+    python3 - "$top/crates/lockss/out/lockss" "$script" "$run" <<'PYTHON' || exit 1
+import subprocess, sys, time
+
+program, script, run = sys.argv[1:]
+times = []
+for _ in range(5):
+    with open(script, "rb") as source:
+        begun = time.perf_counter()
+        ended = subprocess.run([program, "replay"], stdin=source, stdout=subprocess.PIPE, check=True)
+        times.append(time.perf_counter() - begun)
+print(f"{run:10} {min(times) * 1000:9.1f} ms   {ended.stdout.decode().splitlines()[-1]}")
+PYTHON
+done

@@ -1,0 +1,58 @@
+#!/usr/bin/env python3
+"""Prints the script of a timed run, of this family and size.
+
+mend N   one poll of three voters on an AU of 512 blocks, of which the first N are bad: N repairs
+small N  N polls of eight voters, one after another, on one block of one byte: 35 events a poll
+hash N   N polls of three voters, one after another, on 128 blocks of 16 KiB
+"""
+
+import sys
+
+
+def head(voters, blocks):
+    yield "lockss 1\n"
+    yield f"rules inner {voters} quorum 3 minority 1 outer 0 repairs 512 pace 0 refractory 0 overdue 1000000 unknown 100 debt 100 churn 0\n"
+    yield f"au 1 {len(blocks)}\n"
+    yield "peer 1 honest 01 01\n"
+    for peer in range(2, voters + 2):
+        yield f"peer {peer} corrupt {peer:02x} 01\n"
+    yield f"refs {' '.join(map(str, range(1, voters + 2)))}\n"
+    yield f"copy 1 1 {','.join(blocks)}\n"
+
+
+def poll(number, voters, blocks):
+    """A poll in which each voter votes for these blocks."""
+    yield "open 1 1\n"
+    for peer in range(2, voters + 2):
+        yield f"say {peer} vote 1 {number} 1 of {','.join(blocks)}\n"
+    yield f"settle\nshut 1 {number}\nsettle\n"
+
+
+def polls(count, voters, blocks):
+    yield from head(voters, blocks)
+    for number in range(1, count + 1):
+        yield from poll(number, voters, blocks)
+
+
+def mend(repairs):
+    good = [f"{block % 256:02x}{block // 256:02x}" for block in range(512)]
+    bad = [f"ff{block}" for block in good[:repairs]]
+    yield from head(3, bad + good[repairs:])
+    yield from poll(1, 3, good)
+    for block in range(repairs):
+        yield f"say 2 repair 1 1 {block} {good[block]}\nsettle\n"
+
+
+def small(count):
+    return polls(count, 8, ["41"])
+
+
+def large(count):
+    return polls(count, 3, [f"{block:02x}*16384" for block in range(128)])
+
+
+FAMILIES = {"mend": mend, "small": small, "hash": large}
+
+if __name__ == "__main__":
+    family, size = sys.argv[1:]
+    sys.stdout.writelines(FAMILIES[family](int(size)))
