@@ -1,3 +1,4 @@
 pub mod Copied
 pub mod Counted
+pub mod Kept
 pub mod Seen

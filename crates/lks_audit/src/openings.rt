@@ -57,6 +57,7 @@ pub fn begin(
     requires some { 1 ≤ count }
     ensures seen { IfOk result (λ s. poll_of s ≡ begun number (settled own.now.rules opening.now)) }
     ensures au { IfOk result (λ s. s.tally.ballot.au ≡ opening.now.au) }
+    ensures kept { IfOk result (λ s. s.tally.kept ≡ 0) }
     ensures on { (blocks : List (List ℕ)) → count ≡ length blocks → IfOk result (λ s. IsCountedOn own.now.id blocks s) }
 {
     let poll = PollName {

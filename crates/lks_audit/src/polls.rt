@@ -5,7 +5,9 @@ ghost use Rattle.std.specs.List.{position};
 ghost use Rattle.std.specs.Option.{option_copied};
 ghost use Rattle.lks_law.specs.State.{poll_at, refs_agreed, changed, without_poll, nominated_by, widened_to, voted_by, shut_now, asking, answered};
 ghost use Rattle.lks_law.specs.Reacting.{for_poll, tally_in, repair_in};
+ghost use Rattle.lks_law.specs.Turning.{has_inner_of};
 ghost use Rattle.lks_audit.specs.Copied.{copies_of, IsOf, HasBlocks};
+ghost use Rattle.lks_audit.specs.Kept.{kept_of, kept_at, kept_voted, kept_by_tally, without_kept};
 ghost use Rattle.lks_audit.specs.Seen.{poll_of, polls_of, AreAgreed, MayVote, MayAsk, IsOn, RunsOn, forgetting};
 
 use crate::copies::Copies;
@@ -27,9 +29,10 @@ fn find(polls: &[PollSession], number: u32) -> Option<&PollSession>
 }
 
 /// The running poll of this number, if one runs.
-#[tactic(auto, using(crate::proofs::Sessions::poll_seen))]
+#[tactic(auto, using(crate::proofs::Sessions::poll_seen, crate::proofs::Keeping::kept_seen))]
 pub fn find_poll(polls: &[PollSession], number: u32) -> Option<&PollSession>
-    ensures { poll_at number (polls_of polls.now) ≡ option_map poll_of (option_copied result) }
+    ensures seen { poll_at number (polls_of polls.now) ≡ option_map poll_of (option_copied result) }
+    ensures kept { kept_at number (kept_of polls.now) ≡ option_map (λ s. s.tally.kept) (option_copied result) }
 {
     find(polls, number)
 }
@@ -88,7 +91,7 @@ impl Polls {
     }
 
     /// What the rules say about the votes of the poll of this number, over the copy that is held.
-    #[tactic(auto, using(crate::proofs::Sessions::found_poll, crate::proofs::Sessions::no_poll, crate::proofs::Sessions::seen_still, crate::proofs::Running::on_place, crate::proofs::Running::on_set))]
+    #[tactic(auto, using(crate::proofs::Sessions::found_poll, crate::proofs::Sessions::no_poll, crate::proofs::Sessions::seen_still, crate::proofs::Running::on_place, crate::proofs::Running::on_set, crate::proofs::Keeping::kept_counted, crate::proofs::Keeping::kept_uncounted))]
     pub fn tally(
         &mut self,
         alloc: Global,
@@ -104,6 +107,7 @@ impl Polls {
         ensures reaction { IfOk result (λ r. r ≡ for_poll (poll_at number (polls_of self.old)) (tally_in own.now tick (copies_of copies.now))) }
         ensures seen { polls_of self.new ≡ polls_of self.old }
         ensures on { All (IsOn own.now.id (copies_of copies.now)) self.new }
+        ensures kept { kept_of self.new ≡ kept_by_tally own.now (copies_of copies.now) number (poll_at number (polls_of self.old)) (kept_of self.old) }
     {
         match self.place(number) {
             Some(i) => tally_held(alloc, own, pool, copies, tick, &mut self.list[i]),
@@ -145,7 +149,7 @@ impl Polls {
     }
 
     /// What the poll of this number, which is agreed, makes of the reference list, if it runs; and the AU that it was on.
-    #[tactic(auto, using(crate::proofs::Sessions::found_poll, crate::proofs::Sessions::no_poll, crate::proofs::Sessions::seen_still, crate::proofs::Running::on_place, crate::proofs::Running::on_set, crate::proofs::Sessions::agreed_at_place))]
+    #[tactic(auto, using(crate::proofs::Sessions::found_poll, crate::proofs::Sessions::no_poll, crate::proofs::Sessions::seen_still, crate::proofs::Running::on_place, crate::proofs::Running::on_set, crate::proofs::Sessions::agreed_at_place, crate::proofs::Keeping::kept_agreed))]
     pub fn agree(
         &mut self,
         alloc: Global,
@@ -165,6 +169,7 @@ impl Polls {
         ensures err { OnErr result (references.new ≡ references.old) }
         ensures seen { polls_of self.new ≡ polls_of self.old }
         ensures on { All (IsOn own.now.id (copies_of copies.now)) self.new }
+        ensures kept { without_kept number (kept_of self.new) ≡ without_kept number (kept_of self.old) }
     {
         match self.place(number) {
             Some(i) => {
@@ -177,11 +182,12 @@ impl Polls {
     }
 
     /// Notes a nomination.
-    #[tactic(auto, using(crate::proofs::Running::on_nominated, crate::proofs::Sessions::put_nominated, crate::proofs::Sessions::put_nothing, crate::proofs::Running::on_none))]
+    #[tactic(auto, using(crate::proofs::Running::on_nominated, crate::proofs::Sessions::put_nominated, crate::proofs::Sessions::put_nothing, crate::proofs::Running::on_none, crate::proofs::Keeping::kept_still))]
     pub fn nominate(&mut self, number: u32, voter: PeerId, nominees: Ids) -> Result<(), OutOfMemory>
         ensures seen { OnOk result (polls_of self.new ≡ changed number (nominated_by voter nominees) (polls_of self.old)) }
         ensures on { OnOk result (RunsOn self.old self.new) }
         ensures err { OnErr result (self.new ≡ self.old) }
+        ensures kept { OnOk result (kept_of self.new ≡ kept_of self.old) }
     {
         match self.place(number) {
             Some(i) => self.list[i].nominated(voter, nominees),
@@ -190,10 +196,11 @@ impl Polls {
     }
 
     /// Notes that the outer circle was invited.
-    #[tactic(auto, using(crate::proofs::Running::on_widened, crate::proofs::Sessions::put_widened, crate::proofs::Sessions::put_nothing, crate::proofs::Running::on_none))]
+    #[tactic(auto, using(crate::proofs::Running::on_widened, crate::proofs::Sessions::put_widened, crate::proofs::Sessions::put_nothing, crate::proofs::Running::on_none, crate::proofs::Keeping::kept_still))]
     pub fn widen(&mut self, number: u32, outer: Ids)
         ensures seen { polls_of self.new ≡ changed number (widened_to outer) (polls_of self.old) }
         ensures on { RunsOn self.old self.new }
+        ensures kept { kept_of self.new ≡ kept_of self.old }
     {
         if let Some(i) = self.place(number) {
             self.list[i].widened(outer);
@@ -201,10 +208,11 @@ impl Polls {
     }
 
     /// Notes that voting ended.
-    #[tactic(auto, using(crate::proofs::Running::on_shut, crate::proofs::Sessions::put_shut, crate::proofs::Sessions::put_nothing, crate::proofs::Running::on_none))]
+    #[tactic(auto, using(crate::proofs::Running::on_shut, crate::proofs::Sessions::put_shut, crate::proofs::Sessions::put_nothing, crate::proofs::Running::on_none, crate::proofs::Keeping::kept_still))]
     pub fn shut(&mut self, number: u32)
         ensures seen { polls_of self.new ≡ changed number shut_now (polls_of self.old) }
         ensures on { RunsOn self.old self.new }
+        ensures kept { kept_of self.new ≡ kept_of self.old }
     {
         if let Some(i) = self.place(number) {
             self.list[i].shut_now();
@@ -212,10 +220,11 @@ impl Polls {
     }
 
     /// Notes that a request was answered, or given up.
-    #[tactic(auto, using(crate::proofs::Running::on_answered, crate::proofs::Sessions::put_answered, crate::proofs::Sessions::put_nothing, crate::proofs::Running::on_none))]
+    #[tactic(auto, using(crate::proofs::Running::on_answered, crate::proofs::Sessions::put_answered, crate::proofs::Sessions::put_nothing, crate::proofs::Running::on_none, crate::proofs::Keeping::kept_still))]
     pub fn answer(&mut self, number: u32)
         ensures seen { polls_of self.new ≡ changed number answered (polls_of self.old) }
         ensures on { RunsOn self.old self.new }
+        ensures kept { kept_of self.new ≡ kept_of self.old }
     {
         if let Some(i) = self.place(number) {
             self.list[i].answered();
@@ -223,10 +232,11 @@ impl Polls {
     }
 
     /// Takes out a poll that ended.
-    #[tactic(auto, using(crate::proofs::Running::on_gone, crate::proofs::Sessions::gone, crate::proofs::Sessions::gone_nothing, crate::proofs::Running::on_none))]
+    #[tactic(auto, using(crate::proofs::Running::on_gone, crate::proofs::Sessions::gone, crate::proofs::Sessions::gone_nothing, crate::proofs::Running::on_none, crate::proofs::Keeping::kept_gone, crate::proofs::Keeping::kept_not_gone))]
     pub fn close(&mut self, number: u32)
         ensures seen { polls_of self.new ≡ without_poll number (polls_of self.old) }
         ensures on { RunsOn self.old self.new }
+        ensures kept { kept_of self.new ≡ without_kept number (kept_of self.old) }
     {
         match self.place(number) {
             Some(i) => drop(self.list.remove(i)),
@@ -235,12 +245,13 @@ impl Polls {
     }
 
     /// Notes that a voter was asked for a block.
-    #[tactic(auto, using(crate::proofs::Running::on_asked, crate::proofs::Sessions::put_asked, crate::proofs::Sessions::put_nothing, crate::proofs::Running::on_none))]
+    #[tactic(auto, using(crate::proofs::Running::on_asked, crate::proofs::Sessions::put_asked, crate::proofs::Sessions::put_nothing, crate::proofs::Running::on_none, crate::proofs::Keeping::kept_still))]
     pub fn ask(&mut self, number: u32, block: u16, voter: PeerId) -> Result<(), OutOfMemory>
         requires { MayAsk number block self.old }
         ensures seen { OnOk result (polls_of self.new ≡ changed number (asking (record { block = block; voter = voter })) (polls_of self.old)) }
         ensures on { OnOk result (RunsOn self.old self.new) }
         ensures err { OnErr result (self.new ≡ self.old) }
+        ensures kept { OnOk result (kept_of self.new ≡ kept_of self.old) }
     {
         match self.place(number) {
             Some(i) => self.list[i].asked(block, voter),
@@ -249,12 +260,13 @@ impl Polls {
     }
 
     /// Notes a vote.
-    #[tactic(auto, using(crate::proofs::Running::on_voted, crate::proofs::Sessions::put_voted, crate::proofs::Sessions::put_nothing, crate::proofs::Running::on_none))]
+    #[tactic(auto, using(crate::proofs::Running::on_voted, crate::proofs::Sessions::put_voted, crate::proofs::Sessions::put_nothing, crate::proofs::Running::on_none, crate::proofs::Keeping::kept_voted_in, crate::proofs::Keeping::kept_unvoted))]
     pub fn vote(&mut self, number: u32, voter: PeerId, hashes: Hashes) -> Result<(), OutOfMemory>
         requires { MayVote number voter hashes self.old }
         ensures seen { OnOk result (polls_of self.new ≡ changed number (voted_by (record { voter = voter; hashes = hashes })) (polls_of self.old)) }
         ensures on { OnOk result (RunsOn self.old self.new) }
         ensures err { OnErr result (self.new ≡ self.old) }
+        ensures kept { OnOk result (kept_of self.new ≡ kept_voted number (has_inner_of (poll_at number (polls_of self.old)) voter) (kept_of self.old)) }
     {
         match self.place(number) {
             Some(i) => self.list[i].voted(voter, hashes),

@@ -5,6 +5,7 @@ ghost use Rattle.lks_base.specs.declared.limits.TheConstants.{MOST_BLOCKS};
 ghost use Rattle.lks_law.specs.Reacting.{tallied_as, verdict_of, tally_in, repair_in};
 ghost use Rattle.lks_audit.specs.Counted.{IsCountedOn, IsSmall, asked_of, done, answered_by, tally_over, repair_over};
 ghost use Rattle.lks_audit.specs.Copied.{copies_of, IsOf, HasBlocks};
+ghost use Rattle.lks_audit.specs.Kept.{kept_over, kept_tallied};
 ghost use Rattle.lks_audit.specs.Seen.{poll_of, IsOn};
 ghost use Rattle.lks_poller.specs.Rules.{IsKept};
 ghost use Rattle.lks_tally.specs.Keeping.{IsSame, kept_after};
@@ -101,6 +102,7 @@ pub fn tally<C: Contents>(
     ensures reaction { IfOk result (λ r. r ≡ tally_over own.now tick (C.blocks copy.now) (poll_of poll.old)) }
     ensures on { IsCountedOn own.now.id (C.blocks copy.now) poll.new }
     ensures seen { poll_of poll.new ≡ poll_of poll.old }
+    ensures kept { poll.new.tally.kept ≡ kept_over own.now (C.blocks copy.now) (poll_of poll.old) poll.old.tally.kept }
 {
     if !poll.is_shut() || poll.unanswered().is_some() {
         return Ok(no_reaction(alloc));
@@ -177,6 +179,7 @@ pub fn tally_held(
     ensures reaction { IfOk result (λ r. r ≡ tally_in own.now tick (copies_of copies.now) (poll_of poll.old)) }
     ensures seen { poll_of poll.new ≡ poll_of poll.old }
     ensures on { IsOn own.now.id (copies_of copies.now) poll.new }
+    ensures kept { poll.new.tally.kept ≡ kept_tallied own.now (copies_of copies.now) (poll_of poll.old) poll.old.tally.kept }
 {
     let copy = copies.read(pool, poll.au());
     tally(alloc, own, tick, poll, &copy)

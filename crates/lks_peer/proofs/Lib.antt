@@ -1,4 +1,5 @@
 pub mod Asking
+pub mod Counting
 pub mod Knowing
 pub mod Listing
 pub mod Welling

@@ -7,7 +7,9 @@ use Rattle.lks_law.specs.State.{Poll, State, blank}
 use Rattle.lks_law.specs.State as law
 use Rattle.lks_law.specs.World.{Standing}
 use Rattle.lks_peer.specs.declared.known.Known.{Known}
+use Rattle.lks_peer.specs.Keeping.{nothing_kept}
 use Rattle.lks_audit.specs.Copied.{copies_of, IsOf}
+use Rattle.lks_audit.specs.Kept.{Kept}
 use Rattle.lks_audit.specs.Seen.{polls_of, IsOn}
 
 -- the state
@@ -53,12 +55,13 @@ pub record IsMade (own : Station) (k : Known) : Type 0 where
 unfoldable pub AsksSmall : Option Poll → Type 0
 AsksSmall o = Where o (λ p. Where p.request (λ r. r.block ≤ LAST_BLOCK))
 
--- what a peer goes by, the pool of its blocks, and the state in which it is
+-- what a peer goes by, the pool of its blocks, the state in which it is, and for how many blocks its running polls keep hashes
 pub record Knowing : Type 0 where
   pub own : Station
   pub pool : List ℕ
   pub state : State
+  pub kept : List Kept
 
--- a peer with this journal, whose blocks are in this pool
+-- a peer with this journal, whose blocks are in this pool, and whose polls keep nothing yet
 abbrev pub knowing_of : List ℕ → Standing → Knowing
-knowing_of pool s = record { own = s.own; pool = pool; state = law.state_of s.own s.journal }
+knowing_of pool s = let state = law.state_of s.own s.journal in record { own = s.own; pool = pool; state = state; kept = nothing_kept state.polls }

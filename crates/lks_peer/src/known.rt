@@ -1,12 +1,14 @@
 //! What a peer knows, and what each record makes of it.
 
-ghost use Rattle.std.specs.Prelude.{◌≡◌, ◌<◌, ◌≤◌, ℕ, List, [], Option, option_map, is_some, true, length, OnOk, OnErr, All};
+ghost use Rattle.std.specs.Prelude.{◌≡◌, ◌<◌, ◌≤◌, ◌++◌, ◌∷◌, ℕ, List, [], Option, map, option_map, is_some, true, length, OnOk, OnErr, All};
 ghost use Rattle.lks_base.specs.declared.limits.TheConstants.{MOST_CIRCLE};
 ghost use Rattle.lks_base.specs.declared.names.Outcome.TheVariants as outcome;
 ghost use Rattle.lks_base.specs.declared.records.Record.TheVariants as record_of;
 ghost use Rattle.lks_law.specs.Fitting.{Fits, IsCounted, most_numbered};
 ghost use Rattle.lks_law.specs.State.{Poll, after, agreed_on, copy_at};
 ghost use Rattle.lks_audit.specs.Copied.{IsOf, MayReplace, copies_of};
+ghost use Rattle.lks_audit.specs.Kept.{kept_of, kept_before, without_kept};
+ghost use Rattle.lks_peer.specs.Keeping.{kept_after};
 ghost use Rattle.lks_peer.specs.Knows.{state_of, IsTied, StaysTied};
 ghost use Rattle.lks_audit.specs.Seen.{AreAgreed, MayAsk, MayVote, RunOver, polls_of};
 
@@ -40,6 +42,7 @@ pub fn nominate(
     ensures state { OnOk result (state_of known.new ≡ after own.now (state_of known.old) (record_of.Nominated number voter nominees.now)) }
     ensures tied { StaysTied known.old known.new }
     ensures err { OnErr result (state_of known.new ≡ state_of known.old) }
+    ensures kept { OnOk result (kept_of known.new.polls ≡ kept_of known.old.polls) }
 {
     let nominees = nominees.clone()?;
     known.polls.nominate(number, voter, nominees)?;
@@ -52,6 +55,7 @@ pub fn widen(own: &Station, known: &mut Known, number: u32, outer: &Ids) -> Resu
     ensures state { OnOk result (state_of known.new ≡ after own.now (state_of known.old) (record_of.OuterOpened number outer.now)) }
     ensures tied { StaysTied known.old known.new }
     ensures err { OnErr result (state_of known.new ≡ state_of known.old) }
+    ensures kept { OnOk result (kept_of known.new.polls ≡ kept_of known.old.polls) }
 {
     let outer = outer.clone()?;
     known.polls.widen(number, outer);
@@ -71,6 +75,7 @@ pub fn vote(
     ensures state { OnOk result (state_of known.new ≡ after own.now (state_of known.old) (record_of.VoteIn number voter hashes.now)) }
     ensures tied { StaysTied known.old known.new }
     ensures err { OnErr result (state_of known.new ≡ state_of known.old) }
+    ensures kept { OnOk result (kept_of known.new.polls ≡ kept_after (state_of known.old).polls (record_of.VoteIn number voter hashes.now) (kept_of known.old.polls)) }
 {
     let hashes = hashes.clone()?;
     known.polls.vote(number, voter, hashes)?;
@@ -82,6 +87,7 @@ pub fn vote(
 pub fn shut(own: &Station, known: &mut Known, number: u32)
     ensures state { state_of known.new ≡ after own.now (state_of known.old) (record_of.Shut number) }
     ensures tied { StaysTied known.old known.new }
+    ensures kept { kept_of known.new.polls ≡ kept_of known.old.polls }
 {
     known.polls.shut(number);
 }
@@ -99,6 +105,7 @@ pub fn ask(
     ensures state { OnOk result (state_of known.new ≡ after own.now (state_of known.old) (record_of.Asked number block voter)) }
     ensures tied { StaysTied known.old known.new }
     ensures err { OnErr result (state_of known.new ≡ state_of known.old) }
+    ensures kept { OnOk result (kept_of known.new.polls ≡ kept_of known.old.polls) }
 {
     known.polls.ask(number, block, voter)?;
     Ok(())
@@ -109,6 +116,7 @@ pub fn ask(
 pub fn give_up(own: &Station, known: &mut Known, number: u32, block: u16, voter: PeerId)
     ensures state { state_of known.new ≡ after own.now (state_of known.old) (record_of.RepairBad number block voter) }
     ensures tied { StaysTied known.old known.new }
+    ensures kept { kept_of known.new.polls ≡ kept_of known.old.polls }
 {
     known.polls.answer(number);
 }
@@ -120,6 +128,7 @@ pub fn close(own: &Station, known: &mut Known, number: u32)
     ensures split { (tick b : ℕ) → state_of known.new ≡ after own.now (state_of known.old) (record_of.Closed number (outcome.Split b) tick) }
     ensures none { (tick b : ℕ) → state_of known.new ≡ after own.now (state_of known.old) (record_of.Closed number (outcome.NoSupplier b) tick) }
     ensures tied { StaysTied known.old known.new }
+    ensures kept { kept_of known.new.polls ≡ without_kept number (kept_of known.old.polls) }
 {
     known.polls.close(number);
 }
@@ -129,6 +138,7 @@ pub fn close(own: &Station, known: &mut Known, number: u32)
 pub fn note(own: &Station, known: &mut Known, au: AuId, tick: u32)
     ensures state { state_of known.new ≡ after own.now (state_of known.old) (record_of.Overdue au tick) }
     ensures tied { StaysTied known.old known.new }
+    ensures kept { known.new.polls ≡ known.old.polls }
 {
     known.copies.note(au);
 }
@@ -138,6 +148,7 @@ pub fn note(own: &Station, known: &mut Known, au: AuId, tick: u32)
 pub fn tune(own: &Station, known: &mut Known, numbers: Numbers)
     ensures state { state_of known.new ≡ after own.now (state_of known.old) (record_of.Tuned numbers.quorum numbers.minority numbers.repairs) }
     ensures tied { StaysTied known.old known.new }
+    ensures kept { known.new.polls ≡ known.old.polls }
 {
     known.numbers = numbers;
 }
@@ -158,6 +169,7 @@ pub fn deposit<R: Wait>(
     ensures state { OnOk result (state_of known.new ≡ after own.now (state_of known.old) (record_of.Deposit au blocks.now)) }
     ensures tied { (id : ℕ) → IsTied id pool.now known.old → IsTied id pool.now known.new }
     ensures err { OnErr result (state_of known.new ≡ state_of known.old) }
+    ensures kept { OnOk result (known.new.polls ≡ known.old.polls) }
 {
     known
         .copies
@@ -166,7 +178,7 @@ pub fn deposit<R: Wait>(
 }
 
 /// Opens a poll on a held AU.
-#[tactic(auto, unfolding(lks_law::specs::State::after))]
+#[tactic(auto, unfolding(lks_law::specs::State::after), using(crate::proofs::Counting::kept_opened))]
 pub fn open(
     alloc: Global,
     own: &Station,
@@ -181,6 +193,7 @@ pub fn open(
     ensures state { OnOk result (state_of known.new ≡ after own.now (state_of known.old) (record_of.PollOpened number opening.now.au opening.now.nonce opening.now.inner tick opening.now.limits opening.now.kind)) }
     ensures tied { (pool : List ℕ) → IsTied own.now.id pool known.old → IsTied own.now.id pool known.new }
     ensures err { OnErr result (state_of known.new ≡ state_of known.old) }
+    ensures kept { OnOk result (kept_of known.new.polls ≡ kept_of known.old.polls ++ record { number = number; au = opening.now.au; count = 0 } ∷ []) }
 {
     let count = count_held(known.copies.as_slice(), opening.au);
     let poll = begin(alloc, own, number, count, opening)?;
@@ -191,7 +204,7 @@ pub fn open(
 }
 
 /// Puts other bytes in the place of a block, for which a poll asked.
-#[tactic(auto, unfolding(lks_law::specs::State::after), using(crate::proofs::Knowing::tied_replaced, crate::proofs::Knowing::forgotten_seen))]
+#[tactic(auto, unfolding(lks_law::specs::State::after), using(crate::proofs::Knowing::tied_replaced, crate::proofs::Knowing::forgotten_seen, crate::proofs::Counting::kept_forgotten))]
 pub fn replace<R: Wait>(
     alloc: Global,
     rt: &R,
@@ -207,6 +220,7 @@ pub fn replace<R: Wait>(
     ensures state { OnOk result (state_of known.new ≡ after own.now (state_of known.old) (record_of.Replaced number au block bytes.now)) }
     ensures tied { (id : ℕ) → IsTied id pool.now known.old → IsTied id pool.now known.new }
     ensures err { OnErr result (state_of known.new ≡ state_of known.old) }
+    ensures kept { OnOk result (kept_of known.new.polls ≡ map (kept_before au block) (kept_of known.old.polls)) }
 {
     known
         .copies
@@ -242,6 +256,7 @@ pub fn agree(
     ensures state { OnOk result (state_of known.new ≡ after own.now (state_of known.old) (record_of.Closed number outcome.Agreed tick)) }
     ensures tied { IsTied own.now.id pool.now known.new }
     ensures err { OnErr result (state_of known.new ≡ state_of known.old) }
+    ensures kept { OnOk result (kept_of known.new.polls ≡ without_kept number (kept_of known.old.polls)) }
 {
     let au = known.polls.agree(
         alloc,
@@ -272,6 +287,7 @@ fn end(
     ensures state { OnOk result (state_of known.new ≡ after own.now (state_of known.old) (record_of.Closed number how tick)) }
     ensures tied { IsTied own.now.id pool.now known.new }
     ensures err { OnErr result (state_of known.new ≡ state_of known.old) }
+    ensures kept { OnOk result (kept_of known.new.polls ≡ without_kept number (kept_of known.old.polls)) }
 {
     match how {
         Outcome::Agreed => agree(alloc, pool, own, known, number, tick),
@@ -305,6 +321,7 @@ pub fn apply<R: Wait>(
     ensures state { OnOk result (state_of known.new ≡ after own.now (state_of known.old) r.now) }
     ensures tied { IsTied own.now.id pool.now known.new }
     ensures err { OnErr result (state_of known.new ≡ state_of known.old) }
+    ensures kept { OnOk result (kept_of known.new.polls ≡ kept_after (state_of known.old).polls r.now (kept_of known.old.polls)) }
 {
     match r {
         Record::Deposit { au, blocks } => deposit(alloc, rt, pool, own, known, *au, blocks),

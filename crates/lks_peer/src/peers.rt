@@ -1,8 +1,9 @@
 //! A peer as others see it: what it goes by, and the state in which it is.
 
-ghost use Rattle.std.specs.Prelude.{◌≡◌, ◌≤◌, ◌<◌, ℕ, List, IfOk, IsSome, Some, None, OnOk, nat_lt, length, find, option_map, slice_get};
+ghost use Rattle.std.specs.Prelude.{◌≡◌, ◌≤◌, ◌<◌, ℕ, List, IfOk, IsSome, is_some, Some, None, OnOk, nat_lt, length, find, option_map, slice_get};
 ghost use Rattle.std.specs.List.{list_all, filter_map};
 ghost use Rattle.std.specs.Option.{option_copied};
+ghost use Rattle.lks_audit.specs.Kept.{kept_at, kept_of};
 ghost use Rattle.lks_audit.specs.Seen.{poll_of};
 ghost use Rattle.lks_base.specs.Checking.{plan_fault};
 ghost use Rattle.lks_base.specs.declared.plans.PeerPlan.{PeerPlan as Planned};
@@ -11,9 +12,10 @@ ghost use Rattle.lks_versions.specs.Shelf.{current_of};
 ghost use Rattle.lks_law.specs.Fitting.{AreFitting, Fits, most_numbered};
 ghost use Rattle.lks_law.specs.Fitting as fitting;
 ghost use Rattle.lks_law.specs.Reacting.{react_on};
-ghost use Rattle.lks_law.specs.State.{after, after_all, blank};
+ghost use Rattle.lks_law.specs.State.{after, after_all, blank, poll_at};
 ghost use Rattle.lks_law.specs.Turning.{ready_in, turn_in, ready_on, turns_on, has_inner_in};
 ghost use Rattle.lks_law.specs.World.{station_of, is_honest_at, honest_peer};
+ghost use Rattle.lks_peer.specs.Keeping.{Keeps, kept_after, kept_after_all};
 ghost use Rattle.lks_peer.specs.Knows.{state_of, IsFit, IsWell, IsMade, knowing_of};
 
 use crate::known::{Known, apply};
@@ -65,6 +67,7 @@ fn note<R: Wait>(
     requires well { IsWell own.now pool.now known.old }
     requires fits { Fits own.now (state_of known.old) r.now }
     ensures state { OnOk result (state_of known.new ≡ after own.now (state_of known.old) r.now) }
+    ensures kept { OnOk result (kept_of known.new.polls ≡ kept_after (state_of known.old).polls r.now (kept_of known.old.polls)) }
     ensures well { IsWell own.now pool.now known.new }
 {
     apply(alloc, rt, pool, own, known, r)
@@ -82,6 +85,7 @@ fn apply_all<R: Wait>(
     requires well { IsWell own.now pool.now known.old }
     requires fits { AreFitting own.now (state_of known.old) records.now }
     ensures state { OnOk result (state_of known.new ≡ after_all own.now (state_of known.old) records.now) }
+    ensures kept { OnOk result (kept_of known.new.polls ≡ kept_after_all own.now (state_of known.old) records.now (kept_of known.old.polls)) }
     ensures well { IsWell own.now pool.now known.new }
 {
     for r in records {
@@ -178,11 +182,12 @@ pub struct Peer {
 }
 
 impl Model for Peer {
+    ghost use Rattle.lks_audit.specs.Kept.{kept_of};
     ghost use Rattle.lks_peer.specs.Knows.{Knowing, state_of, IsWell};
 
     ghost Value = { Knowing };
 
-    ghost view = { λ a. record { own = a.own; pool = a.mark; state = state_of a.known } };
+    ghost view = { λ a. record { own = a.own; pool = a.mark; state = state_of a.known; kept = kept_of a.known.polls } };
 
     ghost invariant = { λ a. IsWell a.own a.mark a.known };
 }
@@ -244,6 +249,7 @@ impl Peer {
         ensures state { IfOk result (λ r. self.new.state ≡ after_all self.old.own self.old.state r.records) }
         ensures fits { IfOk result (λ r. AreFitting self.old.own self.old.state r.records) }
         ensures fit { IsFit self.old.own self.old.state }
+        ensures kept { IfOk result (λ r. Keeps self.old.own self.old.state input.now r.records self.old.kept self.new.kept) }
         ensures own { self.new.own ≡ self.old.own }
         ensures pool { self.new.pool ≡ self.old.pool }
     {
@@ -281,6 +287,17 @@ impl Peer {
         match find_poll(self.known.polls.as_slice(), number) {
             Some(poll) => has_member(poll.inner(), voter),
             None => false,
+        }
+    }
+
+    /// For how many blocks, from the first one on, the running poll `number` keeps the running hashes of its votes.
+    pub fn kept(&self, number: u32) -> Option<u16>
+        ensures kept { result ≡ kept_at number self.now.kept }
+        ensures running { is_some result ≡ is_some (poll_at number self.now.state.polls) }
+    {
+        match find_poll(self.known.polls.as_slice(), number) {
+            Some(poll) => Some(poll.kept()),
+            None => None,
         }
     }
 

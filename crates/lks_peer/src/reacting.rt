@@ -3,6 +3,8 @@
 ghost use Rattle.std.specs.Prelude.{◌≡◌, ◌<◌, IfOk};
 ghost use Rattle.lks_law.specs.Fitting.{most_numbered};
 ghost use Rattle.lks_law.specs.Reacting.{react_on, receive_in};
+ghost use Rattle.lks_audit.specs.Kept.{kept_of};
+ghost use Rattle.lks_peer.specs.Keeping.{kept_deciding};
 ghost use Rattle.lks_peer.specs.Knows.{state_of, IsTied, IsWell};
 
 use crate::known::Known;
@@ -57,7 +59,7 @@ fn hear(
     }
 }
 
-/// What it adds and sends.
+/// What it adds and sends. Where it counts votes, their hashes are kept.
 #[tactic(auto, unfolding(lks_law::specs::Reacting::react_on), using(crate::proofs::Asking::asks_small))]
 pub fn react(
     alloc: Global,
@@ -71,6 +73,7 @@ pub fn react(
     requires room { known.old.openings < most_numbered }
     ensures reaction { IfOk result (λ r. r ≡ react_on own.now (state_of known.old) tick input.now) }
     ensures seen { state_of known.new ≡ state_of known.old }
+    ensures kept { kept_of known.new.polls ≡ kept_deciding own.now (state_of known.old) input.now (kept_of known.old.polls) }
     ensures tied { IsTied own.now.id pool.now known.new }
 {
     let polls = known.polls.as_slice();
