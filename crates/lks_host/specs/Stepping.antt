@@ -1,5 +1,5 @@
--- A host that took a step.
-use Rattle.std.specs.Prelude.{◌≡◌, ◌≤◌, ◌+◌, List, Result, IfOk, OnOk}
+-- A host before and after a step.
+use Rattle.std.specs.Prelude.{◌≡◌, ◌≤◌, ◌+◌, ◌-◌, ℕ, false, List, Result, IfOk, OnOk}
 use Rattle.lks_base.specs.declared.reactions.Reaction.{Reaction}
 use Rattle.lks_disk.specs.Face.{Face}
 use Rattle.lks_base.specs.declared.records.Record.{Record}
@@ -7,11 +7,20 @@ use Rattle.lks_host.specs.Behaving.{Behaves, CallsFor}
 use Rattle.lks_host.specs.Bodies.{ReadBack}
 use Rattle.lks_host.specs.Faults.{as_journal, is_refused}
 use Rattle.lks_host.specs.Fits.{FitsBatch}
+use Rattle.lks_host.specs.Hosted.{StandsFor}
 use Rattle.lks_law.specs.Fitting.{AreFitting}
 use Rattle.lks_law.specs.Polls.{Station}
 use Rattle.lks_law.specs.State.{State, after_all}
 use Rattle.lks_host.specs.declared.faults.HostFault.{HostFault}
 use Rattle.lks_host.specs.declared.hosts.Host.{Host}
+
+-- No call of the host was refused, its blocks are in this pool, there is room for one batch more, and it stands for what its
+-- disk holds.
+pub record CanStep {D : Type 0} (f : Face D) (pool : List ℕ) (host : Host D) : Type 0 where
+  pub pooled : pool ≡ host.peer.pool
+  pub whole : host.broken ≡ false
+  pub room : 32768 ≤ 2147483647 - (host.journal.end + 1)
+  pub stands : f.told host.journal.disk → (batches : List (List Record)) × StandsFor f host batches
 
 -- The reaction is handed out once its records are in the peer's journal, and the peer is in the state that they make. After a
 -- refusal the host is broken.

@@ -1,9 +1,10 @@
 //! A step while the power fails.
 
-ghost use Rattle.std.specs.Prelude.{◌≡◌, ◌≤◌, ◌+◌, List, false, IfOk, OnOk};
+ghost use Rattle.std.specs.Prelude.{◌≤◌, ◌+◌, List, IfOk, OnOk};
 ghost use Rattle.lks_base.specs.declared.records.Record.{Record as Recorded};
 ghost use Rattle.lks_host.specs.Cutting.{CutsOff, IsBack};
 ghost use Rattle.lks_host.specs.Hosted.{StandsFor, IsMadeBy};
+ghost use Rattle.lks_host.specs.Stepping.{CanStep};
 ghost use Rattle.lks_law.specs.Facts.{IsHeard};
 ghost use Rattle.lks_law.specs.Reacting.{react_on};
 
@@ -26,12 +27,9 @@ pub fn cut_step<R: Wait, D: CrashDisk>(
     calls: u32,
     choice: u64,
 ) -> Result<Outcome, HostFault>
-    requires pool { pool.now ≡ host.old.peer.pool }
+    requires can { CanStep D.face pool.now host.old }
     requires made { IsMadeBy plan.now host.old.peer.own }
-    requires whole { host.old.broken ≡ false }
     requires heard { IsHeard input.now }
-    requires room { host.old.journal.end + 32769 ≤ 2147483647 }
-    requires stands { (batches : List (List Recorded)) × StandsFor D.face host.old batches }
     ensures cuts { (batches : List (List Recorded)) → StandsFor D.face host.old batches →
         IfOk result (CutsOff D.face batches (react_on host.old.peer.own host.old.peer.state tick input.now) calls host.old host.new) }
     ensures back { IsBack D.face host.old host.new result }

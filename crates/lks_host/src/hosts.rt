@@ -56,7 +56,7 @@ impl<D: Disk> Host<D> {
     ghost use Rattle.lks_host.specs.Fits.{AreFirst};
     ghost use Rattle.lks_host.specs.declared.faults.HostFault.TheVariants.{Memory};
     ghost use Rattle.lks_host.specs.Hosted.{Holds, StandsFor, answer_of, disk_hosted};
-    ghost use Rattle.lks_host.specs.Stepping.{Stepped, IsWritten};
+    ghost use Rattle.lks_host.specs.Stepping.{CanStep, Stepped, IsWritten};
 
     /// The honest peer `id` of a good plan, on an empty disk: its deposits are there, one batch each. Nothing is written
     /// before the peer is made.
@@ -125,11 +125,8 @@ impl<D: Disk> Host<D> {
         tick: u32,
         input: &Input,
     ) -> Result<Reaction, HostFault>
-        requires pool { pool.now ≡ self.old.peer.pool }
-        requires whole { self.old.broken ≡ false }
+        requires can { CanStep D.face pool.now self.old }
         requires heard { IsHeard input.now }
-        requires room { 32768 ≤ 2147483647 - (self.old.journal.end + 1) }
-        requires stands { D.face.told self.old.journal.disk → (batches : List (List Recorded)) × StandsFor D.face self.old batches }
         ensures stepped { Stepped D.face self.old self.new (react_on self.old.peer.own self.old.peer.state tick input.now) result }
         ensures stands { D.face.told self.old.journal.disk → (batches : List (List Recorded)) → StandsFor D.face self.old batches →
             IfOk result (λ r. StandsFor D.face self.new (with_batch batches r.records)) }
@@ -221,7 +218,7 @@ impl<D: Disk> Host<D> {
 
 impl<D: CrashDisk> Host<D> {
     ghost use Rattle.lks_host.specs.Hosted.{StandsFor, LiesOn, IsMadeBy};
-    ghost use Rattle.lks_host.specs.Recovering.{Recovers};
+    ghost use Rattle.lks_host.specs.Recovering.{CanRecover, Recovers};
 
     /// Sets a fuse on the disk: so many writes and syncs pass, and the next one is cut off.
     pub fn fuse(&mut self, calls: u32, choice: u64)
@@ -256,10 +253,8 @@ impl<D: CrashDisk> Host<D> {
         pool: &BlockPool,
         plan: &Plan,
     ) -> Result<Recovered, HostFault>
-        requires pool { pool.now ≡ self.old.peer.pool }
+        requires can { CanRecover D.face pool.now self.old }
         requires made { IsMadeBy plan.now self.old.peer.own }
-        requires unfused { D.face.fused self.old.journal.disk ≡ false }
-        requires lies { (batches : List (List Recorded)) × LiesOn D.face self.old.peer.own self.old.journal.disk batches }
         ensures recovers { (batches : List (List Recorded)) → LiesOn D.face self.old.peer.own self.old.journal.disk batches → Recovers D.face self.old self.new batches result }
         ensures broken { self.new.broken ≡ is_refused result }
         ensures own { self.new.peer.own ≡ self.old.peer.own }

@@ -3,10 +3,12 @@ ghost use Rattle.std.specs.Prelude.{◌≡◌, ◌≤◌, ◌+◌, List, false, 
 ghost use Rattle.lks_base.specs.declared.records.Record.{Record as Recorded};
 ghost use Rattle.lks_disk.specs.MemFace.{mem_face};
 ghost use Rattle.lks_host.specs.Hosted.{StandsFor, IsMadeBy};
+ghost use Rattle.lks_host.specs.Stepping.{CanStep};
 
 use crate::{Host, HostFault, Outcome, cut_step};
 use lks_base::{
-    AuPlan, Blocks, Bytes, HashKind, Holding, Ids, Input, OutOfMemory, PeerPlan, Plan, Rules, Seq,
+    AuPlan, Blocks, Bytes, HashKind, Holding, Ids, Input, Judged, Message, OutOfMemory, PeerPlan,
+    Plan, Reaction, Rules, Seq,
 };
 use lks_blocks::BlockPool;
 use lks_disk::MemDisk;
@@ -29,32 +31,72 @@ const RULES: Rules = Rules {
     churn: 0,
 };
 
+const SEED: [u8; 32] =
+    *b"\x01\x00\x00\x00\x00\x00\x00\x00\x00\x00\x00\x00\x00\x00\x00\x00\x00\x00\x00\x00\x00\x00\x00\x00\x00\x00\x00\x00\x00\x00\x00\x00";
+
+/// A proof of effort of one byte for poll 1 of a peer with this seed. The nonce between the poll's number and the proof is by
+/// another implementation of SHA-256.
+const PROOF: &[u8] =
+    b"\x01\x03\x00\x00\x00\x01\x0d\x00\xe5\xe6\xa8\xa8\x16\xce\x10\x26\x5b\xd3\x71\xe0\x54\x0c\xe6\x12\x67\xae\xae\x9a\x83\x5e\x35\xde\x02\x48\x49\x3c\x5d\x44\x01\x01";
+
 fn copy_of(alloc: Global, au: u16) -> Result<Holding, OutOfMemory> {
     let block = Bytes::from_vec(vec![in alloc; 65]?);
     let blocks = Blocks::from_vec(vec![in alloc; block]?);
     Ok(Holding { au, blocks })
 }
 
-/// One honest peer with copies of two AUs.
-fn plan_of_one(alloc: Global) -> Result<Plan, OutOfMemory> {
-    let copies = vec![in alloc; copy_of(alloc, 1)?, copy_of(alloc, 2)?]?;
-    let peer = PeerPlan {
-        id: 1,
-        corrupt: false,
-        seed: [1; 32],
-        proof: Bytes::from_vec(Vec::new(alloc)),
-        refs: Ids::from_vec(Vec::new(alloc)),
+/// A peer of a plan, with these copies. It is corrupt where it has none.
+fn peer_of(
+    alloc: Global,
+    id: u16,
+    seed: [u8; 32],
+    refs: &[u16],
+    copies: Vec<Holding>,
+) -> Result<PeerPlan, OutOfMemory> {
+    Ok(PeerPlan {
+        id,
+        corrupt: copies.is_empty(),
+        seed,
+        proof: Bytes::from_vec(vec![in alloc; 1]?),
+        refs: Ids::from_vec(refs.to_vec(alloc)?),
         friends: Ids::from_vec(Vec::new(alloc)),
         copies: Seq::from_vec(copies),
         hash: HashKind::Sha256,
-    };
+    })
+}
+
+/// A plan with two AUs of one block.
+fn plan_of(alloc: Global, peers: Vec<PeerPlan>) -> Result<Plan, OutOfMemory> {
     let aus = vec![in alloc; AuPlan { id: 1, count: 1 }, AuPlan { id: 2, count: 1 }]?;
     Ok(Plan {
         rules: RULES,
         turns: 0,
         aus: Seq::from_vec(aus),
-        peers: Seq::from_vec(vec![in alloc; peer]?),
+        peers: Seq::from_vec(peers),
     })
+}
+
+fn copies_of(alloc: Global) -> Result<Vec<Holding>, OutOfMemory> {
+    let mut copies = Vec::new(alloc);
+    for au in [1, 2] {
+        copies.push(copy_of(alloc, au)?)?;
+    }
+    Ok(copies)
+}
+
+/// One honest peer with copies of two AUs.
+fn plan_of_one(alloc: Global) -> Result<Plan, OutOfMemory> {
+    let mut peers = Vec::new(alloc);
+    peers.push(peer_of(alloc, 1, [1; 32], &[], copies_of(alloc)?)?)?;
+    plan_of(alloc, peers)
+}
+
+/// The same with a corrupt peer in its reference list, and the seed of which the nonce of its first poll is known.
+fn plan_of_two(alloc: Global) -> Result<Plan, OutOfMemory> {
+    let mut peers = Vec::new(alloc);
+    peers.push(peer_of(alloc, 1, SEED, &[2], copies_of(alloc)?)?)?;
+    peers.push(peer_of(alloc, 2, [2; 32], &[], Vec::new(alloc))?)?;
+    plan_of(alloc, peers)
 }
 
 /// The host of peer 1 on an empty disk of which these reads fail.
@@ -89,6 +131,10 @@ fn name_of(outcome: &Outcome) -> &'static str {
         Outcome::Kept(_) => "kept",
         Outcome::Lost => "lost",
     }
+}
+
+fn has_failed(outcome: &Result<Outcome, HostFault>) -> bool {
+    matches!(outcome, Err(HostFault::Failed))
 }
 
 /// Cuts off two steps of a new host, and answers what became of each, and how many batches there are.
@@ -167,6 +213,19 @@ fn recover_twice<R: Wait>(
     Ok([(first, broken), (second, host.broken())])
 }
 
+/// Cuts off a step of a new host whose first read fails. Answers whether the step failed, and whether the host was broken.
+fn cut_before_failed_read<R: Wait>(
+    alloc: Global,
+    rt: &R,
+    pool: &BlockPool,
+    plan: &Plan,
+) -> Result<(bool, bool), Fail> {
+    let mut host = host_of(alloc, rt, pool, plan, &[1])?;
+    let open = Input::OpenPoll { au: 1 };
+    let outcome = cut_step(rt, pool, &mut host, plan, 1, &open, 0, 0);
+    Ok((has_failed(&outcome), host.broken()))
+}
+
 #[test]
 fn recovers_after_a_failed_read(rt: HostRuntime) -> Result<(), Fail> {
     let alloc = rt.alloc();
@@ -182,18 +241,57 @@ fn recovers_after_a_failed_read(rt: HostRuntime) -> Result<(), Fail> {
     }
 
     // A step that is cut off is answered by the fault of its recovery.
-    let mut host = host_of(alloc, &rt, &pool, &plan, &[1])?;
-    let outcome = cut_step(
-        &rt,
-        &pool,
-        &mut host,
-        &plan,
-        1,
-        &Input::OpenPoll { au: 1 },
-        0,
-        0,
+    assert_eq!(rt;
+        cut_before_failed_read(alloc, &rt, &pool, &plan)?,
+        (true, true)
     );
-    assert!(rt; matches!(outcome, Err(HostFault::Failed)));
-    assert!(rt; host.broken());
+    Ok(())
+}
+
+/// The host of peer 1 once it opened its first poll.
+fn polling_host<R: Wait>(
+    alloc: Global,
+    rt: &R,
+    pool: &BlockPool,
+    plan: &Plan,
+) -> Result<Host<MemDisk>, Fail>
+    ensures { IfOk result (CanStep mem_face pool.now) }
+{
+    let mut host = host_of(alloc, rt, pool, plan, &[])?;
+    host.step(rt, pool, 1, &Input::OpenPoll { au: 1 })?;
+    Ok(host)
+}
+
+/// What it adds and sends once peer 2 agreed to vote.
+fn answer_of<R: Wait>(
+    alloc: Global,
+    rt: &R,
+    pool: &BlockPool,
+    plan: &Plan,
+) -> Result<Reaction, Fail> {
+    let mut host = polling_host(alloc, rt, pool, plan)?;
+    let agreed = Input::Got {
+        from: 2,
+        message: Message::PollChallenge {
+            number: 1,
+            yes: true,
+        },
+        judged: Judged::NotAsked,
+    };
+    Ok(host.step(rt, pool, 2, &agreed)?)
+}
+
+#[test]
+fn proof_after_challenge(rt: HostRuntime) -> Result<(), Fail> {
+    let alloc = rt.alloc();
+    let plan = plan_of_two(alloc)?;
+    let pool = BlockPool::new(alloc)?;
+    let answer = answer_of(alloc, &rt, &pool, &plan)?;
+    assert!(rt; answer.records.as_slice().is_empty());
+    let [outgoing] = answer.sends.as_slice() else {
+        return Err("one message".into());
+    };
+    assert_eq!(rt; outgoing.to, 2);
+    assert_eq!(rt; outgoing.bytes.as_slice(), PROOF);
     Ok(())
 }

@@ -14,23 +14,25 @@ use Rattle.lks_peer.specs.Knows.{Knowing}
 use Rattle.lks_record.specs.Spelling.{batch_spelling}
 use Rattle.lks_host.proofs.cutting.cut_step.Goals as goal
 
-pub recover-requires-clause-lies : goal.recover-requires-clause-lies
-recover-requires-clause-lies g c =
-    let batches = c.requires.stands.0 in
-    let at = c.requires.stands.1 in
+pub recover-requires-clause-can : goal.recover-requires-clause-can
+recover-requires-clause-can g c =
     let laws = g.met.D.CrashDisk g.world.𝓛 g.world.𝓜 g.world.𝓡 ((λ s x. x), (λ x. x), (λ x. x), λ x. x) in
+    let stands = c.requires.can.stands (laws.tells c.args.host.now.journal.disk) in
+    let batches = stands.0 in
+    let at = stands.1 in
     let told : g.D.Disk.face.told c.fuse.new.self.journal.disk = laws.tells c.fuse.new.self.journal.disk in
     let stood = c.fuse.ensures.stands batches at in
     let there = c.in-Ok.ensures.stands told batches stood in
     let more = with_batch batches c.in-Ok.reaction.records in
     let lies : LiesOn g.D.Disk.face c.power_cut.new.self.peer.own c.power_cut.new.self.journal.disk more = c.power_cut.ensures.lies more there in
-    λ κs lives. (more, lies)
+    λ κs lives. record { pooled = search rules; unfused = search rules; lies = (more, lies) }
 
-pub recover-requires-in-Err-Cut-clause-lies : goal.recover-requires-in-Err-Cut-clause-lies
-recover-requires-in-Err-Cut-clause-lies g c =
-    let batches = c.requires.stands.0 in
-    let at = c.requires.stands.1 in
+pub recover-requires-in-Err-Cut-clause-can : goal.recover-requires-in-Err-Cut-clause-can
+recover-requires-in-Err-Cut-clause-can g c =
     let laws = g.met.D.CrashDisk g.world.𝓛 g.world.𝓜 g.world.𝓡 ((λ s x. x), (λ x. x), (λ x. x), λ x. x) in
+    let stands = c.requires.can.stands (laws.tells c.args.host.now.journal.disk) in
+    let batches = stands.0 in
+    let at = stands.1 in
     let told : g.D.Disk.face.told c.fuse.new.self.journal.disk = laws.tells c.fuse.new.self.journal.disk in
     let stood = c.fuse.ensures.stands batches at in
     let peer = c.fuse.new.self.peer in
@@ -40,10 +42,14 @@ recover-requires-in-Err-Cut-clause-lies g c =
     let own : c.fuse.new.self.peer.own ≡ c.power_cut-in-Err-Cut.new.self.peer.own = sym (ap (λ (k : Knowing). k.own) c.power_cut-in-Err-Cut.ensures.peer ∙ c.step.ensures.stepped.own) in
     let either = cut_lies g.D.Disk.face c.fuse.new.self c.step.new.self c.power_cut-in-Err-Cut.new.self.journal.disk batches records c.args.calls (as_journal c.step.result) stood
     (c.step.ensures.read enough).fit (c.step.ensures.adds told batches stood) cut c.fuse.ensures.fused.left (c.step.ensures.read enough).read c.power_cut-in-Err-Cut.ensures.lost in
-    λ κs lives. elim either [
-      | inl lies ↦ (batches, (subst (λ (o : Station). LiesOn g.D.Disk.face o c.power_cut-in-Err-Cut.new.self.journal.disk batches) own lies))
-      | inr p ↦ (with_batch batches records, (subst (λ (o : Station). LiesOn g.D.Disk.face o c.power_cut-in-Err-Cut.new.self.journal.disk (with_batch batches records)) own p.1))
-    ]
+    λ κs lives. record {
+      pooled = search rules;
+      unfused = search rules;
+      lies = elim either [
+        | inl lies ↦ (batches, (subst (λ (o : Station). LiesOn g.D.Disk.face o c.power_cut-in-Err-Cut.new.self.journal.disk batches) own lies))
+        | inr p ↦ (with_batch batches records, (subst (λ (o : Station). LiesOn g.D.Disk.face o c.power_cut-in-Err-Cut.new.self.journal.disk (with_batch batches records)) own p.1))
+      ];
+    }
 
 pub returns-in_ok-recover-in-Ok-clause-cuts : goal.returns-in_ok-recover-in-Ok-clause-cuts
 returns-in_ok-recover-in-Ok-clause-cuts g c = λ batches at.
@@ -68,9 +74,10 @@ returns-in_ok-recover-in-Ok-clause-cuts g c = λ batches at.
 
 pub returns-in_ok-recover-in-Ok-clause-end : goal.returns-in_ok-recover-in-Ok-clause-end
 returns-in_ok-recover-in-Ok-clause-end g c =
-    let batches = c.requires.stands.0 in
-    let at = c.requires.stands.1 in
     let laws = g.met.D.CrashDisk g.world.𝓛 g.world.𝓜 g.world.𝓡 ((λ s x. x), (λ x. x), (λ x. x), λ x. x) in
+    let stands = c.requires.can.stands (laws.tells c.args.host.now.journal.disk) in
+    let batches = stands.0 in
+    let at = stands.1 in
     let told : g.D.Disk.face.told c.fuse.new.self.journal.disk = laws.tells c.fuse.new.self.journal.disk in
     let stood = c.fuse.ensures.stands batches at in
     let there = c.in-Ok.ensures.stands told batches stood in
@@ -107,9 +114,10 @@ returns-then-found-before-clause-cuts g c = λ batches at.
 
 pub returns-then-found-before-clause-end : goal.returns-then-found-before-clause-end
 returns-then-found-before-clause-end g c =
-    let batches = c.requires.stands.0 in
-    let at = c.requires.stands.1 in
     let laws = g.met.D.CrashDisk g.world.𝓛 g.world.𝓜 g.world.𝓡 ((λ s x. x), (λ x. x), (λ x. x), λ x. x) in
+    let stands = c.requires.can.stands (laws.tells c.args.host.now.journal.disk) in
+    let batches = stands.0 in
+    let at = stands.1 in
     let told : g.D.Disk.face.told c.fuse.new.self.journal.disk = laws.tells c.fuse.new.self.journal.disk in
     let stood = c.fuse.ensures.stands batches at in
     let peer = c.fuse.new.self.peer in
@@ -155,9 +163,10 @@ returns-else-found-before-clause-cuts g c = λ batches at.
 
 pub returns-else-found-before-clause-end : goal.returns-else-found-before-clause-end
 returns-else-found-before-clause-end g c =
-    let batches = c.requires.stands.0 in
-    let at = c.requires.stands.1 in
     let laws = g.met.D.CrashDisk g.world.𝓛 g.world.𝓜 g.world.𝓡 ((λ s x. x), (λ x. x), (λ x. x), λ x. x) in
+    let stands = c.requires.can.stands (laws.tells c.args.host.now.journal.disk) in
+    let batches = stands.0 in
+    let at = stands.1 in
     let told : g.D.Disk.face.told c.fuse.new.self.journal.disk = laws.tells c.fuse.new.self.journal.disk in
     let stood = c.fuse.ensures.stands batches at in
     let peer = c.fuse.new.self.peer in

@@ -1,3 +1,4 @@
+use Rattle.std.proofs.Common.{arith, rules}
 use Rattle.std.specs.Prelude.{ℕ, List}
 use Rattle.lks_base.specs.declared.reactions.Reaction.{Reaction}
 use Rattle.lks_base.specs.declared.records.Record.{Record}
@@ -17,7 +18,12 @@ still_stands f batches r calls old new (Whole x) off = (with_batch batches r.rec
 still_stands f batches r calls old new (Kept records) off = (with_batch batches r.records, off.3)
 still_stands f batches r calls old new Lost off = (batches, off.1)
 
-pub cut_step-requires-2-clause-stands : goal.cut_step-requires-2-clause-stands
-cut_step-requires-2-clause-stands g c = λ κs lives.
+pub cut_step-requires-2-clause-can : goal.cut_step-requires-2-clause-can
+cut_step-requires-2-clause-can g c = λ κs lives.
     let stood = c.in_ok-host.ensures.stands in
-    still_stands mem_face stood.0 _ c.args.calls c.in_ok-host.host c.cut_step.new.host c.in_ok-first.first (c.in_ok-first.ensures.cuts stood.0 stood.1)
+    record {
+      pooled = search rules;
+      whole = search rules;
+      room = omega (arith, c.in_ok-host.ensures.end, c.in_ok-first.ensures.end);
+      stands = λ told. still_stands mem_face stood.0 _ c.args.calls c.in_ok-host.host c.cut_step.new.host c.in_ok-first.first (c.in_ok-first.ensures.cuts stood.0 stood.1);
+    }

@@ -1,4 +1,4 @@
-use Rattle.std.proofs.Common.{◌≡◌, ◌∙◌, ap, refl, sym}
+use Rattle.std.proofs.Common.{◌∙◌, ap, refl, sym}
 use Rattle.std.specs.Prelude.{Some}
 use Rattle.lks_host.proofs.Beginning.{begun_fitting, of_begun, option_at}
 use Rattle.lks_host.proofs.Standing.{stands_begun}

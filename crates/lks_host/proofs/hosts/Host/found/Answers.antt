@@ -1,5 +1,5 @@
 use Rattle.std.proofs.Common.{◌≡◌, false, length, rules, subst}
-use Rattle.std.specs.Prelude.{List, Result, Ok, IfOk, map}
+use Rattle.std.specs.Prelude.{List, map}
 use Rattle.lks_base.specs.declared.records.Record.{Record}
 use Rattle.lks_host.proofs.Beginning.{on_ok}
 use Rattle.lks_host.specs.Bodies.{bodies_of, AreRead}

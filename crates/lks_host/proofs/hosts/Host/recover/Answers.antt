@@ -16,14 +16,14 @@ pub refusal-requires : goal.refusal-requires
 refusal-requires g c =
     let laws = g.met.D.CrashDisk g.world.𝓛 g.world.𝓜 g.world.𝓡 ((λ s x. x), (λ x. x), (λ x. x), λ x. x) in
     let told : g.D.Disk.face.told c.args.self.now.journal.disk = laws.tells c.args.self.now.journal.disk in
-    of_disk c.in-Err.fault (bodies_of c.requires.lies.0) _ (λ e. c.in-Err.ensures.full (ap Err e)) (λ offset e. (c.in-Err.ensures.found told).damaged offset (ap Err e)) c.requires.lies.1.holds
+    of_disk c.in-Err.fault (bodies_of c.requires.can.lies.0) _ (λ e. c.in-Err.ensures.full (ap Err e)) (λ offset e. (c.in-Err.ensures.found told).damaged offset (ap Err e)) c.requires.can.lies.1.holds
 
 pub read_journal-requires : goal.read_journal-requires
 read_journal-requires g c =
     let laws = g.met.D.CrashDisk g.world.𝓛 g.world.𝓜 g.world.𝓡 ((λ s x. x), (λ x. x), (λ x. x), λ x. x) in
     let told : g.D.Disk.face.told c.args.self.now.journal.disk = laws.tells c.args.self.now.journal.disk in
-    let batches = c.requires.lies.0 in
-    let lies = c.requires.lies.1 in
+    let batches = c.requires.can.lies.0 in
+    let lies = c.requires.can.lies.1 in
     let same : c.deref.result.now ≡ bodies_of batches = c.deref.ensures.value ∙ same_batches g.D.Disk.face c.args.self.now.peer.own c.args.self.now.journal.disk batches c.in-Ok.bodies.items lies (c.in-Ok.ensures.found told).bodies in
     record { written = (batches, same, lies.read) }
 
@@ -31,8 +31,8 @@ pub restore-requires-clause-fits : goal.restore-requires-clause-fits
 restore-requires-clause-fits g c = λ p there.
     let laws = g.met.D.CrashDisk g.world.𝓛 g.world.𝓜 g.world.𝓡 ((λ s x. x), (λ x. x), (λ x. x), λ x. x) in
     let told : g.D.Disk.face.told c.args.self.now.journal.disk = laws.tells c.args.self.now.journal.disk in
-    let batches = c.requires.lies.0 in
-    let lies = c.requires.lies.1 in
+    let batches = c.requires.can.lies.0 in
+    let lies = c.requires.can.lies.1 in
     let own = c.args.self.now.peer.own in
     let same : c.deref.result.now ≡ bodies_of batches = c.deref.ensures.value ∙ same_batches g.D.Disk.face own c.args.self.now.journal.disk batches c.in-Ok.bodies.items lies (c.in-Ok.ensures.found told).bodies in
     let list : c.deref-2.result.now ≡ together batches = c.deref-2.ensures.value ∙ c.in_ok-list.ensures.all batches same lies.read in

@@ -21,7 +21,7 @@ returns-in-Ok-keep-clause-stands g c = λ told batches stood.
     stands_after g.D.Disk.face c.args.self.now host batches records stood c.in-Ok.ensures.own c.in-Ok.ensures.state c.in-Ok.ensures.fits
     (subst (λ (records : List Record). IsSettled g.D.Disk.face c.keep.new.journal (bodies_of (with_batch batches records))) c.as_slice.ensures (c.in-Ok-keep.ensures.adds told batches stood.disk).ok)
     (read_more batches records stood.read (subst ReadBack c.as_slice.ensures (c.in-Ok-keep.ensures.read (λ e. absurd cc))))
-    (omega (arith, c.requires.room))
+    (omega (arith, c.requires.can.room))
     (subst (λ (records : List Record). c.count_with-self.result ≡ count_after c.args.self.now.count records) c.as_slice-in-Ok-keep.ensures c.count_with-self.ensures)
 
 pub keep-requires-clause-fits : goal.keep-requires-clause-fits
