@@ -195,7 +195,7 @@ is_sized au = is_within 1 512 au.count
 
 sized_au : (before : List AuPlan) (au : AuPlan) → au_fault before au ≡ None → is_sized au ≡ true
 unfolding au_fault
-sized_au before au e = stands _ _ (no_first _ _ e)
+sized_au before au e = (and_parts (is_within 0 65535 au.id) (is_sized au) (stands _ _ (no_first _ _ e))).1
 
 counted_sized : (aus : List AuPlan) (au n : ℕ) → has_counted aus au n ≡ true → list_all is_sized aus ≡ true → is_within 1 512 n ≡ true
 unfolding has_counted

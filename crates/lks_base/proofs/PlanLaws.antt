@@ -36,7 +36,9 @@ is_small_au au = nat_le au.count 512
 
 small_au : (before : List AuPlan) (au : AuPlan) → au_fault before au ≡ None → is_small_au au ≡ true
 unfolding au_fault
-small_au before au e = (and_parts (nat_le 1 au.count) (nat_le au.count 512) (stands _ _ (no_first _ _ e))).1
+small_au before au e =
+    let parts = and_parts (is_within 0 65535 au.id) (is_within 1 512 au.count) (stands _ _ (no_first _ _ e)) in
+    (and_parts (nat_le 1 au.count) (nat_le au.count 512) parts.1).1
 
 counted_small : (aus : List AuPlan) (au n : ℕ) → has_counted aus au n ≡ true → list_all is_small_au aus ≡ true → nat_le n 512 ≡ true
 unfolding has_counted
@@ -77,6 +79,14 @@ lists_stand plan good =
     aus_and_peers (unless (are_bounded plan.rules) Bounds) (unless (are_ordered plan.rules) RulesOrder) (unless (nat_le plan.turns 4096) Bounds)
     (unless (is_within 1 4 (length plan.aus)) Bounds) (each au_fault [] plan.aus) (unless (is_within 1 32 (length plan.peers)) Bounds)
     (each (peer_fault plan.aus plan.peers) [] plan.peers) (unless (nat_le (bytes_of_peers plan.peers) 134217728) Bounds) good
+
+numbered_au : (before : List AuPlan) (au : AuPlan) → au_fault before au ≡ None → is_within 0 65535 au.id ≡ true
+unfolding au_fault
+numbered_au before au e = (and_parts (is_within 0 65535 au.id) (is_within 1 512 au.count) (stands _ _ (no_first _ _ e))).0
+
+-- the number of an AU has two bytes
+pub numbered_aus : (plan : Plan) → plan_fault plan ≡ None → list_all (λ a. is_within 0 65535 a.id) plan.aus ≡ true
+numbered_aus plan good = all_of au_fault (λ a. is_within 0 65535 a.id) numbered_au [] plan.aus (lists_stand plan good).0
 
 -- no copy has more than 512 blocks
 pub small_copies : (plan : Plan) → plan_fault plan ≡ None → list_all is_small_peer plan.peers ≡ true

@@ -2,7 +2,7 @@
 use Rattle.std.specs.Prelude.{ℕ, Bool, true, not, ◌&&◌, ◌==◌, nat_le, if◌then◌else◌, Option, Some, None, Result, Ok, Err, List, [], ◌∷◌, ◌++◌, length, sum_by}
 use Rattle.std.specs.List.{list_any, list_all}
 use Rattle.lks_base.specs.Quorums.{obeys_quorum_rule}
-use Rattle.lks_base.specs.declared.limits.TheConstants.{MOST_AUS, MOST_BLOCKS, MOST_BLOCK_BYTES, MOST_CIRCLE, MOST_COPY_BYTES, MOST_EVENTS, MOST_PEERS, MOST_PROOF_BYTES, MOST_REPAIRS, MOST_TICKS}
+use Rattle.lks_base.specs.declared.limits.TheConstants.{LAST_NUMBER, MOST_AUS, MOST_BLOCKS, MOST_BLOCK_BYTES, MOST_CIRCLE, MOST_COPY_BYTES, MOST_EVENTS, MOST_PEERS, MOST_PROOF_BYTES, MOST_REPAIRS, MOST_TICKS}
 use Rattle.lks_base.specs.declared.plans.AuPlan.{AuPlan}
 use Rattle.lks_base.specs.declared.plans.Holding.{Holding}
 use Rattle.lks_base.specs.declared.plans.PeerPlan.{PeerPlan}
@@ -47,7 +47,7 @@ unfoldable pub has_au : List AuPlan → ℕ → Bool
 has_au aus id = list_any (λ a. a.id == id) aus
 
 unfoldable pub au_fault : List AuPlan → AuPlan → Option PlanFault
-au_fault before au = unless (is_within 1 MOST_BLOCKS au.count) Bounds ▹ unless (not (has_au before au.id)) Repeat
+au_fault before au = unless (is_within 0 LAST_NUMBER au.id && is_within 1 MOST_BLOCKS au.count) Bounds ▹ unless (not (has_au before au.id)) Repeat
 
 unfoldable pub has_peer : List PeerPlan → ℕ → Bool
 has_peer peers id = list_any (λ p. p.id == id) peers

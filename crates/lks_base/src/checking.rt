@@ -4,8 +4,8 @@ ghost use Rattle.std.specs.Prelude.{◌≡◌, ◌+◌, ◌<◌, IfSome, IfNone,
 ghost use Rattle.lks_base.specs.Checking.{fault_of, unless, each, is_within, are_bounded, are_ordered, has_au, au_fault, has_peer, has_corrupt, has_honest, has_member, member_fault, has_counted, has_copy, are_short, copy_fault, is_bare, is_fit, peer_fault, bytes_of_blocks, bytes_of_copies, bytes_of_peers, plan_fault};
 
 use crate::limits::{
-    MOST_AUS, MOST_BLOCK_BYTES, MOST_BLOCKS, MOST_CIRCLE, MOST_COPY_BYTES, MOST_EVENTS, MOST_PEERS,
-    MOST_PROOF_BYTES, MOST_REPAIRS, MOST_TICKS, obeys_quorum_rule,
+    LAST_NUMBER, MOST_AUS, MOST_BLOCK_BYTES, MOST_BLOCKS, MOST_CIRCLE, MOST_COPY_BYTES,
+    MOST_EVENTS, MOST_PEERS, MOST_PROOF_BYTES, MOST_REPAIRS, MOST_TICKS, obeys_quorum_rule,
 };
 use crate::lists::Bytes;
 use crate::plans::{AuPlan, Holding, PeerPlan, Plan, PlanFault, Rules};
@@ -55,12 +55,14 @@ pub fn has_au(aus: &[AuPlan], id: u16) -> bool
     aus.iter().any(|a| a.id == id)
 }
 
+// The type of a number says that it is at most the last one. The rule says it of a plan, from which proofs take it.
 #[tactic(auto, unfolding(crate::specs::Checking::au_fault))]
 fn check_au(before: &[AuPlan], au: &AuPlan) -> Result<(), PlanFault>
     ensures { fault_of result ≡ au_fault before.now au.now }
 {
     rule(
-        within(1, MOST_BLOCKS as usize, au.count as usize),
+        within(0, LAST_NUMBER as usize, au.id as usize)
+            && within(1, MOST_BLOCKS as usize, au.count as usize),
         PlanFault::Bounds,
     )?;
     rule(!has_au(before, au.id), PlanFault::Repeat)

@@ -9,6 +9,9 @@ pub const MOST_BLOCKS: u16 = 512;
 /// The last number that a block has.
 pub const LAST_BLOCK: u16 = 511;
 
+/// The last number that a peer or an AU has.
+pub const LAST_NUMBER: u16 = 65_535;
+
 /// Bytes of a block.
 pub const MOST_BLOCK_BYTES: u16 = 16_384;
 
