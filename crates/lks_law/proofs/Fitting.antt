@@ -1,15 +1,17 @@
 -- What the rules add fits the state, and its requests stay within their AUs.
-use Rattle.std.proofs.Common.{◌≡◌, ◌+◌, ◌<◌, ◌≤◌, ◌∙◌, ap, sym, subst, ℕ, Bool, true, false, cond, eqb, ltb, not, List, [], ◌∷◌, ◌++◌, length, refl, arith}
-use Rattle.std.specs.Prelude.{Option, Some, None, is_some, ◌&&◌, All, map}
+use Rattle.std.proofs.Common.{◌≡◌, ◌+◌, ◌<◌, ◌≤◌, ◌∙◌, ap, sym, subst, ℕ, Bool, true, false, cond, eqb, ltb, leb, not, List, [], ◌∷◌, ◌++◌, length, refl, arith}
+use Rattle.std.specs.Prelude.{Option, Some, None, is_some, ◌&&◌, All, map, find, slice_get}
 use Rattle.std.specs.List.{list_all, filter_map, cons_option}
-use Rattle.std.proofs.lemmas.Bool.{and_parts, eqb-true, ltb-true, not-true}
-use Rattle.std.proofs.lemmas.List.{length-set}
-use Rattle.std.proofs.lemmas.List.Elements.{All-cons, All-head, All-tail, All-push, All-weaker}
+use Rattle.std.proofs.lemmas.Bool.{and_parts, eqb-true, ltb-true, leb-true, not-true}
+use Rattle.std.proofs.lemmas.List.{append-nil, length-set}
+use Rattle.std.proofs.lemmas.List.Elements.{All-cons, All-head, All-tail, All-push, All-set, All-weaker}
 use Rattle.lks_base.specs.Checking.{has_member}
-use Rattle.lks_base.specs.declared.limits.TheConstants.{MOST_BLOCKS, MOST_CIRCLE}
+use Rattle.lks_base.specs.declared.limits.TheConstants.{MOST_BLOCKS, MOST_BLOCK_BYTES, MOST_CIRCLE, MOST_REPAIRS}
 use Rattle.lks_base.specs.declared.messages.Message.{Message}
 use Rattle.lks_base.specs.declared.messages.Message.TheVariants as message
+use Rattle.lks_base.specs.Quorums.{obeys_quorum_rule}
 use Rattle.lks_base.specs.declared.names.Judged.{Judged}
+use Rattle.lks_base.specs.declared.names.Judged.TheVariants.{NotAsked, Accepted, Refused}
 use Rattle.lks_base.specs.declared.names.Outcome.{Outcome}
 use Rattle.lks_base.specs.declared.names.Outcome.TheVariants as outcome
 use Rattle.lks_base.specs.declared.names.Outcome.TheVariants.{Agreed}
@@ -23,12 +25,23 @@ use Rattle.lks_base.specs.declared.records.Record.TheVariants as records
 use Rattle.lks_draw.proofs.Picking.{pick_law}
 use Rattle.lks_draw.proofs.Places.{word_fits}
 use Rattle.lks_draw.specs.Words.{drawn_from, words_of}
-use Rattle.lks_law.specs.Fitting.{Where, FitsOutcome, Fits, AreFitting, AsksWithin, IsCounted, AreLegal, IsSound, most_numbered, has_room}
+use Rattle.lks_law.specs.Fitting.{Where, FitsOutcome, Fits, AreFitting, AsksWithin, IsCounted, AreSmall, AreLegal, IsOnHeld, IsPinnedWell, IsCastWell, marks_left, IsSound, most_numbered, has_room}
+use Rattle.lks_law.specs.Answering.{is_open, open_sessions, was_ended, may_join_in, is_admitted_in, joined_now, invitation_in, proof_at, proof_in, version_at, hashes_for, work_at, work_in, request_at, request_in, end_in}
+use Rattle.lks_law.specs.Facts.{IsHeard}
+use Rattle.lks_law.specs.Firsts.{changed_first, without_first}
 use Rattle.lks_law.specs.Journal.{Request, numbers_after}
 use Rattle.lks_law.specs.Polls.{Station, limits_of, ballot_of}
-use Rattle.lks_law.specs.Reacting.{for_poll, if_may, may_open_copy, may_open_in, inner_of, opened_as, open_in, widen_in, silent_in, nudge_in, give_up_in, receipts_of, shut_once, shut_in, closed_as, asked_for, verdict_of, supplier, tallied_as, tally_in, must_note_copy, overdue_of, check_in, is_invited_to, challenge_in, has_nominated_in, nominate_in, vote_in_poll, said_of, repair_in, receive_in, react_on}
-use Rattle.lks_law.specs.Reaction.{letter, asked_again, given_up, is_accepted, is_request}
+use Rattle.lks_law.specs.Reacting.{for_poll, if_may, may_open_copy, may_open_in, inner_of, opened_as, open_in, widen_in, silent_in, nudge_in, give_up_in, receipts_of, shut_once, shut_in, closed_as, asked_for, verdict_of, supplier, tallied_as, tally_in, must_note_copy, overdue_of, check_in, is_invited_to, challenge_in, has_nominated_in, nominate_in, vote_in_poll, said_of, repair_in}
+use Rattle.lks_law.specs.Reaction.{nothing, letter, asked_again, given_up, is_accepted, is_request}
 use Rattle.lks_law.specs.State.{Poll, Copy, State, poll_at, copy_at, blocks_in, blocks_at, nominated_by, widened_to, voted_by, shut_now, asking, answered, changed, without_poll, deposited, opened_at, replaced_in, agreed_at, noted, copy_changed, agreed_on, copies_after, polls_after, after}
+use Rattle.lks_law.specs.Sessions.{Commitment}
+use Rattle.lks_law.specs.Table.{receive_in, react_on}
+use Rattle.lks_law.specs.Taking.{Session, Pinned, Cast, is_session_of, is_pinned_of, is_cast_of, session_at, pinned_at, cast_at, pinning, casting, serving, voter_after}
+use Rattle.lks_law.specs.Voting.{named, answers, challenge, repeats, commits, vote_hashes, serves, may_tune, on_tune}
+use Rattle.lks_hash.proofs.RunningLaws.{hashes_length}
+use Rattle.lks_base.specs.declared.names.HashKind.{HashKind}
+use Rattle.lks_base.specs.declared.names.PollName.{PollName}
+use Rattle.lks_message.specs.Spelling.{IsWithin}
 use Rattle.lks_tally.proofs.Deciding.{loss_first}
 use Rattle.lks_tally.specs.PollRules as poll
 use Rattle.lks_tally.specs.declared.ballots.Verdict.{Verdict}
@@ -60,6 +73,35 @@ without_each P n (p ∷ ps) all = here (eqb p.number n) (without_each P n ps (Al
     here : (b : Bool) → All P (without_poll n ps) → All P (cond b ps (p ∷ without_poll n ps))
     here true rest = All-tail P p ps all
     here false rest = All-cons P p (without_poll n ps) (All-head P p ps all) rest
+
+abbrev HasSmall : Copy → Type 0
+HasSmall c = AreSmall c.blocks
+
+-- Lists of which what is true of each stays so.
+
+without_any : {X : Type 0} (P : X → Type 0) (test : X → Bool) (xs : List X) → All P xs → All P (without_first test xs)
+without_any P test [] all = all
+without_any P test (x ∷ xs) all = here (test x) (without_any P test xs (All-tail P x xs all))
+  where
+    here : (b : Bool) → All P (without_first test xs) → All P (cond b xs (x ∷ without_first test xs))
+    here true rest = All-tail P x xs all
+    here false rest = All-cons P x (without_first test xs) (All-head P x xs all) rest
+
+changed_any : {X : Type 0} (P : X → Type 0) (test : X → Bool) (f : X → X) (xs : List X) → ((x : X) → P x → P (f x)) → All P xs → All P (changed_first test f xs)
+changed_any P test f [] keeps all = all
+changed_any P test f (x ∷ xs) keeps all = here (test x) (changed_any P test f xs keeps (All-tail P x xs all))
+  where
+    here : (b : Bool) → All P (changed_first test f xs) → All P (cond b (f x ∷ xs) (x ∷ changed_first test f xs))
+    here true rest = All-cons P (f x) xs (keeps x (All-head P x xs all)) (All-tail P x xs all)
+    here false rest = All-cons P x (changed_first test f xs) (All-head P x xs all) rest
+
+any_where : {X : Type 0} (P : X → Type 0) (test : X → Bool) (xs : List X) → All P xs → Where (find test xs) P
+any_where P test [] all = tt
+any_where P test (x ∷ xs) all = here (test x) (any_where P test xs (All-tail P x xs all))
+  where
+    here : (b : Bool) → Where (find test xs) P → Where (cond b (Some x) (find test xs)) P
+    here true rest = All-head P x xs all
+    here false rest = rest
 
 abbrev HasBlocks : Copy → Type 0
 HasBlocks c = IsCounted c.blocks
@@ -178,21 +220,132 @@ module _ (own : Station) (s : State) where
       here (Some p) = copy_each HasBlocks p.opening.au (agreed_at tick) s.copies (λ c has. has) is.counted
   copies_counted r fits is = is.counted
 
+  copies_small : (r : Record) → Fits own s r → IsSound s → All HasSmall (copies_after s.polls r s.copies)
+  copies_small (Deposit au blocks) fits is = here (is_some (copy_at au s.copies))
+    where
+      here : (b : Bool) → All HasSmall (cond b s.copies (s.copies ++ deposited au blocks ∷ []))
+      here true = is.small
+      here false = All-push HasSmall s.copies (deposited au blocks) is.small fits.2
+  copies_small (PollOpened number au nonce inner tick limits kind) fits is = copy_each HasSmall au (opened_at tick) s.copies (λ c has. has) is.small
+  copies_small (Replaced number au block bytes) fits is = copy_each HasSmall au (replaced_in block bytes) s.copies (λ c has. All-set (λ (b : List ℕ). length b ≤ MOST_BLOCK_BYTES) c.blocks block bytes fits.1 has) is.small
+  copies_small (Overdue au tick) fits is = copy_each HasSmall au noted s.copies (λ c has. has) is.small
+  copies_small (Closed number Agreed tick) fits is = here (poll_at number s.polls)
+    where
+      here : (o : Option Poll) → All HasSmall (agreed_on o tick s.copies)
+      here None = is.small
+      here (Some p) = copy_each HasSmall p.opening.au (agreed_at tick) s.copies (λ c has. has) is.small
+  copies_small r fits is = is.small
+
+  -- Sessions.
+
+  copy_well : (cs : List Copy) → All HasBlocks cs → All HasSmall cs → (au : ℕ) → is_some (copy_at au cs) ≡ true → IsCounted (blocks_at au cs) × AreSmall (blocks_at au cs)
+  copy_well [] counted small au e = absurd cc
+  copy_well (c ∷ cs) counted small au e = here (eqb c.au au) e (λ e. copy_well cs (All-tail HasBlocks c cs counted) (All-tail HasSmall c cs small) au e)
+    where
+      here : (b : Bool) → is_some (cond b (Some c) (copy_at au cs)) ≡ true → (is_some (copy_at au cs) ≡ true → IsCounted (blocks_at au cs) × AreSmall (blocks_at au cs))
+          → IsCounted (blocks_in (cond b (Some c) (copy_at au cs))) × AreSmall (blocks_in (cond b (Some c) (copy_at au cs)))
+      here true e rest = (All-head HasBlocks c cs counted, All-head HasSmall c cs small)
+      here false e rest = rest e
+
+  -- an AU that is held stays held
+  held_still : (r : Record) (au : ℕ) → is_some (copy_at au s.copies) ≡ true → is_some (copy_at au (copies_after s.polls r s.copies)) ≡ true
+  held_still r au held = by_record r
+    where
+      changed_held : (a : ℕ) (f : Copy → Copy) (cs : List Copy) → ((c : Copy) → (f c).au ≡ c.au) → is_some (copy_at au cs) ≡ true → is_some (copy_at au (copy_changed a f cs)) ≡ true
+      changed_held a f [] same e = e
+      changed_held a f (c ∷ cs) same e = here (eqb c.au a) (eqb c.au au) refl e (λ e. changed_held a f cs same e)
+        where
+          here : (b d : Bool) → eqb c.au au ≡ d → is_some (cond d (Some c) (copy_at au cs)) ≡ true → (is_some (copy_at au cs) ≡ true → is_some (copy_at au (copy_changed a f cs)) ≡ true)
+              → is_some (copy_at au (cond b (f c ∷ cs) (c ∷ copy_changed a f cs))) ≡ true
+          here true true at e rest = ap (λ t. is_some (cond t (Some (f c)) (copy_at au cs))) (ap (λ k. eqb k au) (same c) ∙ at)
+          here true false at e rest = ap (λ t. is_some (cond t (Some (f c)) (copy_at au cs))) (ap (λ k. eqb k au) (same c) ∙ at) ∙ e
+          here false true at e rest = ap (λ t. is_some (cond t (Some c) (copy_at au (copy_changed a f cs)))) at
+          here false false at e rest = ap (λ t. is_some (cond t (Some c) (copy_at au (copy_changed a f cs)))) at ∙ rest e
+
+      pushed_held : (cs : List Copy) (c : Copy) → is_some (copy_at au cs) ≡ true → is_some (copy_at au (cs ++ c ∷ [])) ≡ true
+      pushed_held [] c e = absurd cc
+      pushed_held (x ∷ cs) c e = here (eqb x.au au) e (λ e. pushed_held cs c e)
+        where
+          here : (b : Bool) → is_some (cond b (Some x) (copy_at au cs)) ≡ true → (is_some (copy_at au cs) ≡ true → is_some (copy_at au (cs ++ c ∷ [])) ≡ true) → is_some (cond b (Some x) (copy_at au (cs ++ c ∷ []))) ≡ true
+          here true e rest = refl
+          here false e rest = rest e
+
+      by_record : (r : Record) → is_some (copy_at au (copies_after s.polls r s.copies)) ≡ true
+      by_record (Deposit a blocks) = here (is_some (copy_at a s.copies))
+        where
+          here : (b : Bool) → is_some (copy_at au (cond b s.copies (s.copies ++ deposited a blocks ∷ []))) ≡ true
+          here true = held
+          here false = pushed_held s.copies (deposited a blocks) held
+      by_record (PollOpened number a nonce inner tick limits kind) = changed_held a (opened_at tick) s.copies (λ c. refl) held
+      by_record (Replaced number a block bytes) = changed_held a (replaced_in block bytes) s.copies (λ c. refl) held
+      by_record (Overdue a tick) = changed_held a noted s.copies (λ c. refl) held
+      by_record (Closed number Agreed tick) = here (poll_at number s.polls)
+        where
+          here : (o : Option Poll) → is_some (copy_at au (agreed_on o tick s.copies)) ≡ true
+          here None = held
+          here (Some p) = changed_held p.opening.au (agreed_at tick) s.copies (λ c. refl) held
+      by_record r = held
+
+  held_on : (r : Record) (x : Session) → IsOnHeld s.copies x → IsOnHeld (copies_after s.polls r s.copies) x
+  held_on r x on = held_still r x.au on
+
+  sessions_held : (r : Record) → Fits own s r → IsSound s → All (IsOnHeld s.copies) (voter_after own.rules (λ au. blocks_at au s.copies) r s.voter).sessions
+  sessions_held (records.Joined q au tick low repairs) fits is = All-push (IsOnHeld s.copies) s.voter.sessions _ is.held fits
+  sessions_held (records.Committed q nonce version kind) fits is = without_any (IsOnHeld s.copies) (is_session_of q) s.voter.sessions is.held
+  sessions_held (records.Ended q) fits is = without_any (IsOnHeld s.copies) (is_session_of q) s.voter.sessions is.held
+  sessions_held r fits is = is.held
+
+  pinning_well : (c : Commitment) (o : Option Session) → Where o (IsOnHeld s.copies) → IsSound s → All IsPinnedWell (s.voter.pinned ++ pinning (λ au. blocks_at au s.copies) c o)
+  pinning_well c None on is = subst (All IsPinnedWell) (sym (append-nil s.voter.pinned)) is.pinned
+  pinning_well c (Some x) on is = All-push IsPinnedWell s.voter.pinned _ is.pinned (copy_well s.copies is.counted is.small x.au on)
+
+  pinned_well : (r : Record) → Fits own s r → IsSound s → All IsPinnedWell (voter_after own.rules (λ au. blocks_at au s.copies) r s.voter).pinned
+  pinned_well (records.Committed q nonce version kind) fits is =
+      pinning_well (record { nonce = nonce; version = version; kind = kind }) (session_at q s.voter.sessions) (any_where (IsOnHeld s.copies) (is_session_of q) s.voter.sessions is.held) is
+  pinned_well (records.Voted q hashes) fits is = without_any IsPinnedWell (is_pinned_of q) s.voter.pinned is.pinned
+  pinned_well (records.Ended q) fits is = without_any IsPinnedWell (is_pinned_of q) s.voter.pinned is.pinned
+  pinned_well r fits is = is.pinned
+
+  casting_well : (hashes : List (List ℕ)) (o : Option Pinned) → length hashes ≤ MOST_BLOCKS → Where o IsPinnedWell → IsSound s → All IsCastWell (s.voter.cast ++ casting hashes o)
+  casting_well hashes None few on is = subst (All IsCastWell) (sym (append-nil s.voter.cast)) is.cast
+  casting_well hashes (Some p) few on is = All-push IsCastWell s.voter.cast _ is.cast (on, few)
+
+  cast_well : (r : Record) → Fits own s r → IsSound s → All IsCastWell (voter_after own.rules (λ au. blocks_at au s.copies) r s.voter).cast
+  cast_well (records.Voted q hashes) fits is = casting_well hashes (pinned_at q s.voter.pinned) fits.0 (any_where IsPinnedWell (is_pinned_of q) s.voter.pinned is.pinned) is
+  cast_well (records.Served q block) fits is = changed_any IsCastWell (is_cast_of q) (serving block) s.voter.cast (λ c well. well) is.cast
+  cast_well (records.Ended q) fits is = without_any IsCastWell (is_cast_of q) s.voter.cast is.cast
+  cast_well r fits is = is.cast
+
   numbers_legal : (r : Record) → Fits own s r → IsSound s → AreLegal (numbers_after s.numbers r).quorum (numbers_after s.numbers r).minority
-  numbers_legal (records.Tuned quorum minority repairs) fits is = fits
+  numbers_legal (records.Tuned quorum minority repairs) fits is = fits.0
   numbers_legal r fits is = is.legal
+
+  repairs_few : (r : Record) → Fits own s r → IsSound s → (numbers_after s.numbers r).repairs ≤ MOST_REPAIRS
+  repairs_few (records.Tuned quorum minority repairs) fits is = fits.1
+  repairs_few r fits is = is.repairs
 
   pub sound_after : (r : Record) → Fits own s r → IsSound s → IsSound (after own s r)
   unfolding after
   sound_after r fits is = record {
     counted = copies_counted r fits is;
     asks = All-weaker (AsksWithin s.copies) (AsksWithin (copies_after s.polls r s.copies)) (asks_on r) (polls_after own.rules r s.polls) (polls_asking r fits is);
+    small = copies_small r fits is;
+    held = All-weaker (IsOnHeld s.copies) (IsOnHeld (copies_after s.polls r s.copies)) (held_on r) (voter_after own.rules (λ au. blocks_at au s.copies) r s.voter).sessions (sessions_held r fits is);
+    pinned = pinned_well r fits is;
+    cast = cast_well r fits is;
     legal = numbers_legal r fits is;
+    repairs = repairs_few r fits is;
   }
 
 -- What the rules add.
 
 module _ (own : Station) (s : State) (few : own.rules.inner ≤ MOST_CIRCLE) (room : has_room s ≡ true) (sound : IsSound s) where
+  room_parts : (ltb s.openings most_numbered ≡ true) × (list_all (λ (c : Copy). ltb c.version most_numbered) s.copies ≡ true) × (marks_left s.voter ≡ true)
+  room_parts =
+      let all = and_parts (ltb s.openings most_numbered && list_all (λ (c : Copy). ltb c.version most_numbered) s.copies) (marks_left s.voter) room in
+      let first = and_parts (ltb s.openings most_numbered) (list_all (λ (c : Copy). ltb c.version most_numbered) s.copies) all.0 in
+      (first.0, first.1, all.1)
+
   -- a poll that runs, as it is found
   for_found : (n : ℕ) (row : Poll → Reaction) → ((p : Poll) → poll_at n s.polls ≡ Some p → AreFitting own s (row p).records)
       → AreFitting own s (for_poll (poll_at n s.polls) row).records
@@ -235,7 +388,7 @@ module _ (own : Station) (s : State) (few : own.rules.inner ≤ MOST_CIRCLE) (ro
       here false less rest = rest
 
   replaces : (au b : ℕ) → b < length (blocks_at au s.copies) → Where (copy_at au s.copies) (λ c. (b < length c.blocks) × (c.version < most_numbered))
-  replaces au b within = here (copy_at au s.copies) within (versions_left s.copies (and_parts (ltb s.openings most_numbered) (list_all (λ (c : Copy). ltb c.version most_numbered) s.copies) room).1 au)
+  replaces au b within = here (copy_at au s.copies) within (versions_left s.copies room_parts.1 au)
     where
       here : (o : Option Copy) → b < length (blocks_in o) → Where o (λ c. c.version < most_numbered) → Where o (λ c. (b < length c.blocks) × (c.version < most_numbered))
       here None within less = tt
@@ -245,7 +398,7 @@ module _ (own : Station) (s : State) (few : own.rules.inner ≤ MOST_CIRCLE) (ro
 
   open_fits : (tick au : ℕ) → AreFitting own s (open_in own s tick au).records
   unfolding open_in may_open_in inner_of
-  open_fits tick au = where_may (may_open_in own s tick au) (opened_as own s tick au (s.openings + 1)) (λ may. ((held (copy_at au s.copies) may, few_picked, ltb-true s.openings most_numbered (and_parts (ltb s.openings most_numbered) _ room).0), tt))
+  open_fits tick au = where_may (may_open_in own s tick au) (opened_as own s tick au (s.openings + 1)) (λ may. ((held (copy_at au s.copies) may, few_picked, ltb-true s.openings most_numbered room_parts.0), tt))
     where
       held : (o : Option Copy) → may_open_copy tick own.rules.pace au s.polls o ≡ true → is_some o ≡ true
       held None e = absurd cc
@@ -342,13 +495,14 @@ module _ (own : Station) (s : State) (few : own.rules.inner ≤ MOST_CIRCLE) (ro
           ap is_some (found_again n p is),
           at_found (λ q. (has_member q.voters from ≡ false) × (length hashes ≡ length (blocks_at q.opening.au s.copies))) n p is
               (not-true (has_member p.voters from) new, eqb-true (length hashes) (length (blocks_at p.opening.au s.copies)) rule.1),
+          room_parts.2,
         ),
         tt,
       ))
 
-  repair_fits : (from b : ℕ) (bytes : List ℕ) (n : ℕ) (p : Poll) → poll_at n s.polls ≡ Some p → AreFitting own s (repair_in own from b bytes s.copies p).records
+  repair_fits : (from b : ℕ) (bytes : List ℕ) → length bytes ≤ MOST_BLOCK_BYTES → (n : ℕ) (p : Poll) → poll_at n s.polls ≡ Some p → AreFitting own s (repair_in own from b bytes s.copies p).records
   unfolding repair_in
-  repair_fits from b bytes n p is = where_may (is_request b from p.request) _ (λ may. by_votes (said_of own p b bytes (blocks_at p.opening.au s.copies)) (within p.request may asked))
+  repair_fits from b bytes small n p is = where_may (is_request b from p.request) _ (λ may. by_votes (said_of own p b bytes (blocks_at p.opening.au s.copies)) (within p.request may asked))
     where
       asked : Where p.request (λ r. r.block < length (blocks_at p.opening.au s.copies))
       asked = subst (λ o. Where o (AsksWithin s.copies)) is (poll_where (AsksWithin s.copies) n s.polls sound.asks)
@@ -360,7 +514,7 @@ module _ (own : Station) (s : State) (few : own.rules.inner ≤ MOST_CIRCLE) (ro
       by_votes : (won : Bool) → b < length (blocks_at p.opening.au s.copies) → AreFitting own s (cond {A = Reaction} won
           (record { records = records.Replaced p.number p.opening.au b bytes ∷ []; sends = [] })
           (record { records = records.RepairBad p.number b from ∷ []; sends = [] })).records
-      by_votes true less = (replaces p.opening.au b less, tt)
+      by_votes true less = ((replaces p.opening.au b less, small), tt)
       by_votes false less = (tt, tt)
 
   challenge_fits : (from : ℕ) (agrees : Bool) (n : ℕ) (p : Poll) → poll_at n s.polls ≡ Some p → AreFitting own s (challenge_in own from agrees p).records
@@ -377,26 +531,97 @@ module _ (own : Station) (s : State) (few : own.rules.inner ≤ MOST_CIRCLE) (ro
       where_may (poll.may_widen (not p.shut) (is_some p.outer) && poll.may_nominate (has_member p.opening.inner from) (has_nominated_in p from))
       (record { records = records.Nominated p.number from nominees ∷ []; sends = [] }) (λ may. (tt, tt))
 
-  receive_fits : (from : ℕ) (m : Message) (judged : Judged) → AreFitting own s (receive_in own s from m judged).records
-  receive_fits from (message.Poll n au) judged = tt
-  receive_fits from (message.PollChallenge n agrees) judged = for_found n (challenge_in own from agrees) (challenge_fits from agrees n)
-  receive_fits from (message.PollProof n nonce kind proof) judged = tt
-  receive_fits from (message.Nominate n nominees) judged = for_found n (nominate_in from nominees) (nominate_fits from nominees n)
-  receive_fits from (message.Vote n hashes proof) judged = for_found n (vote_in_poll from hashes judged s.copies) (vote_fits from hashes judged n)
-  receive_fits from (message.RepairRequest n b) judged = tt
-  receive_fits from (message.Repair n b bytes) judged = for_found n (repair_in own from b bytes s.copies) (repair_fits from b bytes n)
-  receive_fits from (message.Receipt n) judged = tt
+  -- The rows of a voter.
 
-  pub reaction_fits : (tick : ℕ) (i : Input) → AreFitting own s (react_on own s tick i).records
+  either_fits : (b : Bool) (x y : Reaction) → (b ≡ true → AreFitting own s x.records) → (b ≡ false → AreFitting own s y.records) → AreFitting own s (cond b x y).records
+  either_fits true x y one other = one refl
+  either_fits false x y one other = other refl
+
+  nothing_fits : (b : Bool) (x : Reaction) → (b ≡ true → AreFitting own s x.records) → AreFitting own s (cond b x nothing).records
+  nothing_fits true x one = one refl
+  nothing_fits false x one = tt
+
+  invitation_fits : (tick : ℕ) (q : PollName) (au : ℕ) → AreFitting own s (invitation_in own s.voter s.copies s.numbers.repairs tick q au).records
+  unfolding invitation_in may_join_in
+  invitation_fits tick q au =
+      either_fits (is_open q s.voter) (answers (challenge q true)) _ (λ runs. tt)
+      (λ closed. either_fits (may_join_in own s.voter s.copies tick q au) (joined_now own s.voter s.numbers.repairs tick q au) _ (λ may.
+      let all = and_parts _ (is_admitted_in own s.voter tick q) may in
+      let first = and_parts _ (ltb (open_sessions s.voter) 16) all.0 in
+      ((and_parts (not (was_ended q s.voter)) (is_some (copy_at au s.copies)) first.0).1, tt)) (λ may_not. tt))
+
+  proof_fits : (q : PollName) (nonce : List ℕ) (kind : HashKind) (judged : Judged) → AreFitting own s (proof_in own s.voter s.copies s.refs q nonce kind judged).records
+  unfolding proof_in
+  proof_fits q nonce kind judged = by_state (session_at q s.voter.sessions) (pinned_at q s.voter.pinned) (cast_at q s.voter.cast)
+    where
+      by_judged : (x : Session) (judged : Judged) → AreFitting own s (commits own s.refs q (version_at x.au s.copies) nonce kind judged).records
+      by_judged x Accepted = (tt, tt)
+      by_judged x Refused = (tt, tt)
+      by_judged x NotAsked = tt
+
+      by_state : (x : Option Session) (p : Option Pinned) (c : Option Cast) → AreFitting own s (proof_at own s.copies s.refs q nonce kind judged x p c).records
+      by_state (Some x) p c = by_judged x judged
+      by_state None (Some p) c = nothing_fits (repeats p.commitment nonce kind) _ (λ same. tt)
+      by_state None None (Some c) = nothing_fits (repeats c.pinned.commitment nonce kind) _ (λ same. tt)
+      by_state None None None = tt
+
+  work_fits : (q : PollName) → AreFitting own s (work_in own s.voter q).records
+  unfolding work_in hashes_for vote_hashes
+  work_fits q = by_state (pinned_at q s.voter.pinned) (any_where IsPinnedWell (is_pinned_of q) s.voter.pinned sound.pinned)
+    where
+      by_state : (p : Option Pinned) → Where p IsPinnedWell → AreFitting own s (work_at own q p).records
+      by_state None well = tt
+      by_state (Some p) well = ((subst (λ n. n ≤ MOST_BLOCKS) (sym (hashes_length _ _ p.blocks)) well.0.1, room_parts.2), tt)
+
+  request_fits : (q : PollName) (b : ℕ) → AreFitting own s (request_in s.voter q b).records
+  unfolding request_in
+  request_fits q b = by_state (cast_at q s.voter.cast) refl
+    where
+      by_block : (c : Cast) → cast_at q s.voter.cast ≡ Some c → (o : Option (List ℕ)) → AreFitting own s (serves q b c.pinned.session.repairs c.served o).records
+      by_block c found None = tt
+      by_block c found (Some bytes) =
+          either_fits (has_member c.served b) _ _ (λ again. tt)
+          (λ new. nothing_fits (ltb (length c.served) c.pinned.session.repairs) _ (λ few. (subst (λ o. Where o (λ c. (has_member c.served b ≡ false) × (length c.served < c.pinned.session.repairs))) (sym found) (new, ltb-true (length c.served) c.pinned.session.repairs few), tt)))
+
+      by_state : (o : Option Cast) → cast_at q s.voter.cast ≡ o → AreFitting own s (request_at q b o).records
+      by_state None found = tt
+      by_state (Some c) found = by_block c found (slice_get c.pinned.blocks b)
+
+  end_fits : (q : PollName) → AreFitting own s (end_in s.voter q).records
+  unfolding end_in
+  end_fits q = nothing_fits (is_open q s.voter) _ (λ runs. (tt, tt))
+
+  tune_fits : (quorum minority repairs : ℕ) → AreFitting own s (on_tune own quorum minority repairs).records
+  unfolding on_tune may_tune
+  tune_fits quorum minority repairs = nothing_fits (may_tune own.rules quorum minority repairs) _ (λ may.
+      let all = and_parts (leb 1 quorum && leb quorum own.rules.inner && obeys_quorum_rule quorum minority) (leb repairs MOST_REPAIRS) may in
+      let three = and_parts (leb 1 quorum && leb quorum own.rules.inner) (obeys_quorum_rule quorum minority) all.0 in
+      let two = and_parts (leb 1 quorum) (leb quorum own.rules.inner) three.0 in
+      let low = leb-true quorum own.rules.inner two.1 in
+      (((leb-true 1 quorum two.0, omega (arith, low, few), three.1), leb-true repairs MOST_REPAIRS all.1), tt))
+
+  -- All rows.
+
+  receive_fits : (tick from : ℕ) (m : Message) (judged : Judged) → IsWithin m → AreFitting own s (receive_in own s tick from m judged).records
+  receive_fits tick from (message.Poll n au) judged within = invitation_fits tick (named from n) au
+  receive_fits tick from (message.PollChallenge n agrees) judged within = for_found n (challenge_in own from agrees) (challenge_fits from agrees n)
+  receive_fits tick from (message.PollProof n nonce kind proof) judged within = proof_fits (named from n) nonce kind judged
+  receive_fits tick from (message.Nominate n nominees) judged within = for_found n (nominate_in from nominees) (nominate_fits from nominees n)
+  receive_fits tick from (message.Vote n hashes proof) judged within = for_found n (vote_in_poll from hashes judged s.copies) (vote_fits from hashes judged n)
+  receive_fits tick from (message.RepairRequest n b) judged within = request_fits (named from n) b
+  receive_fits tick from (message.Repair n b bytes) judged within = for_found n (repair_in own from b bytes s.copies) (repair_fits from b bytes within.1 n)
+  receive_fits tick from (message.Receipt n) judged within = end_fits (named from n)
+
+  pub reaction_fits : (tick : ℕ) (i : Input) → IsHeard i → AreFitting own s (react_on own s tick i).records
   unfolding react_on check_in
-  reaction_fits tick (input.OpenPoll au) = open_fits tick au
-  reaction_fits tick (input.Widen n) = for_found n (widen_in own) (widen_fits n)
-  reaction_fits tick (input.Shut n) = for_found n (shut_in own tick) (shut_fits tick n)
-  reaction_fits tick (input.Tally n) = for_found n (tally_in own tick s.copies) (tally_fits tick n)
-  reaction_fits tick (input.Nudge n) = for_found n nudge_in (nudge_fits n)
-  reaction_fits tick (input.GiveUp n) = for_found n give_up_in (give_up_fits n)
-  reaction_fits tick (input.Work p) = tt
-  reaction_fits tick (input.Expire p) = tt
-  reaction_fits tick input.Check = overdue_fit s tick own.aus
-  reaction_fits tick (input.Tune quorum minority repairs) = tt
-  reaction_fits tick (input.Got from m judged) = receive_fits from m judged
+  reaction_fits tick (input.OpenPoll au) heard = open_fits tick au
+  reaction_fits tick (input.Widen n) heard = for_found n (widen_in own) (widen_fits n)
+  reaction_fits tick (input.Shut n) heard = for_found n (shut_in own tick) (shut_fits tick n)
+  reaction_fits tick (input.Tally n) heard = for_found n (tally_in own tick s.copies) (tally_fits tick n)
+  reaction_fits tick (input.Nudge n) heard = for_found n nudge_in (nudge_fits n)
+  reaction_fits tick (input.GiveUp n) heard = for_found n give_up_in (give_up_fits n)
+  reaction_fits tick (input.Work q) heard = work_fits q
+  reaction_fits tick (input.Expire q) heard = end_fits q
+  reaction_fits tick input.Check heard = overdue_fit s tick own.aus
+  reaction_fits tick (input.Tune quorum minority repairs) heard = tune_fits quorum minority repairs
+  reaction_fits tick (input.Got from m judged) heard = receive_fits tick from m judged heard

@@ -11,7 +11,7 @@ use Rattle.lks_law.specs.Journal.{Opening, Replacement, Request, deposit_in, dep
 use Rattle.lks_law.specs.Polls.{votes}
 use Rattle.lks_tally.specs.declared.ballots.Vote.{Vote}
 
-any_more : (p : Record → Bool) (js : List Record) (r : Record) → list_any p (js ++ r ∷ []) ≡ cond (p r) true (list_any p js)
+pub any_more : (p : Record → Bool) (js : List Record) (r : Record) → list_any p (js ++ r ∷ []) ≡ cond (p r) true (list_any p js)
 any_more p js r = list_any-append p js (r ∷ []) ∙ either (list_any p js) (p r)
   where
     either : (a b : Bool) → (a || (b || false)) ≡ cond b true a
@@ -89,7 +89,7 @@ numbers_more js r = filter_map-append opened_in js (r ∷ [])
 
 -- Copies of AUs.
 
-deposit_more : (au : ℕ) (js : List Record) (r : Record) → deposit_in au r ≡ None → deposit_of au (js ++ r ∷ []) ≡ deposit_of au js
+pub deposit_more : (au : ℕ) (js : List Record) (r : Record) → deposit_in au r ≡ None → deposit_of au (js ++ r ∷ []) ≡ deposit_of au js
 unfolding deposit_of
 deposit_more au [] r none = ap (λ d. cond (is_some d) d None) none
 deposit_more au (j ∷ js) r none = ap (λ d. cond (is_some (deposit_in au j)) (deposit_in au j) d) (deposit_more au js r none)

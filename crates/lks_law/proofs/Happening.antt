@@ -10,20 +10,22 @@ use Rattle.lks_base.specs.declared.events.Due.{Due}
 use Rattle.lks_base.specs.declared.events.Due.TheVariants.{Delivery, Own}
 use Rattle.lks_base.specs.declared.events.Event.{Event}
 use Rattle.lks_base.specs.declared.events.PeerStep.{PeerStep}
-use Rattle.lks_base.specs.declared.events.PeerStep.TheVariants.{Tally}
+use Rattle.lks_base.specs.declared.events.PeerStep.TheVariants.{Tally, Work}
 use Rattle.lks_base.specs.declared.limits.TheConstants.{MOST_EVENTS}
 use Rattle.lks_base.specs.declared.names.Judged.TheVariants.{Accepted, Refused}
+use Rattle.lks_base.specs.declared.names.PollName.{PollName}
 use Rattle.lks_base.specs.declared.plans.PeerPlan.{PeerPlan}
 use Rattle.lks_base.specs.declared.plans.Plan.{Plan}
 use Rattle.lks_base.specs.declared.records.Record.{Record}
 use Rattle.lks_effort.specs.declared.questions.Question.{Question}
 use Rattle.lks_law.specs.Alarms.{alarms_by, alarms_from, alarms}
-use Rattle.lks_law.specs.Due.{pending, ready_at, ready, turn_at, turn_of, turns_at, turns, first_own, first_due, first_waiting, next_to_lose, next_to_deliver, next_to_settle, next_to_finish}
+use Rattle.lks_law.specs.Due.{pending, works_at, tallies_at, ready_at, ready, turn_at, turn_of, turns_at, turns, first_own, first_due, first_waiting, next_to_lose, next_to_deliver, next_to_settle, next_to_finish}
 use Rattle.lks_law.specs.Facts.{HasJournal}
 use Rattle.lks_law.specs.Histories.{was_judged, IsHonest, MayStep, MayHappen, MayAllHappen, IsHistory}
 use Rattle.lks_law.specs.Journal.{openings, is_running, is_voting, is_widened, unanswered}
 use Rattle.lks_law.specs.Questions.{Verdicts, judged, question_at, asked_by, questions_from, questions, delivery_of, event_of}
 use Rattle.lks_law.specs.Reaction.{may_tally}
+use Rattle.lks_law.specs.Sessions.{may_work, committed_polls}
 use Rattle.lks_law.specs.World.{World, Standing, is_honest, start, happens, happen_all, world}
 use Rattle.lks_law.proofs.Histories.{waiting_stands}
 use Rattle.lks_law.proofs.Journals.{journals_are_own}
@@ -103,12 +105,18 @@ module _ (plan : Plan) (w : World) where
   tallies_may id honest [] = tt
   tallies_may id honest (n ∷ ns) = (honest, tallies_may id honest ns)
 
+  votes_may : (id : ℕ) → IsHonest plan id → (qs : List PollName) → MayEach plan w (map (Work id) qs)
+  votes_may id honest [] = tt
+  votes_may id honest (q ∷ qs) = (honest, votes_may id honest qs)
+
   ready_may : (ss : List Standing) → AreHonest plan ss → MayEach plan w (flat_map ready_at ss)
-  unfolding ready_at
+  unfolding works_at tallies_at
   ready_may [] honest = tt
   ready_may (s ∷ ss) honest =
       each_append plan w (ready_at s) (flat_map ready_at ss)
-      (tallies_may s.own.id (honest 0 s refl) (filter (λ n. may_tally n s.journal) (range_with_len 1 (openings s.journal)))) (ready_may ss (λ k x at. honest (suc k) x at))
+      (each_append plan w (works_at s) (tallies_at s)
+      (votes_may s.own.id (honest 0 s refl) (filter (λ q. may_work q s.journal) (committed_polls s.journal)))
+      (tallies_may s.own.id (honest 0 s refl) (filter (λ n. may_tally n s.journal) (range_with_len 1 (openings s.journal))))) (ready_may ss (λ k x at. honest (suc k) x at))
 
   turn_may : (id : ℕ) → IsHonest plan id → (journal : List Record) (n : ℕ) (rest : List PeerStep) → MayEach plan w rest → MayEach plan w (cons_option (turn_of id journal n) rest)
   unfolding turn_of

@@ -7,8 +7,8 @@ use Rattle.lks_base.specs.declared.names.Outcome.TheVariants.{Agreed}
 use Rattle.lks_base.specs.declared.plans.Rules.{Rules}
 use Rattle.lks_base.specs.declared.records.Record.{Record}
 use Rattle.lks_base.specs.declared.records.Record.TheVariants.{Deposit, PollOpened, Replaced, Closed, Overdue}
-use Rattle.lks_law.specs.Journal.{Opening, Replacement, Audit, deposit_in, deposit_of, replacement_in, replacements, replaced_by, contents_of, opening_in, opening_of, closes, is_closed, is_of_au, audit_after, audit_from, audit_of}
-use Rattle.lks_law.specs.State.{Poll, Copy, copy_at, blocks_in, blocks_at, deposited, later, opened_at, replaced_in, agreed_at, noted, copy_changed, agreed_on, copies_after, poll_at}
+use Rattle.lks_law.specs.Journal.{Opening, Replacement, Audit, later, deposit_in, deposit_of, replacement_in, replacements, replaced_by, contents_of, opening_in, opening_of, closes, is_closed, is_of_au, audit_after, audit_from, audit_of}
+use Rattle.lks_law.specs.State.{Poll, Copy, copy_at, blocks_in, blocks_at, deposited, opened_at, replaced_in, agreed_at, noted, copy_changed, agreed_on, copies_after, poll_at}
 use Rattle.lks_law.specs.Written.{is_deposit, MayFollow}
 use Rattle.lks_law.proofs.Grown.{first_opening, opening_more, contents_more, replaced_if}
 use Rattle.lks_law.proofs.RunningPolls.{eqb_swap, pushed, filter_map_more, unnamed, polls_of, running_by, poll_found}

@@ -27,8 +27,9 @@ use Rattle.lks_law.specs.Circles.{IsCircle, HaveCircles, Samples}
 use Rattle.lks_law.specs.Facts.{Heard, IsHeard, GoesBy, AreInOrder, IsJournalOf, HasJournal, HaveJournals, HasPolls}
 use Rattle.lks_law.specs.Journal.{Opening, contents_of, opening_of, is_shut, is_closed, has_asked, unanswered, waiting, openings, opened_numbers}
 use Rattle.lks_law.specs.Polls.{Station, limits_of, ballot_of, votes, inner_votes, verdict_in}
-use Rattle.lks_law.specs.Reaction.{reaction, may_tally, on_message}
-use Rattle.lks_law.specs.Safe.{Safe}
+use Rattle.lks_law.specs.Reaction.{may_tally}
+use Rattle.lks_law.specs.Safe.{HasEvidence}
+use Rattle.lks_law.specs.Table.{reaction, on_message}
 use Rattle.lks_law.specs.World.{Standing, World, Deed, is_honest, standing_of, deposit_for, deposits, start, got, delivered, own_deed_of, deed_of, peer_at, reaction_at, effect_of, with_records, peers_after, after_step, happens, happen_all, world}
 use Rattle.lks_law.specs.Written.{is_deposit}
 use Rattle.lks_law.proofs.Kept.{Kept}
@@ -42,20 +43,26 @@ use Rattle.lks_message.specs.Reading.{decode_of}
 use Rattle.lks_message.specs.Spelling.{IsWithin}
 use Rattle.lks_message.specs.declared.fault.MsgFault.{MsgFault}
 use Rattle.lks_refs.specs.Lists.{IsReferenceList}
-use Rattle.lks_law.proofs.Rows.{KeptBy, kept_nothing, kept_on_challenge, kept_on_nominate, kept_on_vote, kept_on_shut, kept_on_tally, kept_on_widen, kept_on_check, kept_on_nudge, tally_parts}
+use Rattle.lks_law.proofs.Rows.{KeptBy, kept_on_challenge, kept_on_nominate, kept_on_vote, kept_on_shut, kept_on_tally, kept_on_widen, kept_on_check, kept_on_nudge, tally_parts}
 use Rattle.lks_tally.specs.declared.ballots.Verdict.TheVariants as verdict
 use Rattle.lks_tally.proofs.Deciding.{inquorate_votes}
+use Rattle.lks_law.specs.Voting.{named}
+use Rattle.lks_law.proofs.VoterAdds.{invitation_adds, proof_adds, work_adds, request_adds, end_adds, tune_adds}
+use Rattle.lks_law.proofs.KeptVoters.{kept_voters}
 
 -- Every reaction.
 
-kept_message : (own : Station) (js : List Record) (from : ℕ) (m : Message) (judged : Judged) → Kept own js → KeptBy own js (on_message own js from m judged)
-kept_message own js from (message.PollChallenge n agrees) judged kept = kept_on_challenge own js from n agrees kept
-kept_message own js from (message.Nominate n nominees) judged kept = kept_on_nominate own js from n nominees kept
-kept_message own js from (message.Vote n hashes proof) judged kept = kept_on_vote own js from n hashes judged kept
-kept_message own js from (message.Repair n b bytes) judged kept = kept_on_repair own js from n b bytes kept
-kept_message own js from m judged kept = kept_nothing own js kept
+kept_message : (own : Station) (js : List Record) (tick from : ℕ) (m : Message) (judged : Judged) → Kept own js → KeptBy own js (on_message own js tick from m judged)
+kept_message own js tick from (message.PollChallenge n agrees) judged kept = kept_on_challenge own js from n agrees kept
+kept_message own js tick from (message.Nominate n nominees) judged kept = kept_on_nominate own js from n nominees kept
+kept_message own js tick from (message.Vote n hashes proof) judged kept = kept_on_vote own js from n hashes judged kept
+kept_message own js tick from (message.Repair n b bytes) judged kept = kept_on_repair own js from n b bytes kept
+kept_message own js tick from (message.Poll n au) judged kept = kept_voters own js kept _ (invitation_adds own js tick (named from n) au)
+kept_message own js tick from (message.PollProof n nonce kind proof) judged kept = kept_voters own js kept _ (proof_adds own js (named from n) nonce kind judged)
+kept_message own js tick from (message.RepairRequest n b) judged kept = kept_voters own js kept _ (request_adds own js (named from n) b)
+kept_message own js tick from (message.Receipt n) judged kept = kept_voters own js kept _ (end_adds own js (named from n))
 
-kept_reaction : (own : Station) (js : List Record) (tick : ℕ) (i : Input) → Kept own js → KeptBy own js (reaction own js tick i)
+pub kept_reaction : (own : Station) (js : List Record) (tick : ℕ) (i : Input) → Kept own js → KeptBy own js (reaction own js tick i)
 unfolding reaction
 kept_reaction own js tick (input.OpenPoll au) kept = kept_on_open own js tick au kept
 kept_reaction own js tick (input.Widen n) kept = kept_on_widen own js n kept
@@ -64,12 +71,14 @@ kept_reaction own js tick (input.Tally n) kept = kept_on_tally own js tick n kep
 kept_reaction own js tick (input.Nudge n) kept = kept_on_nudge own js n kept
 kept_reaction own js tick (input.GiveUp n) kept = kept_on_give_up own js n kept
 kept_reaction own js tick input.Check kept = kept_on_check own js tick kept
-kept_reaction own js tick (input.Got from m judged) kept = kept_message own js from m judged kept
-kept_reaction own js tick i kept = kept_nothing own js kept
+kept_reaction own js tick (input.Got from m judged) kept = kept_message own js tick from m judged kept
+kept_reaction own js tick (input.Work q) kept = kept_voters own js kept _ (work_adds own js q)
+kept_reaction own js tick (input.Expire q) kept = kept_voters own js kept _ (end_adds own js q)
+kept_reaction own js tick (input.Tune quorum minority repairs) kept = kept_voters own js kept _ (tune_adds own js quorum minority repairs)
 
 -- The beginning: deposits alone.
 
-AreDeposits : List Record → Type 0
+unfoldable pub AreDeposits : List Record → Type 0
 AreDeposits js = list_all is_deposit js ≡ true
 
 deposits_say : (n : ℕ) (js : List Record) → AreDeposits js → poll_of n js ≡ blank
@@ -105,7 +114,7 @@ good_blank own n copy = record {
   lost = λ o r e waits. absurd cc;
 }
 
-kept_deposits : (own : Station) (js : List Record) → AreDeposits js → Kept own js
+pub kept_deposits : (own : Station) (js : List Record) → AreDeposits js → Kept own js
 kept_deposits own js all =
     let none : (n : ℕ) → opening_of n js ≡ None = λ n. ap (λ p. p.opening) (deposits_say n js all) in
     record {
@@ -135,7 +144,7 @@ held_are au (copy ∷ copies) = first (eqb copy.au au.id) (held_are au copies)
     first true rest = rest
     first false rest = rest
 
-deposits_are : (aus : List AuPlan) (copies : List Holding) → AreDeposits (deposits aus copies)
+pub deposits_are : (aus : List AuPlan) (copies : List Holding) → AreDeposits (deposits aus copies)
 unfolding AreDeposits deposits
 deposits_are [] copies = refl
 deposits_are (au ∷ aus) copies =
@@ -162,7 +171,7 @@ kept_journal : (own : Station) (aus : List AuPlan) (copies : List Holding) (hear
 kept_journal own aus copies [] js is = subst (Kept own) (sym is) (kept_deposits own (deposits aus copies) (deposits_are aus copies))
 kept_journal own aus copies (h ∷ hs) js (before, added, goes, heard, adds, is) =
     let kept = kept_journal own aus copies hs before goes in
-    subst (Kept own) (sym is) (adds_kept own before h.tick h.input added (kept_reaction own before h.tick h.input kept) kept adds)
+    subst (Kept own) (sym is) (adds_kept own before h.tick h.input added adds (kept_reaction own before h.tick h.input kept) kept)
 
 kept_of : (own : Station) (aus : List AuPlan) (copies : List Holding) (tick : ℕ) (js : List Record) → IsJournalOf own (deposits aus copies) tick js → Kept own js
 kept_of own aus copies tick js is = kept_journal own aus copies is.heard js is.made
@@ -173,7 +182,7 @@ circles_of own aus copies [] js listed is = subst (HaveCircles own) (sym is) (de
 circles_of own aus copies (h ∷ hs) js listed (before, added, goes, heard, adds, is) =
     subst (HaveCircles own) (sym is)
     (circles_more own before added (circles_of own aus copies hs before listed goes)
-    (adds_circles own before h.tick h.input added (reaction_adds own before h.tick h.input listed) listed adds))
+    (adds_circles own before h.tick h.input added adds (reaction_adds own before h.tick h.input listed) listed))
 
 polls_of : (own : Station) (js : List Record) → Kept own js → HasPolls own js
 polls_of own js kept = record { numbered = kept.rest.in_order; each = λ n. good_poll own js n (kept.good n); alone = kept.rest.alone }
@@ -329,8 +338,8 @@ kept_in plan history place s at = kept_at plan (world plan history).tick (slice_
 pub polls_keep : (plan : Plan) (history : List Event) (place : ℕ) (s : Standing) → slice_get (world plan history).peers place ≡ Some s → HasPolls s.own s.journal
 polls_keep plan history place s at = polls_of s.own s.journal (kept_in plan history place s at)
 
-pub is_safe : (plan : Plan) (history : List Event) → Safe plan history
-is_safe plan history = record { evidence = λ place s at. (kept_in plan history place s at).rest.evidence }
+pub evidence_in : (plan : Plan) (history : List Event) (place : ℕ) (s : Standing) → slice_get (world plan history).peers place ≡ Some s → HasEvidence s.own s.journal
+evidence_in plan history place s at = (kept_in plan history place s at).rest.evidence
 
 pub tallies_have_quorum : (plan : Plan) (history : List Event) (place : ℕ) (s : Standing) → slice_get (world plan history).peers place ≡ Some s
     → (n : ℕ) (opening : Opening) → may_tally n s.journal ≡ true → opening_of n s.journal ≡ Some opening → verdict_in s.own n opening s.journal ≢ verdict.Inquorate

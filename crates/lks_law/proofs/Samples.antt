@@ -28,8 +28,9 @@ use Rattle.lks_draw.specs.Words.{drawn_from, words_of}
 use Rattle.lks_law.specs.Circles.{IsSample, IsCircle, HaveCircles}
 use Rattle.lks_law.specs.Journal.{Opening, Request, unanswered, agreed_in, opening_of, openings, nominations, is_voting, is_widened}
 use Rattle.lks_law.specs.Polls.{Station, verdict_in, candidate, restores}
-use Rattle.lks_law.specs.Reaction.{reaction, nothing, for_opening, may_open, opened, on_open, widened, on_widen, is_inquorate, shut_inquorate, shut, on_shut, may_tally, closed, asked, tallied, on_tally, must_note, overdue_in, on_check, reminded, asked_again, on_nudge, given_up, on_give_up, may_prove, proved, on_challenge, may_nominate, nominated, on_nominate, is_accepted, may_vote, counted, on_vote, may_repair, repaired, on_repair, on_message}
+use Rattle.lks_law.specs.Reaction.{nothing, for_opening, may_open, opened, on_open, widened, on_widen, is_inquorate, shut_inquorate, shut, on_shut, may_tally, closed, asked, tallied, on_tally, must_note, overdue_in, on_check, reminded, asked_again, on_nudge, given_up, on_give_up, may_prove, proved, on_challenge, may_nominate, nominated, on_nominate, is_accepted, may_vote, counted, on_vote, may_repair, repaired, on_repair}
 use Rattle.lks_law.specs.References.{dissenters, joiners, picked_friends, list_agreed, list_if, list_with, list_from, reference_list, inner_circle, outer_circle}
+use Rattle.lks_law.specs.Table.{reaction, on_message}
 use Rattle.lks_law.proofs.Grown.{last_or_before}
 use Rattle.lks_refs.proofs.Filling.{circle_law}
 use Rattle.lks_refs.proofs.Members.{absent_apart, list_after_kept}
@@ -37,6 +38,8 @@ use Rattle.lks_refs.specs.Circles.{circle_of}
 use Rattle.lks_refs.specs.Lists.{IsReferenceList}
 use Rattle.lks_tally.specs.declared.ballots.Verdict.{Verdict}
 use Rattle.lks_tally.specs.declared.ballots.Verdict.TheVariants as verdict
+use Rattle.lks_law.specs.Voting.{named}
+use Rattle.lks_law.proofs.VoterAdds.{IsVoters, VoterAdds, invitation_adds, proof_adds, work_adds, request_adds, end_adds, tune_adds}
 
 -- The reference list.
 
@@ -177,21 +180,38 @@ module _ (own : Station) (js : List Record) where
       by_request None = tt
       by_request (Some r) = (tt, tt)
 
-  message_adds : (from : ℕ) (m : Message) (judged : Judged) → Adds own js (on_message own js from m judged).records
+  voter_circle : (r : Record) → IsVoters r → IsCircle own js r
+  voter_circle (records.Joined poll au tick low repairs) is = tt
+  voter_circle (records.Committed poll nonce version kind) is = tt
+  voter_circle (records.Voted poll hashes) is = tt
+  voter_circle (records.Served poll block) is = tt
+  voter_circle (records.Ended poll) is = tt
+  voter_circle (records.Tuned quorum minority repairs) is = tt
+  voter_circle r is = absurd is
+
+  pub voter_adds : (rs : List Record) → VoterAdds js rs → Adds own js rs
+  voter_adds [] may = tt
+  voter_adds (r ∷ []) may = (voter_circle r may.voters, tt)
+  voter_adds (r ∷ s ∷ rs) may = absurd may
+
+  message_adds : (tick from : ℕ) (m : Message) (judged : Judged) → Adds own js (on_message own js tick from m judged).records
   unfolding on_challenge on_nominate on_vote on_repair
-  message_adds from (message.PollChallenge n agrees) judged =
+  message_adds tick from (message.PollChallenge n agrees) judged =
       if_adds (agrees && is_voting n js) (for_opening (opening_of n js) (proved own js from n))
       (at_opening (opening_of n js) (proved own js from n) (λ o opened. if_adds (may_prove js from n o) _ tt))
-  message_adds from (message.Nominate n nominees) judged =
+  message_adds tick from (message.Nominate n nominees) judged =
       if_adds (is_voting n js && not (is_widened n js)) (for_opening (opening_of n js) (nominated js from n nominees))
       (at_opening (opening_of n js) (nominated js from n nominees) (λ o opened. if_adds (may_nominate js from n o) _ (tt, tt)))
-  message_adds from (message.Vote n hashes proof) judged =
+  message_adds tick from (message.Vote n hashes proof) judged =
       if_adds (is_accepted judged && is_voting n js) (for_opening (opening_of n js) (counted js from n hashes))
       (at_opening (opening_of n js) (counted js from n hashes) (λ o opened. if_adds (may_vote js from n (length hashes) o) _ (tt, tt)))
-  message_adds from (message.Repair n b bytes) judged =
+  message_adds tick from (message.Repair n b bytes) judged =
       if_adds (may_repair js from n b) (for_opening (opening_of n js) (repaired own js from n b bytes))
       (at_opening (opening_of n js) (repaired own js from n b bytes) (λ o opened. either_adds (restores own n o b bytes js) _ _ (tt, tt) (tt, tt)))
-  message_adds from m judged = tt
+  message_adds tick from (message.Poll n au) judged = voter_adds _ (invitation_adds own js tick (named from n) au)
+  message_adds tick from (message.PollProof n nonce kind proof) judged = voter_adds _ (proof_adds own js (named from n) nonce kind judged)
+  message_adds tick from (message.RepairRequest n b) judged = voter_adds _ (request_adds own js (named from n) b)
+  message_adds tick from (message.Receipt n) judged = voter_adds _ (end_adds own js (named from n))
 
 noted_add : (own : Station) (all js : List Record) (tick : ℕ) (aus : List AuPlan) → Adds own js (filter_map (overdue_in own all tick) aus)
 noted_add own all js tick [] = tt
@@ -211,8 +231,10 @@ reaction_adds own js tick (input.Tally n) is = tally_adds own js tick n
 reaction_adds own js tick (input.Nudge n) is = nudge_adds own js n
 reaction_adds own js tick (input.GiveUp n) is = give_up_adds own js n
 reaction_adds own js tick input.Check is = noted_add own js js tick own.aus
-reaction_adds own js tick (input.Got from m judged) is = message_adds own js from m judged
-reaction_adds own js tick i is = tt
+reaction_adds own js tick (input.Got from m judged) is = message_adds own js tick from m judged
+reaction_adds own js tick (input.Work q) is = voter_adds own js _ (work_adds own js q)
+reaction_adds own js tick (input.Expire q) is = voter_adds own js _ (end_adds own js q)
+reaction_adds own js tick (input.Tune quorum minority repairs) is = voter_adds own js _ (tune_adds own js quorum minority repairs)
 
 -- The lists of a good plan.
 

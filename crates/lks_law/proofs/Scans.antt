@@ -8,10 +8,10 @@ use Rattle.lks_base.specs.Checking.{has_member}
 use Rattle.lks_base.specs.declared.plans.Rules.{Rules}
 use Rattle.lks_base.specs.declared.records.Record.{Record}
 use Rattle.lks_base.specs.declared.records.Record.TheVariants.{PollOpened, Nominated, OuterOpened, VoteIn, Asked}
-use Rattle.lks_law.specs.Journal.{Request, is_closed, opens_running, opens_open, opens_lately, outer_in, widens, is_widened, outer_of, nominees_in, nominations, is_nominated_by, has_nominated, vote_in, is_vote_of, has_voted, asks, was_asked}
+use Rattle.lks_law.specs.Journal.{Request, later, is_closed, opens_running, opens_open, opens_lately, outer_in, widens, is_widened, outer_of, nominees_in, nominations, is_nominated_by, has_nominated, vote_in, is_vote_of, has_voted, asks, was_asked}
 use Rattle.lks_law.specs.Polls.{votes}
 use Rattle.lks_law.specs.Reacting.{is_recent}
-use Rattle.lks_law.specs.State.{settled, Nomination, Poll, later}
+use Rattle.lks_law.specs.State.{settled, Nomination, Poll}
 use Rattle.lks_law.proofs.HeldCopies.{opened_after, opened_from}
 use Rattle.lks_law.proofs.RunningPolls.{nomination_in, asked_in, circle_in, voter_of, poll_as, running_in, polls_of}
 use Rattle.lks_tally.specs.declared.ballots.Vote.{Vote}

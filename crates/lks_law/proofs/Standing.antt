@@ -15,6 +15,7 @@ use Rattle.lks_law.specs.Written.{MayFollow, AreWritten}
 use Rattle.lks_law.proofs.HeldCopies.{copy_of, copies_more, blocks_are}
 use Rattle.lks_law.proofs.RunningPolls.{AreApart, apart_after, poll_as, polls_of, polls_more, running_by, poll_found}
 use Rattle.lks_law.proofs.Grown.{first_opening, opening_more, openings_more, closed_more, unanswered_more}
+use Rattle.lks_law.proofs.Taken.{Takes, takes_more, takes_none}
 use Rattle.lks_refs.specs.Lists.{list_after}
 
 pub record Stands (own : Station) (js : List Record) (s : State) : Type 0 where
@@ -25,6 +26,7 @@ pub record Stands (own : Station) (js : List Record) (s : State) : Type 0 where
   pub apart : AreApart (polls_of own.rules js)
   pub refs : s.refs ≡ reference_list own js
   pub idle : (n : ℕ) → is_some (unanswered n js) ≡ true → is_running n js ≡ true
+  pub voter : Takes own.rules js s.voter
 
 numbers_last : (before : Numbers) (js : List Record) (r : Record) → numbers_from before (js ++ r ∷ []) ≡ numbers_after (numbers_from before js) r
 numbers_last before [] r = refl
@@ -116,6 +118,7 @@ module _ (own : Station) (js : List Record) (s : State) (is : Stands own js s) w
     apart = subst AreApart (sym (polls_more own.rules js r may is.apart)) (apart_after own.rules js r may is.apart);
     refs = refs_are r may ∙ sym (refs_last own js r);
     idle = idle_more r may;
+    voter = takes_more own.rules (λ au. blocks_at au s.copies) js s.voter blocks_is is.voter r may;
   }
 
 stands_all : (own : Station) (before rest : List Record) (s : State) → Stands own before s → AreWritten before rest → Stands own (before ++ rest) (after_all own s rest)
@@ -134,4 +137,5 @@ state_stands own js written = stands_all own [] js (blank own) (record {
   apart = tt;
   refs = refl;
   idle = λ n e. absurd cc;
+  voter = takes_none own.rules;
 }) written

@@ -4,14 +4,11 @@ use Rattle.std.specs.Prelude.{Option, Some, None, is_some, map, find, ◌&&◌, 
 use Rattle.std.specs.List.{list_any, filter_map}
 use Rattle.std.proofs.lemmas.Bool.{both_ways}
 use Rattle.lks_base.specs.Checking.{has_member}
-use Rattle.lks_base.specs.declared.messages.Message.{Message}
 use Rattle.lks_base.specs.declared.messages.Message.TheVariants as message
 use Rattle.lks_base.specs.declared.names.Judged.{Judged}
 use Rattle.lks_base.specs.declared.names.Outcome.{Outcome}
 use Rattle.lks_base.specs.declared.names.Outcome.TheVariants as outcome
 use Rattle.lks_base.specs.declared.plans.AuPlan.{AuPlan}
-use Rattle.lks_base.specs.declared.reactions.Input.{Input}
-use Rattle.lks_base.specs.declared.reactions.Input.TheVariants as input
 use Rattle.lks_base.specs.declared.records.Record.{Record}
 use Rattle.lks_base.specs.declared.records.Record.TheVariants as records
 use Rattle.lks_draw.specs.Picks.{picked_by}
@@ -20,14 +17,13 @@ use Rattle.lks_hash.specs.Hashes.{nonce_from}
 use Rattle.lks_law.specs.Journal.{Opening, Request, deposit_of, contents_of, opening_of, opens_running, opens_open, opens_lately, is_voting, is_running, is_shut, is_closed, is_widened, has_nominated, has_voted, unanswered, is_overdue}
 use Rattle.lks_law.specs.Polls.{Station, limits_of, ballot_of, votes, inner_votes, is_invited, verdict_in, candidate, said_at, restores}
 use Rattle.lks_law.specs.References.{inner_circle, outer_circle}
-use Rattle.lks_law.specs.Reaction.{reaction, nothing, letter, for_opening, may_open, on_open, widened, on_widen, silent, reminded, asked_again, on_nudge, given_up, on_give_up, receipts, is_inquorate, shut, on_shut, may_tally, closed, asked, tallied, on_tally, must_note, on_check, may_prove, proved, on_challenge, may_nominate, nominated, on_nominate, is_accepted, may_vote, counted, on_vote, is_request, may_repair, repaired, on_repair, on_message}
-use Rattle.lks_law.specs.Reacting.{for_poll, if_may, may_open_copy, may_open_in, inner_of, open_in, outer_of_poll, widen_in, silent_in, nudge_in, give_up_in, receipts_of, shut_in, closed_as, asked_for, verdict_of, was_asked_of, supplier, tallied_as, tally_in, must_note_copy, check_in, is_invited_to, challenge_in, has_nominated_in, nominate_in, vote_in_poll, said_of, repair_in, receive_in, react_on}
-use Rattle.lks_law.specs.State.{settled, State, poll_at, copy_at, blocks_at, state_of}
-use Rattle.lks_law.specs.Written.{AreWritten}
+use Rattle.lks_law.specs.Reaction.{nothing, letter, for_opening, may_open, on_open, widened, on_widen, silent, reminded, asked_again, on_nudge, given_up, on_give_up, receipts, is_inquorate, shut, on_shut, may_tally, closed, asked, tallied, on_tally, must_note, on_check, may_prove, proved, on_challenge, may_nominate, nominated, on_nominate, is_accepted, may_vote, counted, on_vote, is_request, may_repair, repaired, on_repair}
+use Rattle.lks_law.specs.Reacting.{for_poll, if_may, may_open_copy, may_open_in, inner_of, open_in, outer_of_poll, widen_in, silent_in, nudge_in, give_up_in, receipts_of, shut_in, closed_as, asked_for, verdict_of, was_asked_of, supplier, tallied_as, tally_in, must_note_copy, check_in, is_invited_to, challenge_in, has_nominated_in, nominate_in, vote_in_poll, said_of, repair_in}
+use Rattle.lks_law.specs.State.{settled, State, poll_at, copy_at, blocks_at}
 use Rattle.lks_law.proofs.HeldCopies.{copy_by}
 use Rattle.lks_law.proofs.RunningPolls.{voter_of, poll_as, polls_of, running_by}
 use Rattle.lks_law.proofs.Scans.{voted_is, nominated_is, asked_is, nominees_are, widened_is, outer_is, running_is, count_is, recent_is}
-use Rattle.lks_law.proofs.Standing.{Stands, poll_is, blocks_is, state_stands}
+use Rattle.lks_law.proofs.Standing.{Stands, poll_is, blocks_is}
 use Rattle.lks_refs.specs.Circles.{circle_of}
 use Rattle.lks_tally.specs.PollRules as poll
 use Rattle.lks_tally.specs.Counting.{voters_against}
@@ -74,7 +70,7 @@ module _ (own : Station) (js : List Record) (s : State) (is : Stands own js s) w
   tallied_is tick n o (verdict.Split b) = closed_is tick n o (outcome.Split b)
   tallied_is tick n o (verdict.Loss b) = ap (asked_for (poll_as n (settled own.rules o) js) tick b) (supplier_is n b o) ∙ asked_are tick n b o (candidate own n o b js)
 
-  tally_is : (tick n : ℕ) → for_poll (poll_at n s.polls) (tally_in own tick s.copies) ≡ on_tally own js tick n
+  pub tally_is : (tick n : ℕ) → for_poll (poll_at n s.polls) (tally_in own tick s.copies) ≡ on_tally own js tick n
   unfolding tally_in verdict_of on_tally may_tally is_running verdict_in
   tally_is tick n = ap (λ p. for_poll p (tally_in own tick s.copies)) (poll_is own js s is n) ∙ by_opening (opening_of n js) (is_closed n js)
     where
@@ -88,7 +84,7 @@ module _ (own : Station) (js : List Record) (s : State) (is : Stands own js s) w
 
   -- The end of voting.
 
-  shut_is : (tick n : ℕ) → for_poll (poll_at n s.polls) (shut_in own tick) ≡ on_shut own js tick n
+  pub shut_is : (tick n : ℕ) → for_poll (poll_at n s.polls) (shut_in own tick) ≡ on_shut own js tick n
   unfolding shut_in on_shut is_voting is_running is_inquorate
   shut_is tick n = ap (λ p. for_poll p (shut_in own tick)) (poll_is own js s is n) ∙ by_opening (opening_of n js) (is_closed n js)
     where
@@ -104,7 +100,7 @@ module _ (own : Station) (js : List Record) (s : State) (is : Stands own js s) w
 
   -- The outer circle.
 
-  widen_is : (n : ℕ) → for_poll (poll_at n s.polls) (widen_in own) ≡ on_widen own js n
+  pub widen_is : (n : ℕ) → for_poll (poll_at n s.polls) (widen_in own) ≡ on_widen own js n
   unfolding widen_in outer_of_poll on_widen is_voting is_running outer_circle
   widen_is n = ap (λ p. for_poll p (widen_in own)) (poll_is own js s is n) ∙ by_opening (opening_of n js) (is_closed n js)
     where
@@ -133,7 +129,7 @@ module _ (own : Station) (js : List Record) (s : State) (is : Stands own js s) w
   unfolding silent_in silent
   silent_is n o = λ i. filter (λ v. not (voted_is n v js i)) (o.inner ++ outer_is n js i)
 
-  nudge_is : (n : ℕ) → for_poll (poll_at n s.polls) nudge_in ≡ on_nudge js n
+  pub nudge_is : (n : ℕ) → for_poll (poll_at n s.polls) nudge_in ≡ on_nudge js n
   unfolding nudge_in on_nudge is_voting is_running
   nudge_is n = ap (λ p. for_poll p nudge_in) (poll_is own js s is n) ∙ by_opening (opening_of n js) (is_closed n js) refl refl
     where
@@ -144,7 +140,7 @@ module _ (own : Station) (js : List Record) (s : State) (is : Stands own js s) w
       by_opening (Some o) false eo ec = λ i.
           cond (not (is_shut n js)) (record { records = []; sends = map (letter (message.Poll n o.au)) (silent_is n o i) }) (asked_again n (unanswered n js))
 
-  give_up_is : (n : ℕ) → for_poll (poll_at n s.polls) give_up_in ≡ on_give_up js n
+  pub give_up_is : (n : ℕ) → for_poll (poll_at n s.polls) give_up_in ≡ on_give_up js n
   unfolding give_up_in on_give_up
   give_up_is n = ap (λ p. for_poll p give_up_in) (poll_is own js s is n) ∙ by_opening (opening_of n js) (is_closed n js) refl refl
     where
@@ -159,7 +155,7 @@ module _ (own : Station) (js : List Record) (s : State) (is : Stands own js s) w
   unfolding said_of restores said_at
   said_is n b bytes o = refl
 
-  repair_is : (from n b : ℕ) (bytes : List ℕ) → for_poll (poll_at n s.polls) (repair_in own from b bytes s.copies) ≡ on_repair own js from n b bytes
+  pub repair_is : (from n b : ℕ) (bytes : List ℕ) → for_poll (poll_at n s.polls) (repair_in own from b bytes s.copies) ≡ on_repair own js from n b bytes
   unfolding repair_in on_repair may_repair
   repair_is from n b bytes = ap (λ p. for_poll p (repair_in own from b bytes s.copies)) (poll_is own js s is n) ∙ by_opening (opening_of n js) (is_closed n js) refl refl
     where
@@ -177,7 +173,7 @@ module _ (own : Station) (js : List Record) (s : State) (is : Stands own js s) w
 
   -- A vote, a nomination and a challenge.
 
-  vote_row : (from n : ℕ) (hashes : List (List ℕ)) (judged : Judged) → for_poll (poll_at n s.polls) (vote_in_poll from hashes judged s.copies) ≡ on_vote js from n hashes judged
+  pub vote_row : (from n : ℕ) (hashes : List (List ℕ)) (judged : Judged) → for_poll (poll_at n s.polls) (vote_in_poll from hashes judged s.copies) ≡ on_vote js from n hashes judged
   unfolding vote_in_poll on_vote is_voting is_running may_vote
   vote_row from n hashes judged = ap (λ p. for_poll p (vote_in_poll from hashes judged s.copies)) (poll_is own js s is n) ∙ by_opening (is_accepted judged) (opening_of n js) (is_closed n js)
     where
@@ -199,7 +195,7 @@ module _ (own : Station) (js : List Record) (s : State) (is : Stands own js s) w
           by_shut true = refl
           by_shut false = refl
 
-  nominate_is : (from n : ℕ) (nominees : List ℕ) → for_poll (poll_at n s.polls) (nominate_in from nominees) ≡ on_nominate js from n nominees
+  pub nominate_is : (from n : ℕ) (nominees : List ℕ) → for_poll (poll_at n s.polls) (nominate_in from nominees) ≡ on_nominate js from n nominees
   unfolding nominate_in has_nominated_in on_nominate is_voting is_running may_nominate
   nominate_is from n nominees = ap (λ p. for_poll p (nominate_in from nominees)) (poll_is own js s is n) ∙ by_opening (opening_of n js) (is_closed n js)
     where
@@ -216,7 +212,7 @@ module _ (own : Station) (js : List Record) (s : State) (is : Stands own js s) w
           by_tests true = refl
           by_tests false = refl
 
-  challenge_is : (from n : ℕ) (agrees : Bool) → for_poll (poll_at n s.polls) (challenge_in own from agrees) ≡ on_challenge own js from n agrees
+  pub challenge_is : (from n : ℕ) (agrees : Bool) → for_poll (poll_at n s.polls) (challenge_in own from agrees) ≡ on_challenge own js from n agrees
   unfolding challenge_in on_challenge is_voting is_running may_prove
   challenge_is from n agrees = ap (λ p. for_poll p (challenge_in own from agrees)) (poll_is own js s is n) ∙ by_opening agrees (opening_of n js) (is_closed n js)
     where
@@ -247,7 +243,7 @@ module _ (own : Station) (js : List Record) (s : State) (is : Stands own js s) w
       by_deposit None = refl
       by_deposit (Some d) = λ i. not (running_is own.rules au js i) && ltb (count_is own.rules js i) 8 && not (recent_is au tick own.rules.pace None js i)
 
-  open_is : (tick au : ℕ) → open_in own s tick au ≡ on_open own js tick au
+  pub open_is : (tick au : ℕ) → open_in own s tick au ≡ on_open own js tick au
   unfolding open_in on_open inner_of inner_circle
   open_is tick au = λ i.
       cond (may_open_is tick au i)
@@ -267,30 +263,6 @@ module _ (own : Station) (js : List Record) (s : State) (is : Stands own js s) w
       by_deposit None = refl
       by_deposit (Some d) = refl
 
-  check_is : (tick : ℕ) → check_in own s.copies tick ≡ on_check own js tick
+  pub check_is : (tick : ℕ) → check_in own s.copies tick ≡ on_check own js tick
   unfolding check_in on_check
   check_is tick = λ i. record { records = filter_map (λ (au : AuPlan). cond (note_is tick au.id i) (Some (records.Overdue au.id tick)) None) own.aus; sends = [] }
-
-  -- All rows.
-
-  message_is : (from : ℕ) (m : Message) (judged : Judged) → receive_in own s from m judged ≡ on_message own js from m judged
-  message_is from (message.PollChallenge n agrees) judged = challenge_is from n agrees
-  message_is from (message.Nominate n nominees) judged = nominate_is from n nominees
-  message_is from (message.Vote n hashes proof) judged = vote_row from n hashes judged
-  message_is from (message.Repair n b bytes) judged = repair_is from n b bytes
-  message_is from m judged = refl
-
-  reacts : (tick : ℕ) (i : Input) → react_on own s tick i ≡ reaction own js tick i
-  unfolding react_on reaction
-  reacts tick (input.OpenPoll au) = open_is tick au
-  reacts tick (input.Widen n) = widen_is n
-  reacts tick (input.Shut n) = shut_is tick n
-  reacts tick (input.Tally n) = tally_is tick n
-  reacts tick (input.Nudge n) = nudge_is n
-  reacts tick (input.GiveUp n) = give_up_is n
-  reacts tick input.Check = check_is tick
-  reacts tick (input.Got from m judged) = message_is from m judged
-  reacts tick i = refl
-
-pub law : (own : Station) (journal : List Record) → AreWritten [] journal → (tick : ℕ) (i : Input) → react_on own (state_of own journal) tick i ≡ reaction own journal tick i
-law own journal written tick i = reacts own journal (state_of own journal) (state_stands own journal written) tick i

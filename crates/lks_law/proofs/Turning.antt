@@ -3,20 +3,22 @@ use Rattle.std.proofs.Common.{◌≡◌, ◌∙◌, ap, sym, ℕ, Bool, true, fa
 use Rattle.std.specs.Prelude.{Option, Some, None, is_some, map, ◌&&◌}
 use Rattle.std.specs.List.{filter_map, cons_option, range_with_len}
 use Rattle.std.proofs.lemmas.Bool.{eq-eqb}
-use Rattle.lks_base.specs.declared.events.PeerStep.TheVariants.{Tally}
+use Rattle.lks_base.specs.declared.events.PeerStep.TheVariants.{Tally, Work}
 use Rattle.lks_base.specs.declared.plans.Rules.{Rules}
 use Rattle.lks_base.specs.declared.records.Record.{Record}
 use Rattle.lks_base.specs.declared.records.Record.TheVariants.{PollOpened, VoteIn}
-use Rattle.lks_law.specs.Due.{ready_at, turn_at, turn_of, turns_at}
+use Rattle.lks_law.specs.Due.{works_at, tallies_at, ready_at, turn_at, turn_of, turns_at}
 use Rattle.lks_law.specs.Entries.{has_inner, is_inner}
 use Rattle.lks_law.specs.Journal.{Opening, opened_in, opened_numbers, opening_in, opening_of, openings, is_closed, is_running, is_shut, is_voting, is_widened, unanswered}
 use Rattle.lks_law.specs.Polls.{Station}
 use Rattle.lks_law.specs.Reaction.{may_tally}
 use Rattle.lks_law.specs.State.{settled, Poll, poll_at, state_of}
-use Rattle.lks_law.specs.Turning.{ready_in, ready_on, turn_in, turns_on, has_inner_of, has_inner_in}
+use Rattle.lks_law.specs.Taking.{Pinned}
+use Rattle.lks_law.specs.Turning.{works_on, ready_in, tallies_on, ready_on, turn_in, turns_on, has_inner_of, has_inner_in}
 use Rattle.lks_law.specs.Written.{AreWritten}
 use Rattle.lks_law.proofs.Grown.{closed_more}
 use Rattle.lks_law.proofs.Kept.{same_opening}
+use Rattle.lks_law.proofs.Parts.{poll_of_pinned}
 use Rattle.lks_law.proofs.RunningPolls.{poll_as, running_in, polls_of, running_by}
 use Rattle.lks_law.proofs.Scans.{widened_is}
 use Rattle.lks_law.proofs.Standing.{poll_is, state_stands}
@@ -83,12 +85,23 @@ turn_walks id js n o is = by_closed (is_closed n js) ∙ ap (λ b. cond (b && no
     by_closed true = refl
     by_closed false = ap (turn_at id n (is_some (unanswered n js)) (not (is_shut n js))) (widened_is n js)
 
-pub ready_is : (own : Station) (js : List Record) → AreWritten [] js → opened_numbers js ≡ range_with_len 1 (openings js) → ready_on own (state_of own js) ≡ ready_at (record { own = own; journal = js })
-unfolding ready_on ready_at
-ready_is own js written numbered =
+works_are : (own : Station) (js : List Record) → AreWritten [] js → works_on own (state_of own js).voter ≡ works_at (record { own = own; journal = js })
+unfolding works_on works_at
+works_are own js written = named_so (state_of own js).voter.pinned ∙ ap (map (Work own.id)) (state_stands own js written).voter.order
+  where
+    named_so : (ps : List Pinned) → map (λ (p : Pinned). Work own.id p.session.poll) ps ≡ map (Work own.id) (map poll_of_pinned ps)
+    named_so [] = refl
+    named_so (p ∷ ps) = ap (λ ss. Work own.id p.session.poll ∷ ss) (named_so ps)
+
+tallies_are : (own : Station) (js : List Record) → AreWritten [] js → opened_numbers js ≡ range_with_len 1 (openings js) → tallies_on own (state_of own js) ≡ tallies_at (record { own = own; journal = js })
+unfolding tallies_on tallies_at
+tallies_are own js written numbered =
     ap (filter_map (ready_in own.id)) (state_stands own js written).polls
     ∙ walk own.rules js (λ n. cond (may_tally n js) (Some (Tally own.id n)) None) (ready_in own.id) (tally_walks own.id js) numbered
     ∙ chosen (λ n. may_tally n js) (Tally own.id) (range_with_len 1 (openings js))
+
+pub ready_is : (own : Station) (js : List Record) → AreWritten [] js → opened_numbers js ≡ range_with_len 1 (openings js) → ready_on own (state_of own js) ≡ ready_at (record { own = own; journal = js })
+ready_is own js written numbered = λ i. works_are own js written i ++ tallies_are own js written numbered i
 
 pub turns_are : (own : Station) (js : List Record) → AreWritten [] js → opened_numbers js ≡ range_with_len 1 (openings js) → turns_on own (state_of own js) ≡ turns_at (record { own = own; journal = js })
 unfolding turns_on turns_at

@@ -1,5 +1,5 @@
 -- Journals that were begun before numbers could be tuned: which of their records lack numbers, and what these keep.
-use Rattle.std.proofs.Common.{◌≡◌, ◌+◌, ◌∙◌, inl, inr, ap, sym, subst, ℕ, Bool, true, false, cond, List, [], ◌∷◌, ◌++◌, length, refl}
+use Rattle.std.proofs.Common.{◌≡◌, ◌+◌, ◌∙◌, ◌⊎◌, inl, inr, ap, sym, subst, ℕ, Bool, true, false, cond, List, [], ◌∷◌, ◌++◌, length, refl}
 use Rattle.std.specs.Prelude.{Option, Some, None, map, not, ◌&&◌}
 use Rattle.std.specs.List.{filter_map, cons_option}
 use Rattle.lks_base.specs.declared.messages.Message.{Message}
@@ -15,15 +15,19 @@ use Rattle.lks_hash.specs.Hashes.{nonce_from}
 use Rattle.lks_law.specs.Facts.{AddsFor, limits_left, unnumbered}
 use Rattle.lks_law.specs.Journal.{Opening, Request, opening_of, openings, is_voting, is_widened, unanswered}
 use Rattle.lks_law.specs.Polls.{Station, limits_in_force, verdict_in, candidate, restores}
-use Rattle.lks_law.specs.Reaction.{nothing, for_opening, may_open, opened, on_open, widened, on_widen, is_inquorate, shut_inquorate, shut, on_shut, may_tally, closed, asked, tallied, on_tally, reminded, asked_again, on_nudge, given_up, on_give_up, must_note, overdue_in, on_check, may_prove, proved, on_challenge, may_nominate, nominated, on_nominate, is_accepted, may_vote, counted, on_vote, may_repair, repaired, on_repair, on_message, reaction}
+use Rattle.lks_law.specs.Reaction.{nothing, for_opening, may_open, opened, on_open, widened, on_widen, is_inquorate, shut_inquorate, shut, on_shut, may_tally, closed, asked, tallied, on_tally, reminded, asked_again, on_nudge, given_up, on_give_up, must_note, overdue_in, on_check, may_prove, proved, on_challenge, may_nominate, nominated, on_nominate, is_accepted, may_vote, counted, on_vote, may_repair, repaired, on_repair}
 use Rattle.lks_law.specs.References.{inner_circle}
+use Rattle.lks_law.specs.Table.{on_message, reaction}
 use Rattle.lks_law.proofs.Kept.{Kept}
 use Rattle.lks_law.proofs.Openings.{kept_opened, kept_on_open, free_of}
 use Rattle.lks_law.proofs.Rows.{KeptBy, kept_nothing}
-use Rattle.lks_law.proofs.Samples.{Adds, inner_sample, open_adds}
+use Rattle.lks_law.proofs.Samples.{Adds, inner_sample, open_adds, voter_adds}
 use Rattle.lks_refs.specs.Lists.{IsReferenceList}
 use Rattle.lks_tally.specs.declared.ballots.Verdict.{Verdict}
 use Rattle.lks_tally.specs.declared.ballots.Verdict.TheVariants as verdict
+use Rattle.lks_law.specs.Voting.{named}
+use Rattle.lks_law.proofs.KeptVoters.{kept_voters}
+use Rattle.lks_law.proofs.VoterAdds.{VoterAdds, unnumbered_adds, invitation_adds, proof_adds, work_adds, request_adds, end_adds, tune_adds}
 
 -- none of the records has numbers to lack
 abbrev pub Same : Reaction → Type 0
@@ -36,6 +40,14 @@ if_same false r s first second = second
 opening_same : (o : Option Opening) (f : Opening → Reaction) → ((x : Opening) → Same (f x)) → Same (for_opening o f)
 opening_same None f same = refl
 opening_same (Some x) f same = same x
+
+-- a message to a poller
+abbrev IsPollers : Message → Type 0
+IsPollers (message.PollChallenge n agrees) = Unit {0}
+IsPollers (message.Nominate n nominees) = Unit {0}
+IsPollers (message.Vote n hashes proof) = Unit {0}
+IsPollers (message.Repair n b bytes) = Unit {0}
+IsPollers m = ⊥
 
 module _ (own : Station) (js : List Record) where
   widen_same : (n : ℕ) → Same (on_widen own js n)
@@ -86,20 +98,20 @@ module _ (own : Station) (js : List Record) where
       first true rest = ap (λ (rs : List Record). records.Overdue au.id tick ∷ rs) rest
       first false rest = rest
 
-  message_same : (from : ℕ) (m : Message) (judged : Judged) → Same (on_message own js from m judged)
+  message_same : (tick from : ℕ) (m : Message) (judged : Judged) → IsPollers m → Same (on_message own js tick from m judged)
   unfolding on_challenge on_nominate on_vote on_repair
-  message_same from (message.PollChallenge n agrees) judged =
+  message_same tick from (message.PollChallenge n agrees) judged is =
       if_same (agrees && is_voting n js) _ nothing (opening_same (opening_of n js) (proved own js from n) (λ o. if_same (may_prove js from n o) _ nothing refl refl)) refl
-  message_same from (message.Nominate n nominees) judged =
+  message_same tick from (message.Nominate n nominees) judged is =
       if_same (is_voting n js && not (is_widened n js)) _ nothing
       (opening_same (opening_of n js) (nominated js from n nominees) (λ o. if_same (may_nominate js from n o) _ nothing refl refl)) refl
-  message_same from (message.Vote n hashes proof) judged =
+  message_same tick from (message.Vote n hashes proof) judged is =
       if_same (is_accepted judged && is_voting n js) _ nothing
       (opening_same (opening_of n js) (counted js from n hashes) (λ o. if_same (may_vote js from n (length hashes) o) _ nothing refl refl)) refl
-  message_same from (message.Repair n b bytes) judged =
+  message_same tick from (message.Repair n b bytes) judged is =
       if_same (may_repair js from n b) _ nothing
       (opening_same (opening_of n js) (repaired own js from n b bytes) (λ o. if_same (restores own n o b bytes js) _ _ refl refl)) refl
-  message_same from m judged = refl
+  message_same tick from m judged is = absurd is
 
   -- what is added for anything but an opening is what the rules say
   pub records_are : (tick : ℕ) (i : Input) (added : List Record) → Same (reaction own js tick i) → AddsFor own js (record { tick = tick; input = i }) added
@@ -129,31 +141,73 @@ module _ (own : Station) (js : List Record) where
       by_test true = (inner_sample own (openings js + 1) js listed, tt)
       by_test false = tt
 
--- each input but an opening
+-- what a poller does or is told, but for an opening
 abbrev IsOther : Input → Type 0
-IsOther (input.OpenPoll au) = ⊥
-IsOther i = Unit {0}
+IsOther (input.Widen n) = Unit {0}
+IsOther (input.Shut n) = Unit {0}
+IsOther (input.Tally n) = Unit {0}
+IsOther (input.Nudge n) = Unit {0}
+IsOther (input.GiveUp n) = Unit {0}
+IsOther input.Check = Unit {0}
+IsOther (input.Got from m judged) = IsPollers m
+IsOther i = ⊥
 
 other_same : (own : Station) (js : List Record) (tick : ℕ) (i : Input) → IsOther i → Same (reaction own js tick i)
 unfolding reaction on_check
-other_same own js tick (input.OpenPoll au) other = absurd other
 other_same own js tick (input.Widen n) other = widen_same own js n
 other_same own js tick (input.Shut n) other = shut_same own js tick n
 other_same own js tick (input.Tally n) other = tally_same own js tick n
 other_same own js tick (input.Nudge n) other = nudge_same own js n
 other_same own js tick (input.GiveUp n) other = give_up_same own js n
 other_same own js tick input.Check other = noted_same own js tick own.aus
-other_same own js tick (input.Got from m judged) other = message_same own js from m judged
-other_same own js tick i other = refl
+other_same own js tick (input.Got from m judged) other = message_same own js tick from m judged other
+other_same own js tick i other = absurd other
+
+-- An opening, what a poller does or is told else, or what a voter does or is told.
+
+abbrev Half : Station → List Record → ℕ → Input → Type 0
+Half own js tick i = ((au : ℕ) × (i ≡ input.OpenPoll au)) ⊎ IsOther i ⊎ VoterAdds js (reaction own js tick i).records
+
+half : (own : Station) (js : List Record) (tick : ℕ) (i : Input) → Half own js tick i
+unfolding reaction
+half own js tick (input.OpenPoll au) = inl (au, refl)
+half own js tick (input.Widen n) = inr (inl tt)
+half own js tick (input.Shut n) = inr (inl tt)
+half own js tick (input.Tally n) = inr (inl tt)
+half own js tick (input.Nudge n) = inr (inl tt)
+half own js tick (input.GiveUp n) = inr (inl tt)
+half own js tick input.Check = inr (inl tt)
+half own js tick (input.Work q) = inr (inr (work_adds own js q))
+half own js tick (input.Expire q) = inr (inr (end_adds own js q))
+half own js tick (input.Tune quorum minority repairs) = inr (inr (tune_adds own js quorum minority repairs))
+half own js tick (input.Got from (message.Poll n au) judged) = inr (inr (invitation_adds own js tick (named from n) au))
+half own js tick (input.Got from (message.PollChallenge n agrees) judged) = inr (inl tt)
+half own js tick (input.Got from (message.PollProof n nonce kind proof) judged) = inr (inr (proof_adds own js (named from n) nonce kind judged))
+half own js tick (input.Got from (message.Nominate n nominees) judged) = inr (inl tt)
+half own js tick (input.Got from (message.Vote n hashes proof) judged) = inr (inl tt)
+half own js tick (input.Got from (message.RepairRequest n b) judged) = inr (inr (request_adds own js (named from n) b))
+half own js tick (input.Got from (message.Repair n b bytes) judged) = inr (inl tt)
+half own js tick (input.Got from (message.Receipt n) judged) = inr (inr (end_adds own js (named from n)))
 
 -- whatever is added, with its numbers or without, keeps what the rules keep, and its circles are samples
-module _ (own : Station) (js : List Record) where
-  pub adds_kept : (tick : ℕ) (i : Input) (added : List Record) → KeptBy own js (reaction own js tick i) → Kept own js
-      → AddsFor own js (record { tick = tick; input = i }) added → Kept own (js ++ added)
-  adds_kept tick (input.OpenPoll au) added by kept adds = opens_kept own js tick au added adds kept
-  adds_kept tick i added by kept adds = subst (λ (rs : List Record). Kept own (js ++ rs)) (sym (records_are own js tick i added (other_same own js tick i tt) adds)) by
+module _ (own : Station) (js : List Record) (tick : ℕ) (i : Input) (added : List Record) (adds : AddsFor own js (record { tick = tick; input = i }) added) where
+  -- what is added by a voter is still such without its numbers
+  voters_added : VoterAdds js (reaction own js tick i).records → VoterAdds js added
+  voters_added may = elim adds [
+    | inl is ↦ subst (VoterAdds js) (sym is) may
+    | inr lacks ↦ subst (VoterAdds js) (sym lacks.1) (unnumbered_adds js _ may)
+  ]
 
-  pub adds_circles : (tick : ℕ) (i : Input) (added : List Record) → Adds own js (reaction own js tick i).records → IsReferenceList own.id own.refs
-      → AddsFor own js (record { tick = tick; input = i }) added → Adds own js added
-  adds_circles tick (input.OpenPoll au) added by listed adds = opens_add own js tick au added listed adds
-  adds_circles tick i added by listed adds = subst (Adds own js) (sym (records_are own js tick i added (other_same own js tick i tt) adds)) by
+  pub adds_kept : KeptBy own js (reaction own js tick i) → Kept own js → Kept own (js ++ added)
+  adds_kept by kept = elim (half own js tick i) [
+    | inl (au, opens) ↦ opens_kept own js tick au added (subst (λ i. AddsFor own js (record { tick = tick; input = i }) added) opens adds) kept
+    | inr (inl other) ↦ subst (λ (rs : List Record). Kept own (js ++ rs)) (sym (records_are own js tick i added (other_same own js tick i other) adds)) by
+    | inr (inr may) ↦ kept_voters own js kept added (voters_added may)
+  ]
+
+  pub adds_circles : Adds own js (reaction own js tick i).records → IsReferenceList own.id own.refs → Adds own js added
+  adds_circles by listed = elim (half own js tick i) [
+    | inl (au, opens) ↦ opens_add own js tick au added listed (subst (λ i. AddsFor own js (record { tick = tick; input = i }) added) opens adds)
+    | inr (inl other) ↦ subst (Adds own js) (sym (records_are own js tick i added (other_same own js tick i other) adds)) by
+    | inr (inr may) ↦ voter_adds own js added (voters_added may)
+  ]

@@ -25,7 +25,8 @@ use Rattle.lks_base.specs.declared.records.Record.TheVariants as records
 use Rattle.lks_law.specs.Facts.{Heard, AddsFor, GoesBy, IsJournalOf, HasJournal, unnumbered}
 use Rattle.lks_law.specs.Journal.{Opening, Request, opening_of, openings, is_opening, is_closed, is_running, is_voting, is_shut, is_widened, asks_any, shuts, unanswered_after, unanswered}
 use Rattle.lks_law.specs.Polls.{Station, verdict_in, candidate, restores}
-use Rattle.lks_law.specs.Reaction.{reaction, nothing, for_opening, may_open, opened, on_open, widened, on_widen, is_inquorate, shut_inquorate, shut, on_shut, may_tally, closed, asked, tallied, on_tally, must_note, overdue_in, on_check, reminded, asked_again, on_nudge, given_up, on_give_up, may_prove, proved, on_challenge, may_nominate, nominated, on_nominate, is_accepted, may_vote, counted, on_vote, may_repair, repaired, on_repair, on_message}
+use Rattle.lks_law.specs.Reaction.{nothing, for_opening, may_open, opened, on_open, widened, on_widen, is_inquorate, shut_inquorate, shut, on_shut, may_tally, closed, asked, tallied, on_tally, must_note, overdue_in, on_check, reminded, asked_again, on_nudge, given_up, on_give_up, may_prove, proved, on_challenge, may_nominate, nominated, on_nominate, is_accepted, may_vote, counted, on_vote, may_repair, repaired, on_repair}
+use Rattle.lks_law.specs.Table.{reaction, on_message}
 use Rattle.lks_law.specs.World.{Standing, deposit_for, deposits, world}
 use Rattle.lks_law.specs.Written.{is_deposit, is_of, MayFollow, AreWritten}
 use Rattle.lks_law.proofs.Grown.{openings_more, closed_more, shut_more, unanswered_more}
@@ -35,6 +36,8 @@ use Rattle.lks_law.proofs.RunningPolls.{unnamed}
 use Rattle.lks_law.proofs.Standing.{state_stands}
 use Rattle.lks_tally.specs.declared.ballots.Verdict.{Verdict}
 use Rattle.lks_tally.specs.declared.ballots.Verdict.TheVariants as verdict
+use Rattle.lks_law.specs.Voting.{named}
+use Rattle.lks_law.proofs.VoterAdds.{IsVoters, VoterMay, VoterAdds, unnumbered_adds, invitation_adds, proof_adds, work_adds, request_adds, end_adds, tune_adds}
 
 -- no record names a poll that isn't opened
 abbrev IsNamed : List Record → Type 0
@@ -271,22 +274,51 @@ module _ (own : Station) (js : List Record) (proper : Proper js) where
       either true = at_opening (opening_of n js) (reminded js n) (λ o opened. (tt, tt))
       either false = by_request (unanswered n js)
 
-  message_may : (from : ℕ) (m : Message) (judged : Judged) → MayBoth js (on_message own js from m judged).records
+  voter_may : (r : Record) → VoterMay js r → MayAdd js r
+  voter_may r may = record { follows = may.follows; named = λ n e. absurd (not_own r may.voters n e); over = λ n e. absurd (not_asking r may.voters n e) }
+    where
+      not_own : (r : Record) → IsVoters r → (n : ℕ) → is_of n r ≡ true → ⊥
+      not_own (records.Joined poll au tick low repairs) is n e = absurd cc
+      not_own (records.Committed poll nonce version kind) is n e = absurd cc
+      not_own (records.Voted poll hashes) is n e = absurd cc
+      not_own (records.Served poll block) is n e = absurd cc
+      not_own (records.Ended poll) is n e = absurd cc
+      not_own (records.Tuned quorum minority repairs) is n e = absurd cc
+      not_own r is n e = absurd is
+
+      not_asking : (r : Record) → IsVoters r → (n : ℕ) → asks_any n r ≡ true → ⊥
+      not_asking (records.Joined poll au tick low repairs) is n e = absurd cc
+      not_asking (records.Committed poll nonce version kind) is n e = absurd cc
+      not_asking (records.Voted poll hashes) is n e = absurd cc
+      not_asking (records.Served poll block) is n e = absurd cc
+      not_asking (records.Ended poll) is n e = absurd cc
+      not_asking (records.Tuned quorum minority repairs) is n e = absurd cc
+      not_asking r is n e = absurd is
+
+  one_half : (rs : List Record) → VoterAdds js rs → MayAll js rs
+  one_half [] may = tt
+  one_half (r ∷ []) may = (voter_may r may, tt)
+  one_half (r ∷ s ∷ rs) may = absurd may
+
+  voters_may : (rs : List Record) → VoterAdds js rs → MayBoth js rs
+  voters_may rs may = (one_half rs may, one_half (map unnumbered rs) (unnumbered_adds js rs may))
+
+  message_may : (tick from : ℕ) (m : Message) (judged : Judged) → MayBoth js (on_message own js tick from m judged).records
   unfolding on_challenge on_nominate on_vote on_repair
-  message_may from (message.PollChallenge n agrees) judged =
+  message_may tick from (message.PollChallenge n agrees) judged =
       if_may (agrees && is_voting n js) (for_opening (opening_of n js) (proved own js from n)) (λ may.
       at_opening (opening_of n js) (proved own js from n) (λ o opened. if_may (may_prove js from n o) _ (λ e. (tt, tt))))
-  message_may from (message.Nominate n nominees) judged =
+  message_may tick from (message.Nominate n nominees) judged =
       if_may (is_voting n js && not (is_widened n js)) (for_opening (opening_of n js) (nominated js from n nominees)) (λ may.
       at_opening (opening_of n js) (nominated js from n nominees) (λ o opened.
       if_may (may_nominate js from n o) _ (λ e.
       alike js (records.Nominated n from nominees ∷ []) refl (one_may n o (records.Nominated n from nominees) opened tt (λ m. refl) (λ m e. absurd cc), tt))))
-  message_may from (message.Vote n hashes proof) judged =
+  message_may tick from (message.Vote n hashes proof) judged =
       if_may (is_accepted judged && is_voting n js) (for_opening (opening_of n js) (counted js from n hashes)) (λ may.
       at_opening (opening_of n js) (counted js from n hashes) (λ o opened.
       if_may (may_vote js from n (length hashes) o) _ (λ e.
       alike js (records.VoteIn n from hashes ∷ []) refl (one_may n o (records.VoteIn n from hashes) opened tt (λ m. refl) (λ m e. absurd cc), tt))))
-  message_may from (message.Repair n b bytes) judged =
+  message_may tick from (message.Repair n b bytes) judged =
       if_may (may_repair js from n b) (for_opening (opening_of n js) (repaired own js from n b bytes)) (λ may.
       at_opening (opening_of n js) (repaired own js from n b bytes) (λ o opened. either (restores own n o b bytes js) o opened))
     where
@@ -294,7 +326,10 @@ module _ (own : Station) (js : List Record) (proper : Proper js) where
           → MayBoth js (cond {A = Reaction} t (record { records = records.Replaced n o.au b bytes ∷ []; sends = [] }) (record { records = records.RepairBad n b from ∷ []; sends = [] })).records
       either true o opened = alike js (records.Replaced n o.au b bytes ∷ []) refl (one_may n o (records.Replaced n o.au b bytes) opened tt (λ m. refl) (λ m e. absurd cc), tt)
       either false o opened = alike js (records.RepairBad n b from ∷ []) refl (one_may n o (records.RepairBad n b from) opened tt (λ m. refl) (λ m e. absurd cc), tt)
-  message_may from m judged = (tt, tt)
+  message_may tick from (message.Poll n au) judged = voters_may _ (invitation_adds own js tick (named from n) au)
+  message_may tick from (message.PollProof n nonce kind proof) judged = voters_may _ (proof_adds own js (named from n) nonce kind judged)
+  message_may tick from (message.RepairRequest n b) judged = voters_may _ (request_adds own js (named from n) b)
+  message_may tick from (message.Receipt n) judged = voters_may _ (end_adds own js (named from n))
 
 noted_may : (own : Station) (all js : List Record) (tick : ℕ) (aus : List AuPlan) → MayBoth js (filter_map (overdue_in own all tick) aus)
 noted_may own all js tick [] = (tt, tt)
@@ -317,8 +352,10 @@ reaction_may own js tick (input.Tally n) proper = tally_may own js proper tick n
 reaction_may own js tick (input.Nudge n) proper = nudge_may own js proper n
 reaction_may own js tick (input.GiveUp n) proper = give_up_may own js proper n
 reaction_may own js tick input.Check proper = noted_may own js js tick own.aus
-reaction_may own js tick (input.Got from m judged) proper = message_may own js proper from m judged
-reaction_may own js tick i proper = (tt, tt)
+reaction_may own js tick (input.Got from m judged) proper = message_may own js proper tick from m judged
+reaction_may own js tick (input.Work q) proper = voters_may own js proper _ (work_adds own js q)
+reaction_may own js tick (input.Expire q) proper = voters_may own js proper _ (end_adds own js q)
+reaction_may own js tick (input.Tune quorum minority repairs) proper = voters_may own js proper _ (tune_adds own js quorum minority repairs)
 
 -- The beginning: deposits alone.
 

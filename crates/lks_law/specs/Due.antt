@@ -11,6 +11,7 @@ use Rattle.lks_base.specs.declared.plans.Plan.{Plan}
 use Rattle.lks_base.specs.declared.records.Record.{Record}
 use Rattle.lks_law.specs.Journal.{openings, is_running, is_voting, is_widened, unanswered}
 use Rattle.lks_law.specs.Reaction.{may_tally}
+use Rattle.lks_law.specs.Sessions.{may_work, committed_polls}
 use Rattle.lks_law.specs.World.{World, Standing, world}
 
 -- whether the step delivers envelope i
@@ -43,9 +44,17 @@ is_pending history i = not (list_any (takes_out i) history)
 unfoldable pub pending : Plan → List Event → List ℕ
 pending plan history = filter (is_pending history) (range_with_len 0 (length (world plan history).bag))
 
--- the tallies for which a peer is ready, by poll number
-unfoldable pub ready_at : Standing → List PeerStep
-ready_at s = map (Tally s.own.id) (filter (λ n. may_tally n s.journal) (range_with_len 1 (openings s.journal)))
+-- the votes for which a peer is ready, in order of its commitments
+unfoldable pub works_at : Standing → List PeerStep
+works_at s = map (Work s.own.id) (filter (λ q. may_work q s.journal) (committed_polls s.journal))
+
+-- the tallies for which it is ready, by poll number
+unfoldable pub tallies_at : Standing → List PeerStep
+tallies_at s = map (Tally s.own.id) (filter (λ n. may_tally n s.journal) (range_with_len 1 (openings s.journal)))
+
+-- the votes and then the tallies
+abbrev pub ready_at : Standing → List PeerStep
+ready_at s = works_at s ++ tallies_at s
 
 -- the work that is ready, in the plan's order of peers
 unfoldable pub ready : World → List PeerStep

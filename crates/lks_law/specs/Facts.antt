@@ -13,7 +13,7 @@ use Rattle.lks_base.specs.declared.records.Record.{Record}
 use Rattle.lks_base.specs.declared.records.Record.TheVariants as records
 use Rattle.lks_law.specs.Journal.{Opening, Request, contents_of, opening_of, is_shut, is_closed, has_asked, waiting, unanswered, openings, opened_numbers, was_tuned}
 use Rattle.lks_law.specs.Polls.{Station, limits_of, votes, inner_votes, said_at}
-use Rattle.lks_law.specs.Reaction.{reaction}
+use Rattle.lks_law.specs.Table.{reaction}
 use Rattle.lks_law.specs.World.{Standing, World, is_honest, station_of, deposits}
 use Rattle.lks_message.specs.Spelling.{IsWithin}
 use Rattle.lks_tally.specs.Distinct.{AreDistinct}

@@ -3,7 +3,7 @@ use Rattle.std.specs.Prelude.{◌≡◌, ◌≤◌, ◌<◌, ◌&&◌, ℕ, Bool
 use Rattle.std.specs.List.{list_all}
 use Rattle.lks_base.specs.Checking.{has_member}
 use Rattle.lks_base.specs.Quorums.{obeys_quorum_rule}
-use Rattle.lks_base.specs.declared.limits.TheConstants.{MOST_BLOCKS, MOST_CIRCLE}
+use Rattle.lks_base.specs.declared.limits.TheConstants.{MOST_BLOCKS, MOST_BLOCK_BYTES, MOST_CIRCLE, MOST_REPAIRS}
 use Rattle.lks_base.specs.declared.names.Outcome.{Outcome}
 use Rattle.lks_base.specs.declared.names.Outcome.TheVariants.{Agreed, Inquorate, Split, NoSupplier}
 use Rattle.lks_base.specs.declared.records.Record.{Record}
@@ -11,6 +11,7 @@ use Rattle.lks_base.specs.declared.records.Record.TheVariants.{Deposit, PollOpen
 use Rattle.lks_law.specs.Polls.{Station}
 use Rattle.lks_law.specs.Reacting.{verdict_of}
 use Rattle.lks_law.specs.State.{Poll, Copy, State, poll_at, copy_at, blocks_at, after}
+use Rattle.lks_law.specs.Taking.{Session, Pinned, Cast, Mark, Voter, cast_at}
 use Rattle.lks_tally.specs.declared.ballots.Verdict.TheVariants as verdict
 
 -- what is true of it, where it is there
@@ -26,6 +27,10 @@ most_numbered = 4294967295
 abbrev pub IsCounted : List (List ℕ) → Type 0
 IsCounted blocks = (1 ≤ length blocks) × (length blocks ≤ MOST_BLOCKS)
 
+-- each of them no larger than a block may be
+abbrev pub AreSmall : List (List ℕ) → Type 0
+AreSmall blocks = All (λ (b : List ℕ). length b ≤ MOST_BLOCK_BYTES) blocks
+
 -- numbers with which a poll may be opened
 abbrev pub AreLegal : ℕ → ℕ → Type 0
 AreLegal quorum minority = (1 ≤ quorum) × (quorum ≤ MOST_CIRCLE) × (obeys_quorum_rule quorum minority ≡ true)
@@ -37,30 +42,40 @@ FitsOutcome own s p Inquorate = Unit {0}
 FitsOutcome own s p (Split block) = Unit {0}
 FitsOutcome own s p (NoSupplier block) = Unit {0}
 
--- A deposit has blocks, and comes before any poll; a poll is opened on a held AU; a voter of a running one votes once, with a hash for each block; a voter is asked
--- for a block that the AU has, once voting ended and while nobody is waited for; a block that the AU has is replaced; and
--- numbers in force are such that a poll may be opened with them.
+-- a vote more of this peer, or for it, can be counted
+abbrev pub has_mark_left : Mark → Bool
+has_mark_left m = nat_lt m.received most_numbered && nat_lt m.given most_numbered
+
+-- and of every peer
+abbrev pub marks_left : Voter → Bool
+marks_left v = list_all has_mark_left v.marks
+
+-- A deposit has blocks, and comes before any poll; a poll is opened on a held AU; a voter of a running one votes once, with a
+-- hash for each block; a voter is asked for a block that the AU has, once voting ended and while nobody is waited for; a block
+-- that the AU has is replaced; a poll of another is joined on a held AU; a new block is given while more may be; and numbers in
+-- force are such that a poll may be opened with them.
 abbrev pub Fits : Station → State → Record → Type 0
-Fits own s (Deposit au blocks) = IsCounted blocks × (s.polls ≡ [])
+Fits own s (Deposit au blocks) = IsCounted blocks × (s.polls ≡ []) × AreSmall blocks
 Fits own s (PollOpened number au nonce inner tick limits kind) = (is_some (copy_at au s.copies) ≡ true) × (length inner ≤ MOST_CIRCLE) × (s.openings < most_numbered)
 Fits own s (Nominated number voter nominees) = Unit {0}
 Fits own s (OuterOpened number outer) = Unit {0}
 Fits own s (VoteIn number voter hashes) =
     (is_some (poll_at number s.polls) ≡ true)
     × Where (poll_at number s.polls) (λ p. (has_member p.voters voter ≡ false) × (length hashes ≡ length (blocks_at p.opening.au s.copies)))
+    × (marks_left s.voter ≡ true)
 Fits own s (Shut number) = Unit {0}
 Fits own s (Asked number block voter) =
     Where (poll_at number s.polls) (λ p. (p.shut ≡ true) × (p.request ≡ None) × (block < length (blocks_at p.opening.au s.copies)))
 Fits own s (RepairBad number block voter) = Unit {0}
-Fits own s (Replaced number au block bytes) = Where (copy_at au s.copies) (λ c. (block < length c.blocks) × (c.version < most_numbered))
+Fits own s (Replaced number au block bytes) = Where (copy_at au s.copies) (λ c. (block < length c.blocks) × (c.version < most_numbered)) × (length bytes ≤ MOST_BLOCK_BYTES)
 Fits own s (Closed number outcome tick) = Where (poll_at number s.polls) (λ p. FitsOutcome own s p outcome)
 Fits own s (Overdue au tick) = Unit {0}
-Fits own s (Joined poll au tick low repairs) = Unit {0}
+Fits own s (Joined poll au tick low repairs) = is_some (copy_at au s.copies) ≡ true
 Fits own s (Committed poll nonce version kind) = Unit {0}
-Fits own s (Voted poll hashes) = Unit {0}
-Fits own s (Served poll block) = Unit {0}
+Fits own s (Voted poll hashes) = (length hashes ≤ MOST_BLOCKS) × (marks_left s.voter ≡ true)
+Fits own s (Served poll block) = Where (cast_at poll s.voter.cast) (λ c. (has_member c.served block ≡ false) × (length c.served < c.pinned.session.repairs))
 Fits own s (Ended poll) = Unit {0}
-Fits own s (Tuned quorum minority repairs) = AreLegal quorum minority
+Fits own s (Tuned quorum minority repairs) = AreLegal quorum minority × (repairs ≤ MOST_REPAIRS)
 
 -- each of these records, one after another
 abbrev pub AreFitting : Station → State → List Record → Type 0
@@ -71,13 +86,30 @@ AreFitting own s (r ∷ rs) = Fits own s r × AreFitting own (after own s r) rs
 abbrev pub AsksWithin : List Copy → Poll → Type 0
 AsksWithin copies p = Where p.request (λ r. r.block < length (blocks_at p.opening.au copies))
 
--- each copy has as many blocks as an AU has, each request of a running poll is for one of them, and a poll may be opened with
--- the numbers in force
+-- the AU of a session is held
+abbrev pub IsOnHeld : List Copy → Session → Type 0
+IsOnHeld copies x = is_some (copy_at x.au copies) ≡ true
+
+-- a version that is pinned has as many blocks as an AU has, none of them too large
+abbrev pub IsPinnedWell : Pinned → Type 0
+IsPinnedWell p = IsCounted p.blocks × AreSmall p.blocks
+
+-- and its vote no more hashes
+abbrev pub IsCastWell : Cast → Type 0
+IsCastWell c = IsPinnedWell c.pinned × (length c.hashes ≤ MOST_BLOCKS)
+
+-- each copy has as many blocks as an AU has, none of them too large; each request of a running poll is for one of them; each
+-- session is on a held AU, and what it pins is such a copy; and a poll may be opened with the numbers in force
 pub record IsSound (s : State) : Type 0 where
   pub counted : All (λ (c : Copy). IsCounted c.blocks) s.copies
+  pub small : All (λ (c : Copy). AreSmall c.blocks) s.copies
   pub asks : All (AsksWithin s.copies) s.polls
+  pub held : All (IsOnHeld s.copies) s.voter.sessions
+  pub pinned : All IsPinnedWell s.voter.pinned
+  pub cast : All IsCastWell s.voter.cast
   pub legal : AreLegal s.numbers.quorum s.numbers.minority
+  pub repairs : s.numbers.repairs ≤ MOST_REPAIRS
 
--- whether a poll and a version more can be numbered
+-- whether a poll, a version and a vote more can be numbered
 abbrev pub has_room : State → Bool
-has_room s = nat_lt s.openings most_numbered && list_all (λ (c : Copy). nat_lt c.version most_numbered) s.copies
+has_room s = nat_lt s.openings most_numbered && list_all (λ (c : Copy). nat_lt c.version most_numbered) s.copies && marks_left s.voter

@@ -60,6 +60,11 @@ abbrev pub tells_of : {X : Type 0} → ℕ → (X → Bool) → Option (Told X) 
 tells_of n test None = false
 tells_of n test (Some told) = told.number == n && test told.fact
 
+-- the later of two ticks
+abbrev pub later : Option ℕ → ℕ → Option ℕ
+later None tick = Some tick
+later (Some before) tick = Some (if nat_lt before tick then tick else before)
+
 -- Matches on one record.
 
 abbrev pub deposit_in : ℕ → Record → Option (List (List ℕ))

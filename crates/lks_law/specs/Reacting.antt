@@ -3,15 +3,12 @@
 use Rattle.std.specs.Prelude.{ℕ, Bool, false, not, ◌&&◌, ◌==◌, ◌+◌, ◌-◌, nat_lt, if◌then◌else◌, Option, Some, None, is_some, unwrap_or, List, [], ◌∷◌, ◌++◌, length, map, filter, find, slice_set}
 use Rattle.std.specs.List.{list_any, filter_map}
 use Rattle.lks_base.specs.Checking.{has_member}
-use Rattle.lks_base.specs.declared.messages.Message.{Message}
 use Rattle.lks_base.specs.declared.messages.Message.TheVariants as message
 use Rattle.lks_base.specs.declared.names.Judged.{Judged}
 use Rattle.lks_base.specs.declared.names.Limits.{Limits}
 use Rattle.lks_base.specs.declared.names.Outcome.{Outcome}
 use Rattle.lks_base.specs.declared.names.Outcome.TheVariants as outcome
 use Rattle.lks_base.specs.declared.plans.AuPlan.{AuPlan}
-use Rattle.lks_base.specs.declared.reactions.Input.{Input}
-use Rattle.lks_base.specs.declared.reactions.Input.TheVariants as input
 use Rattle.lks_base.specs.declared.reactions.Outgoing.{Outgoing}
 use Rattle.lks_base.specs.declared.reactions.Reaction.{Reaction}
 use Rattle.lks_base.specs.declared.records.Record.{Record}
@@ -22,7 +19,7 @@ use Rattle.lks_hash.specs.Hashes.{nonce_from}
 use Rattle.lks_law.specs.Journal.{Request}
 use Rattle.lks_law.specs.Polls.{Station, limits_of, ballot_of, is_win}
 use Rattle.lks_law.specs.Reaction.{nothing, letter, is_accepted, is_request, given_up, asked_again}
-use Rattle.lks_law.specs.State.{Nomination, Poll, Copy, State, poll_at, copy_at, blocks_at}
+use Rattle.lks_law.specs.State.{Nomination, Poll, Copy, State, copy_at, blocks_at}
 use Rattle.lks_refs.specs.Circles.{circle_of}
 use Rattle.lks_tally.specs.PollRules as poll
 use Rattle.lks_tally.specs.Counting.{verdict_at, verdict_on, voters_against}
@@ -211,28 +208,3 @@ repair_in own from b bytes copies p =
     (if said_of own p b bytes (blocks_at p.opening.au copies)
     then record { records = records.Replaced p.number p.opening.au b bytes ∷ []; sends = [] }
     else record { records = records.RepairBad p.number b from ∷ []; sends = [] })
-
--- A poller's messages find nobody yet who votes.
-abbrev pub receive_in : Station → State → ℕ → Message → Judged → Reaction
-receive_in own s from (message.Poll n au) judged = nothing
-receive_in own s from (message.PollChallenge n agrees) judged = for_poll (poll_at n s.polls) (challenge_in own from agrees)
-receive_in own s from (message.PollProof n nonce kind proof) judged = nothing
-receive_in own s from (message.Nominate n nominees) judged = for_poll (poll_at n s.polls) (nominate_in from nominees)
-receive_in own s from (message.Vote n hashes proof) judged = for_poll (poll_at n s.polls) (vote_in_poll from hashes judged s.copies)
-receive_in own s from (message.RepairRequest n b) judged = nothing
-receive_in own s from (message.Repair n b bytes) judged = for_poll (poll_at n s.polls) (repair_in own from b bytes s.copies)
-receive_in own s from (message.Receipt n) judged = nothing
-
--- what a peer in this state adds and sends at this tick
-unfoldable pub react_on : Station → State → ℕ → Input → Reaction
-react_on own s tick (input.OpenPoll au) = open_in own s tick au
-react_on own s tick (input.Widen n) = for_poll (poll_at n s.polls) (widen_in own)
-react_on own s tick (input.Shut n) = for_poll (poll_at n s.polls) (shut_in own tick)
-react_on own s tick (input.Tally n) = for_poll (poll_at n s.polls) (tally_in own tick s.copies)
-react_on own s tick (input.Nudge n) = for_poll (poll_at n s.polls) nudge_in
-react_on own s tick (input.GiveUp n) = for_poll (poll_at n s.polls) give_up_in
-react_on own s tick (input.Work poll) = nothing
-react_on own s tick (input.Expire poll) = nothing
-react_on own s tick input.Check = check_in own s.copies tick
-react_on own s tick (input.Tune quorum minority repairs) = nothing
-react_on own s tick (input.Got from m judged) = receive_in own s from m judged

@@ -1,5 +1,5 @@
--- What a peer adds to its journal and sends, one definition for each thing that it does or receives. Where a condition
--- doesn't hold, nothing is added and nothing sent.
+-- What a peer adds to its journal and sends as a poller, one definition for each thing that it does or receives. Where a
+-- condition doesn't hold, nothing is added and nothing sent.
 use Rattle.std.specs.Prelude.{ℕ, Bool, true, false, not, ◌&&◌, ◌==◌, ◌+◌, nat_lt, if◌then◌else◌, Option, Some, None, is_some, List, [], ◌∷◌, ◌++◌, length, map, filter, count_by}
 use Rattle.std.specs.List.{list_any, filter_map}
 use Rattle.lks_base.specs.Checking.{has_member}
@@ -10,8 +10,6 @@ use Rattle.lks_base.specs.declared.names.Judged.TheVariants.{NotAsked, Accepted,
 use Rattle.lks_base.specs.declared.names.Outcome.{Outcome}
 use Rattle.lks_base.specs.declared.names.Outcome.TheVariants as outcome
 use Rattle.lks_base.specs.declared.plans.AuPlan.{AuPlan}
-use Rattle.lks_base.specs.declared.reactions.Input.{Input}
-use Rattle.lks_base.specs.declared.reactions.Input.TheVariants as input
 use Rattle.lks_base.specs.declared.reactions.Outgoing.{Outgoing}
 use Rattle.lks_base.specs.declared.reactions.Reaction.{Reaction}
 use Rattle.lks_base.specs.declared.records.Record.{Record}
@@ -221,28 +219,3 @@ repaired own journal from n b bytes opening =
 unfoldable pub on_repair : Station → List Record → ℕ → ℕ → ℕ → List ℕ → Reaction
 on_repair own journal from n b bytes =
     if may_repair journal from n b then for_opening (opening_of n journal) (repaired own journal from n b bytes) else nothing
-
--- A poller's messages find nobody yet who votes.
-abbrev pub on_message : Station → List Record → ℕ → Message → Judged → Reaction
-on_message own journal from (message.Poll n au) judged = nothing
-on_message own journal from (message.PollChallenge n agrees) judged = on_challenge own journal from n agrees
-on_message own journal from (message.PollProof n nonce kind proof) judged = nothing
-on_message own journal from (message.Nominate n nominees) judged = on_nominate journal from n nominees
-on_message own journal from (message.Vote n hashes proof) judged = on_vote journal from n hashes judged
-on_message own journal from (message.RepairRequest n b) judged = nothing
-on_message own journal from (message.Repair n b bytes) judged = on_repair own journal from n b bytes
-on_message own journal from (message.Receipt n) judged = nothing
-
--- what a peer with this journal adds and sends at this tick
-unfoldable pub reaction : Station → List Record → ℕ → Input → Reaction
-reaction own journal tick (input.OpenPoll au) = on_open own journal tick au
-reaction own journal tick (input.Widen n) = on_widen own journal n
-reaction own journal tick (input.Shut n) = on_shut own journal tick n
-reaction own journal tick (input.Tally n) = on_tally own journal tick n
-reaction own journal tick (input.Nudge n) = on_nudge journal n
-reaction own journal tick (input.GiveUp n) = on_give_up journal n
-reaction own journal tick (input.Work poll) = nothing
-reaction own journal tick (input.Expire poll) = nothing
-reaction own journal tick input.Check = on_check own journal tick
-reaction own journal tick (input.Tune quorum minority repairs) = nothing
-reaction own journal tick (input.Got from m judged) = on_message own journal from m judged

@@ -1,4 +1,4 @@
--- What stands behind each replaced block.
+-- What is promised of every history.
 use Rattle.std.specs.Prelude.{◌≡◌, ◌≤◌, ℕ, Some, true, List, length, take, slice_get, slice_set}
 use Rattle.lks_base.specs.declared.events.Event.{Event}
 use Rattle.lks_base.specs.declared.plans.Plan.{Plan}
@@ -6,6 +6,7 @@ use Rattle.lks_base.specs.declared.records.Record.{Record}
 use Rattle.lks_base.specs.declared.records.Record.TheVariants.{Replaced}
 use Rattle.lks_law.specs.Journal.{Opening, contents_of, opening_of, is_shut}
 use Rattle.lks_law.specs.Polls.{Station, limits_of, inner_votes, ballot_of}
+use Rattle.lks_law.specs.Snapshots.{HaveSnapshots, HasFewHolders}
 use Rattle.lks_law.specs.World.{Standing, world}
 use Rattle.lks_tally.specs.Counting.{for_at, against_at}
 use Rattle.lks_tally.specs.Distinct.{AreDistinct}
@@ -31,6 +32,10 @@ pub record Evidence (own : Station) (journal : List Record) (n au b : ℕ) (byte
 abbrev pub HasEvidence : Station → List Record → Type 0
 HasEvidence own journal = (i n au b : ℕ) (bytes : List ℕ) → slice_get journal i ≡ Some (Replaced n au b bytes) → Evidence own (take i journal) n au b bytes
 
--- in the world after this history each replaced block of each honest peer has its evidence
+-- In the world after this history each replaced block of each honest peer has its evidence, each vote that an honest peer sent
+-- is over one version of the AU, and of the votes behind a replaced block at most a minority is of honest peers that held it
+-- and all blocks before it.
 pub record Safe (plan : Plan) (history : List Event) : Type 0 where
   pub evidence : (place : ℕ) (s : Standing) → slice_get (world plan history).peers place ≡ Some s → HasEvidence s.own s.journal
+  pub snapshots : HaveSnapshots (world plan history)
+  pub few_holders : (place : ℕ) (s : Standing) → slice_get (world plan history).peers place ≡ Some s → HasFewHolders (world plan history) s

@@ -1,14 +1,16 @@
 -- The state of a peer: all that its journal says to it, and what one record more makes of that.
-use Rattle.std.specs.Prelude.{ℕ, Bool, true, false, ◌==◌, ◌+◌, ◌-◌, nat_lt, if◌then◌else◌, Option, Some, None, is_some, List, [], ◌∷◌, ◌++◌, slice_set, length, find}
+use Rattle.std.specs.Prelude.{ℕ, Bool, true, false, ◌==◌, ◌+◌, ◌-◌, if◌then◌else◌, Option, Some, None, is_some, List, [], ◌∷◌, ◌++◌, slice_set, length, find}
 use Rattle.lks_base.specs.Checking.{has_member}
 use Rattle.lks_base.specs.declared.names.Numbers.{Numbers}
 use Rattle.lks_base.specs.declared.names.Outcome.TheVariants.{Agreed, Inquorate, Split, NoSupplier}
 use Rattle.lks_base.specs.declared.plans.Rules.{Rules}
 use Rattle.lks_base.specs.declared.records.Record.{Record}
 use Rattle.lks_base.specs.declared.records.Record.TheVariants.{Deposit, PollOpened, Nominated, OuterOpened, VoteIn, Shut, Asked, RepairBad, Replaced, Closed, Overdue, Joined, Committed, Voted, Served, Ended, Tuned}
-use Rattle.lks_law.specs.Journal.{Opening, Request, Audit, is_opening, agreed_in, numbers_after}
+use Rattle.lks_law.specs.Journal.{Opening, Request, Audit, is_opening, agreed_in, numbers_after, later}
 use Rattle.lks_law.specs.Polls.{Station, limits_of, ballot_of}
 use Rattle.lks_law.specs.References.{picked_friends}
+use Rattle.lks_law.specs.Firsts.{changed_first, without_first}
+use Rattle.lks_law.specs.Taking.{Voter, newcomer, voter_after}
 use Rattle.lks_refs.specs.Lists.{list_after}
 use Rattle.lks_tally.specs.Counting.{voters_for, voters_against}
 use Rattle.lks_tally.specs.declared.ballots.Vote.{Vote}
@@ -46,16 +48,7 @@ pub record State : Type 0 where
   pub copies : List Copy
   pub polls : List Poll  -- those that run, in order of their openings
   pub refs : List ℕ
-
--- Lists of which one element changes, or goes: the first that passes a test.
-
-abbrev pub changed_first : {X : Type 0} → (X → Bool) → (X → X) → List X → List X
-changed_first is f [] = []
-changed_first is f (x ∷ xs) = if is x then f x ∷ xs else x ∷ changed_first is f xs
-
-abbrev pub without_first : {X : Type 0} → (X → Bool) → List X → List X
-without_first is [] = []
-without_first is (x ∷ xs) = if is x then xs else x ∷ without_first is xs
+  pub voter : Voter  -- its part in polls of others
 
 -- Polls.
 
@@ -163,11 +156,6 @@ blocks_at au cs = blocks_in (copy_at au cs)
 abbrev pub deposited : ℕ → List (List ℕ) → Copy
 deposited au blocks = record { au = au; blocks = blocks; version = 0; opened = None; audit = record { tick = 0; noted = false } }
 
--- the later of two ticks
-abbrev pub later : Option ℕ → ℕ → Option ℕ
-later None tick = Some tick
-later (Some before) tick = Some (if nat_lt before tick then tick else before)
-
 -- a poll on it was opened
 abbrev pub opened_at : ℕ → Copy → Copy
 opened_at tick c = record c { opened = later c.opened tick }
@@ -252,6 +240,7 @@ after own s r =
       copies = copies_after s.polls r s.copies;
       polls = polls_after own.rules r s.polls;
       refs = refs_after own s r;
+      voter = voter_after own.rules (λ au. blocks_at au s.copies) r s.voter;
     }
 
 -- after these records, one after another
@@ -268,6 +257,7 @@ blank own =
       copies = [];
       polls = [];
       refs = own.refs;
+      voter = newcomer;
     }
 
 -- what a journal says to its peer

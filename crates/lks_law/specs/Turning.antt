@@ -1,21 +1,30 @@
 -- What a peer in a state has ready, whose turns come, and who is in its circles. Each says of the state what the word of that
 -- name says of the journal.
-use Rattle.std.specs.Prelude.{ℕ, Bool, false, not, ◌&&◌, if◌then◌else◌, Option, Some, None, is_some, List}
+use Rattle.std.specs.Prelude.{ℕ, Bool, false, not, ◌&&◌, if◌then◌else◌, Option, Some, None, is_some, List, ◌++◌, map}
 use Rattle.std.specs.List.{filter_map}
 use Rattle.lks_base.specs.Checking.{has_member}
 use Rattle.lks_base.specs.declared.events.PeerStep.{PeerStep}
-use Rattle.lks_base.specs.declared.events.PeerStep.TheVariants.{Tally}
+use Rattle.lks_base.specs.declared.events.PeerStep.TheVariants.{Tally, Work}
 use Rattle.lks_law.specs.Due.{turn_at}
 use Rattle.lks_law.specs.Polls.{Station}
 use Rattle.lks_law.specs.State.{Poll, State, poll_at}
+use Rattle.lks_law.specs.Taking.{Pinned, Voter}
+
+-- the votes for which the peer is ready, in order of its commitments
+unfoldable pub works_on : Station → Voter → List PeerStep
+works_on own v = map (λ (p : Pinned). Work own.id p.session.poll) v.pinned
 
 -- the tally of a running poll that is shut and waits for nothing
 abbrev pub ready_in : ℕ → Poll → Option PeerStep
 ready_in id p = if p.shut && not (is_some p.request) then Some (Tally id p.number) else None
 
--- the tallies for which the peer is ready, in order of its running polls
-unfoldable pub ready_on : Station → State → List PeerStep
-ready_on own s = filter_map (ready_in own.id) s.polls
+-- the tallies for which it is ready, in order of its running polls
+unfoldable pub tallies_on : Station → State → List PeerStep
+tallies_on own s = filter_map (ready_in own.id) s.polls
+
+-- the votes and then the tallies
+abbrev pub ready_on : Station → State → List PeerStep
+ready_on own s = works_on own s.voter ++ tallies_on own s
 
 -- what the peer does about a running poll when nothing else is due
 abbrev pub turn_in : ℕ → Poll → Option PeerStep

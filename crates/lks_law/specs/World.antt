@@ -19,7 +19,8 @@ use Rattle.lks_base.specs.declared.reactions.Reaction.{Reaction}
 use Rattle.lks_base.specs.declared.records.Record.{Record}
 use Rattle.lks_base.specs.declared.records.Record.TheVariants.{Deposit}
 use Rattle.lks_law.specs.Polls.{Station}
-use Rattle.lks_law.specs.Reaction.{reaction, nothing}
+use Rattle.lks_law.specs.Reaction.{nothing}
+use Rattle.lks_law.specs.Table.{reaction}
 use Rattle.lks_message.specs.Reading.{decode_of}
 
 -- an honest peer: what it goes by, and its journal

@@ -1,9 +1,10 @@
 -- What is true of each record of a journal that the rules made, and of the journal before it.
-use Rattle.std.specs.Prelude.{◌≡◌, ◌==◌, ℕ, Bool, true, false, None, List, [], ◌∷◌, ◌++◌}
+use Rattle.std.specs.Prelude.{◌≡◌, ◌==◌, ℕ, Bool, true, false, Some, None, is_some, option_map, List, [], ◌∷◌, ◌++◌}
 use Rattle.std.specs.List.{list_any, list_all}
 use Rattle.lks_base.specs.declared.records.Record.{Record}
 use Rattle.lks_base.specs.declared.records.Record.TheVariants.{Deposit, PollOpened, Nominated, OuterOpened, VoteIn, Shut, Asked, RepairBad, Replaced, Closed, Overdue, Joined, Committed, Voted, Served, Ended, Tuned}
-use Rattle.lks_law.specs.Journal.{is_closed, is_running, unanswered}
+use Rattle.lks_law.specs.Journal.{deposit_of, is_closed, is_running, unanswered}
+use Rattle.lks_law.specs.Sessions.{join_of, commitment_of, hashes_of_vote, is_session, may_work, version_now}
 
 -- whether the record is what the peer began with
 abbrev pub is_deposit : Record → Bool
@@ -46,7 +47,8 @@ is_of n (Ended poll) = false
 is_of n (Tuned quorum minority repairs) = false
 
 -- Deposits come first; no record names a poll before it is opened; a poll asks while it runs, and it is closed once, when
--- it waits for nothing.
+-- it waits for nothing. A poll of another is joined once, on a held AU; while its session is open the peer commits once, to
+-- the newest version, votes once after that, and gives blocks after its vote.
 abbrev pub MayFollow : List Record → Record → Type 0
 MayFollow before (Deposit au blocks) = list_all is_deposit before ≡ true
 MayFollow before (PollOpened number au nonce inner tick limits kind) = list_any (is_of number) before ≡ false
@@ -59,11 +61,12 @@ MayFollow before (RepairBad number block voter) = Unit {0}
 MayFollow before (Replaced number au block bytes) = Unit {0}
 MayFollow before (Closed number outcome tick) = (is_closed number before ≡ false) × (unanswered number before ≡ None)
 MayFollow before (Overdue au tick) = Unit {0}
-MayFollow before (Joined poll au tick low repairs) = Unit {0}
-MayFollow before (Committed poll nonce version kind) = Unit {0}
-MayFollow before (Voted poll hashes) = Unit {0}
-MayFollow before (Served poll block) = Unit {0}
-MayFollow before (Ended poll) = Unit {0}
+MayFollow before (Joined poll au tick low repairs) = (join_of poll before ≡ None) × (is_some (deposit_of au before) ≡ true)
+MayFollow before (Committed poll nonce version kind) =
+    (is_session poll before ≡ true) × (commitment_of poll before ≡ None) × (option_map (λ j. version_now j.au before) (join_of poll before) ≡ Some version)
+MayFollow before (Voted poll hashes) = may_work poll before ≡ true
+MayFollow before (Served poll block) = (is_session poll before ≡ true) × (is_some (hashes_of_vote poll before) ≡ true)
+MayFollow before (Ended poll) = is_session poll before ≡ true
 MayFollow before (Tuned quorum minority repairs) = Unit {0}
 
 -- each of these records may follow those before it

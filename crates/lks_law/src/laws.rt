@@ -18,16 +18,17 @@ ghost use Rattle.lks_law.specs.Broken.{with_one_vote, with_one_voter, with_later
 ghost use Rattle.lks_law.specs.Circles.{Samples};
 ghost use Rattle.lks_law.specs.Due.{next_to_finish, ready_at, turns_at};
 ghost use Rattle.lks_law.specs.Entries.{entries, is_inner};
-ghost use Rattle.lks_law.specs.Facts.{IsJournalOf, HaveJournals, HasPolls};
+ghost use Rattle.lks_law.specs.Facts.{IsHeard, IsJournalOf, HaveJournals, HasPolls};
 ghost use Rattle.lks_law.specs.Fitting.{Fits, AreFitting, IsSound, has_room};
 ghost use Rattle.lks_law.specs.Histories.{MayHappen, IsHistory};
 ghost use Rattle.lks_law.specs.Journal.{Opening, opening_of, openings, opened_numbers, is_running};
 ghost use Rattle.lks_law.specs.Polls.{Station, verdict_in};
 ghost use Rattle.lks_law.specs.Questions.{Verdicts, asked_by, questions, event_of};
-ghost use Rattle.lks_law.specs.Reacting.{react_on};
-ghost use Rattle.lks_law.specs.Reaction.{may_tally, reaction};
+ghost use Rattle.lks_law.specs.Reaction.{may_tally};
 ghost use Rattle.lks_law.specs.Safe.{HasEvidence, Safe};
+ghost use Rattle.lks_law.specs.Snapshots.{IsRestored};
 ghost use Rattle.lks_law.specs.State.{State, after, state_of};
+ghost use Rattle.lks_law.specs.Table.{react_on, reaction};
 ghost use Rattle.lks_law.specs.Turning.{ready_on, turns_on, has_inner_in};
 ghost use Rattle.lks_law.specs.World.{Standing, deposits, world};
 ghost use Rattle.lks_law.specs.Written.{AreWritten};
@@ -97,9 +98,23 @@ pub fn rules_can_be_broken()
 
 /// Each replaced block of each honest peer's journal has its evidence: at least a quorum of votes by distinct
 /// invited inner peers of one poll, at most a minority of them for the old block and at most a minority against
-/// the new one.
+/// the new one. So it is of every plan and of every list of events, whether or not they may happen.
 pub fn every_replacement_has_evidence()
-    ensures { (plan : Plan) (history : List Event) → Safe plan history }
+    ensures { (plan : Plan) (history : List Event) (place : ℕ) (s : Standing) → slice_get (world plan history).peers place ≡ Some s → HasEvidence s.own s.journal }
+{}
+
+/// Every history of a plan that breaks no rule is safe, with any number of honest peers. Each replaced block has its evidence.
+/// The hashes of each vote that an honest peer sent are those of one version of the AU: of the one that its journal names for
+/// the poll, under the poll's own key; and it joins and commits once. Of the votes that stand behind a replaced block, at most a
+/// minority is of honest peers that held that block and all before it.
+pub fn every_history_is_safe()
+    ensures { (plan : Plan) (history : List Event) → plan_fault plan ≡ None → IsHistory plan history → Safe plan history }
+{}
+
+/// Where more than a minority of the votes behind a replaced block is of honest peers that held some blocks up to there, the
+/// replaced block makes the copy agree with these, or somebody found two texts with one hash.
+pub fn every_replacement_restores()
+    ensures { (plan : Plan) (history : List Event) → plan_fault plan ≡ None → IsHistory plan history → (place : ℕ) (s : Standing) → slice_get (world plan history).peers place ≡ Some s → IsRestored (world plan history) s }
 {}
 
 /// What a peer adds and sends is what it adds and sends in the state for which its journal stands, if the journal is written
@@ -122,7 +137,7 @@ pub fn every_turn_is_of_a_running_poll()
 /// leaves each copy with as many blocks as an AU has, each request for one of them, and numbers in force with which a poll may
 /// be opened.
 pub fn whatever_is_added_fits()
-    ensures adds { (own : Station) (s : State) → own.rules.inner ≤ MOST_CIRCLE → has_room s ≡ true → IsSound s → (tick : ℕ) (i : Input) → AreFitting own s (react_on own s tick i).records }
+    ensures adds { (own : Station) (s : State) → own.rules.inner ≤ MOST_CIRCLE → has_room s ≡ true → IsSound s → (tick : ℕ) (i : Input) → IsHeard i → AreFitting own s (react_on own s tick i).records }
     ensures keeps { (own : Station) (s : State) (r : Record) → Fits own s r → IsSound s → IsSound (after own s r) }
 {}
 

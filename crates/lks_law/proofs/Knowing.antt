@@ -1,0 +1,194 @@
+-- What a peer knows by the facts of its journal.
+use Rattle.std.proofs.Common.{◌≡◌, ◌≤◌, ◌<◌, ◌^◌, ◌∙◌, ap, sym, subst, ℕ, Bool, true, false, cond, eqb, List, [], ◌∷◌, ◌++◌, length, refl, arith}
+use Rattle.std.specs.Prelude.{Option, Some, None, unwrap_or, All}
+use Rattle.std.specs.List.{AllByRecursion}
+use Rattle.std.proofs.lemmas.Bool.{eqb-true, and_parts}
+use Rattle.std.proofs.lemmas.List.Elements.{All-from_recursion}
+use Rattle.sha2.proofs.Facts256.{length-sha256}
+use Rattle.sha2.proofs.Facts512.{length-sha512_256}
+use Rattle.lks_base.specs.Kinds.{is_second}
+use Rattle.lks_base.specs.declared.messages.Message.TheVariants as message
+use Rattle.lks_base.specs.declared.names.PollName.{PollName}
+use Rattle.lks_base.specs.declared.records.Record.{Record}
+use Rattle.lks_base.specs.declared.records.Record.TheVariants.{Deposit, PollOpened, Asked, RepairBad, Replaced, Joined, Committed, Voted, Served, Ended}
+use Rattle.lks_hash.specs.Hashes.{hash_of, key_of, nonce_from}
+use Rattle.lks_hash.specs.Running.{linked, hashes_of}
+use Rattle.lks_hash.proofs.RunningLaws.{hashes_length}
+use Rattle.lks_message.specs.Spelling.{IsInLimits}
+use Rattle.lks_law.specs.Journal.{Opening, Request, deposit_in, deposit_of, opening_in, opening_of, openings, contents_at, contents_of, unanswered_after, unanswered_from, unanswered}
+use Rattle.lks_law.specs.Polls.{Station}
+use Rattle.lks_law.specs.Sessions.{Join, Commitment, is_poll, join_in, join_of, commitment_in, commitment_of, hashes_in, hashes_of_vote, version_now}
+use Rattle.lks_law.specs.Voting.{vote_hashes}
+use Rattle.lks_law.specs.World.{Standing}
+use Rattle.lks_law.specs.Linked.{Each, Has, Any, IsVoteOver, Fact}
+use Rattle.lks_law.proofs.Keyed.{same_poll}
+use Rattle.lks_law.proofs.Growing.{first_of, opening_first, deposit_first, version_length}
+
+pub has_is : {X : Type 0} (P : X → Type 0) (o : Option X) (x : X) → o ≡ Some x → P x → Has P o
+has_is P o x e p = subst (Has P) (sym e) p
+
+pub is_had : {X : Type 0} (P : X → Type 0) (o : Option X) (x : X) → o ≡ Some x → Has P o → P x
+is_had P o x e p = subst (Has P) e p
+
+-- a record that tells another thing of a poll tells nothing here
+pub none_told : {X : Type 0} (b : Bool) (x : X) → cond {A = Option X} b None None ≡ Some x → ⊥
+none_told true x e = absurd cc
+none_told false x e = absurd cc
+
+pub hash_length : (second : Bool) (bytes : List ℕ) → length (hash_of second bytes) ≡ 32
+hash_length true bytes = length-sha512_256 bytes
+hash_length false bytes = length-sha256 bytes
+
+pub nonce_length : (seed : List ℕ) (n : ℕ) → length (nonce_from seed n) ≡ 32
+unfolding nonce_from
+nonce_length seed n = length-sha256 _
+
+hashes_sized : (second : Bool) (key : List ℕ) (blocks : List (List ℕ)) → AllByRecursion (λ h. length h ≡ 32) (hashes_of second key blocks)
+hashes_sized second key [] = tt
+hashes_sized second key (b ∷ bs) = (hash_length second (key ++ b), hashes_sized second (linked second key b) bs)
+
+pub record OpeningFact (js : List Record) (n : ℕ) (o : Opening) : Type 0 where
+  pub low : n ≤ openings js
+  pub nonce : length o.nonce ≡ 32
+  pub au : o.au < 2 ^ 16
+
+module _ (peers : List Standing) (own : Station) (js : List Record) (all : Each (Fact peers own js) js) where
+  pub opening_fact : (n : ℕ) (o : Opening) → opening_of n js ≡ Some o → OpeningFact js n o
+  opening_fact n o e = first_of (opening_in n) (Fact peers own js) (OpeningFact js n) by_record js o (sym (opening_first n js) ∙ e) all
+    where
+      by_number : (b : Bool) (m : ℕ) (x o : Opening) → eqb m n ≡ b → (m ≤ openings js) × (length x.nonce ≡ 32) × (x.au < 2 ^ 16) → cond b (Some x) None ≡ Some o → OpeningFact js n o
+      by_number true m x o same fact e =
+          let is : x ≡ o = cc in
+          let number = eqb-true m n same in
+          let low = fact.0 in
+          subst (OpeningFact js n) is (record { low = omega (arith, low, number); nonce = fact.1; au = fact.2 })
+      by_number false m x o same fact e = absurd cc
+
+      by_record : (r : Record) (o : Opening) → opening_in n r ≡ Some o → Fact peers own js r → OpeningFact js n o
+      by_record (PollOpened m au nonce inner tick limits kind) o e fact = by_number (eqb m n) m (record { au = au; nonce = nonce; inner = inner; limits = limits; kind = kind }) o refl fact e
+      by_record r o e fact = absurd cc
+
+  pub deposit_fact : (au : ℕ) (blocks : List (List ℕ)) → deposit_of au js ≡ Some blocks → (au < 2 ^ 16) × (length blocks ≤ 512)
+  deposit_fact au blocks e = first_of (deposit_in au) (Fact peers own js) (λ blocks. (au < 2 ^ 16) × (length blocks ≤ 512)) by_record js blocks (sym (deposit_first au js) ∙ e) all
+    where
+      by_number : (b : Bool) (a : ℕ) (x blocks : List (List ℕ)) → eqb a au ≡ b → (a < 2 ^ 16) × (length x ≤ 512) → cond b (Some x) None ≡ Some blocks → (au < 2 ^ 16) × (length blocks ≤ 512)
+      by_number true a x blocks same fact e =
+          let is : x ≡ blocks = cc in
+          subst (λ (k : ℕ). (k < 2 ^ 16) × (length blocks ≤ 512)) (eqb-true a au same) (subst (λ (y : List (List ℕ)). (a < 2 ^ 16) × (length y ≤ 512)) is fact)
+      by_number false a x blocks same fact e = absurd cc
+
+      by_record : (r : Record) (blocks : List (List ℕ)) → deposit_in au r ≡ Some blocks → Fact peers own js r → (au < 2 ^ 16) × (length blocks ≤ 512)
+      by_record (Deposit a x) blocks e fact = by_number (eqb a au) a x blocks refl fact e
+      by_record r blocks e fact = absurd cc
+
+  pub short_version : (au k : ℕ) → length (contents_at au k js) ≤ 512
+  short_version au k = let all = version_length au k js in let few = by_deposit (deposit_of au js) refl in omega (arith, all, few)
+    where
+      by_deposit : (o : Option (List (List ℕ))) → deposit_of au js ≡ o → length (unwrap_or o []) ≤ 512
+      by_deposit None e = omega arith
+      by_deposit (Some blocks) e = (deposit_fact au blocks e).1
+
+  pub join_fact : (q : PollName) (j : Join) → join_of q js ≡ Some j → q.number < 2 ^ 32
+  unfolding join_of
+  join_fact q j e = first_of (join_in q) (Fact peers own js) (λ _. q.number < 2 ^ 32) by_record js j e all
+    where
+      by_name : (b : Bool) (p : PollName) (x : Option Join) (j : Join) → is_poll p q ≡ b → p.number < 2 ^ 32 → cond b x None ≡ Some j → q.number < 2 ^ 32
+      by_name true p x j same low e = subst (λ (s : PollName). s.number < 2 ^ 32) (same_poll p q same) low
+      by_name false p x j same low e = absurd cc
+
+      by_record : (r : Record) (j : Join) → join_in q r ≡ Some j → Fact peers own js r → q.number < 2 ^ 32
+      by_record (Joined p au tick low repairs) j e fact = by_name (is_poll p q) p (Some (record { au = au; tick = tick; low = low; repairs = repairs })) j refl fact.0 e
+      by_record (Committed p nonce version kind) j e fact = absurd (none_told (is_poll p q) j e)
+      by_record (Voted p hashes) j e fact = absurd (none_told (is_poll p q) j e)
+      by_record (Served p block) j e fact = absurd (none_told (is_poll p q) j e)
+      by_record (Ended p) j e fact = absurd (none_told (is_poll p q) j e)
+      by_record r j e fact = absurd cc
+
+  pub committed_fact : (q : PollName) (c : Commitment) → commitment_of q js ≡ Some c → Has (λ j. c.version ≤ version_now j.au js) (join_of q js)
+  unfolding commitment_of
+  committed_fact q c e = first_of (commitment_in q) (Fact peers own js) (λ c. Has (λ j. c.version ≤ version_now j.au js) (join_of q js)) by_record js c e all
+    where
+      by_name : (b : Bool) (p : PollName) (x c : Commitment) → is_poll p q ≡ b → Has (λ j. x.version ≤ version_now j.au js) (join_of p js) → cond b (Some x) None ≡ Some c → Has (λ j. c.version ≤ version_now j.au js) (join_of q js)
+      by_name true p x c same has e =
+          let is : x ≡ c = cc in
+          subst (λ (y : Commitment). Has (λ j. y.version ≤ version_now j.au js) (join_of q js)) is (subst (λ (s : PollName). Has (λ j. x.version ≤ version_now j.au js) (join_of s js)) (same_poll p q same) has)
+      by_name false p x c same has e = absurd cc
+
+      by_record : (r : Record) (c : Commitment) → commitment_in q r ≡ Some c → Fact peers own js r → Has (λ j. c.version ≤ version_now j.au js) (join_of q js)
+      by_record (Committed p nonce version kind) c e fact = by_name (is_poll p q) p (record { nonce = nonce; version = version; kind = kind }) c refl fact.0 e
+      by_record (Joined p au tick low repairs) c e fact = absurd (none_told (is_poll p q) c e)
+      by_record (Voted p hashes) c e fact = absurd (none_told (is_poll p q) c e)
+      by_record (Served p block) c e fact = absurd (none_told (is_poll p q) c e)
+      by_record (Ended p) c e fact = absurd (none_told (is_poll p q) c e)
+      by_record r c e fact = absurd cc
+
+  pub voted_fact : (q : PollName) (hashes : List (List ℕ)) → hashes_of_vote q js ≡ Some hashes → Has (λ j. Has (IsVoteOver own js q hashes j) (commitment_of q js)) (join_of q js)
+  unfolding hashes_of_vote
+  voted_fact q hashes e = first_of (hashes_in q) (Fact peers own js) (λ hs. Has (λ j. Has (IsVoteOver own js q hs j) (commitment_of q js)) (join_of q js)) by_record js hashes e all
+    where
+      by_name : (b : Bool) (p : PollName) (x hs : List (List ℕ)) → is_poll p q ≡ b → Has (λ j. Has (IsVoteOver own js p x j) (commitment_of p js)) (join_of p js) → cond b (Some x) None ≡ Some hs
+          → Has (λ j. Has (IsVoteOver own js q hs j) (commitment_of q js)) (join_of q js)
+      by_name true p x hs same has e =
+          let is : x ≡ hs = cc in
+          subst (λ (y : List (List ℕ)). Has (λ j. Has (IsVoteOver own js q y j) (commitment_of q js)) (join_of q js)) is
+          (subst (λ (s : PollName). Has (λ j. Has (IsVoteOver own js s x j) (commitment_of s js)) (join_of s js)) (same_poll p q same) has)
+      by_name false p x hs same has e = absurd cc
+
+      by_record : (r : Record) (hs : List (List ℕ)) → hashes_in q r ≡ Some hs → Fact peers own js r → Has (λ j. Has (IsVoteOver own js q hs j) (commitment_of q js)) (join_of q js)
+      by_record (Voted p x) hs e fact = by_name (is_poll p q) p x hs refl fact e
+      by_record (Joined p au tick low repairs) hs e fact = absurd (none_told (is_poll p q) hs e)
+      by_record (Committed p nonce version kind) hs e fact = absurd (none_told (is_poll p q) hs e)
+      by_record (Served p block) hs e fact = absurd (none_told (is_poll p q) hs e)
+      by_record (Ended p) hs e fact = absurd (none_told (is_poll p q) hs e)
+      by_record r hs e fact = absurd cc
+
+  -- a request is for a block that is there
+  abbrev pub IsWithin : ℕ → Request → Type 0
+  IsWithin n r = Has (λ o. r.block < length (contents_of o.au js)) (opening_of n js)
+
+  within_after : (n : ℕ) (before : Option Request) (r : Record) → Any (IsWithin n) before → Fact peers own js r → Any (IsWithin n) (unanswered_after n before r)
+  within_after n before (Asked number block voter) was fact = by_number (eqb number n) refl
+    where
+      by_number : (b : Bool) → eqb number n ≡ b → Any (IsWithin n) (cond b (Some (record { block = block; voter = voter })) before)
+      by_number true same = subst (λ k. Has (λ o. block < length (contents_of o.au js)) (opening_of k js)) (eqb-true number n same) fact
+      by_number false same = was
+  within_after n before (RepairBad number block voter) was fact = by_number (eqb number n)
+    where
+      by_number : (b : Bool) → Any (IsWithin n) (cond b None before)
+      by_number true = tt
+      by_number false = was
+  within_after n before (Replaced number au block bytes) was fact = by_number (eqb number n)
+    where
+      by_number : (b : Bool) → Any (IsWithin n) (cond b None before)
+      by_number true = tt
+      by_number false = was
+  within_after n before r was fact = was
+
+  within_from : (n : ℕ) (before : Option Request) (rs : List Record) → Any (IsWithin n) before → Each (Fact peers own js) rs → Any (IsWithin n) (unanswered_from n before rs)
+  within_from n before [] was each = was
+  within_from n before (r ∷ rs) was each = within_from n (unanswered_after n before r) rs (within_after n before r was each.0) each.1
+
+  pub request_fact : (n : ℕ) → Any (IsWithin n) (unanswered n js)
+  unfolding unanswered
+  request_fact n = within_from n None js tt all
+
+  -- a vote over a version is in its limits
+  pub vote_limits : (q : PollName) (j : Join) (c : Commitment) (hashes : List (List ℕ)) → length own.proof ≤ 64 → join_of q js ≡ Some j → hashes ≡ vote_hashes own.id q j.au c (contents_at j.au c.version js) → IsInLimits (message.Vote q.number hashes own.proof)
+  unfolding vote_hashes
+  vote_limits q j c hashes proof joined over =
+      let blocks = contents_at j.au c.version js in
+      let key = key_of (is_second c.kind) q.poller q.number c.nonce own.id j.au (length blocks) in
+      let count = ap length over ∙ hashes_length (is_second c.kind) key blocks in
+      let short = short_version j.au c.version in
+      ((omega (arith, count, short), proof), (join_fact q j joined, subst (λ (hs : List (List ℕ)). All (λ h. length h ≡ 32) hs) (sym over) (All-from_recursion (λ h. length h ≡ 32) (hashes_of (is_second c.kind) key blocks) (hashes_sized (is_second c.kind) key blocks))))
+
+  pub voted_limits : (q : PollName) (hashes : List (List ℕ)) → length own.proof ≤ 64 → hashes_of_vote q js ≡ Some hashes → IsInLimits (message.Vote q.number hashes own.proof)
+  voted_limits q hashes proof voted = by_join (join_of q js) refl (voted_fact q hashes voted)
+    where
+      by_commitment : (j : Join) (o : Option Commitment) → join_of q js ≡ Some j → Has (IsVoteOver own js q hashes j) o → IsInLimits (message.Vote q.number hashes own.proof)
+      by_commitment j None joined has = absurd has
+      by_commitment j (Some c) joined over = vote_limits q j c hashes proof joined over.1
+
+      by_join : (o : Option Join) → join_of q js ≡ o → Has (λ j. Has (IsVoteOver own js q hashes j) (commitment_of q js)) o → IsInLimits (message.Vote q.number hashes own.proof)
+      by_join None joined has = absurd has
+      by_join (Some j) joined has = by_commitment j (commitment_of q js) joined has

@@ -1,0 +1,154 @@
+-- What a peer knows as a voter in polls of others, and what one record more makes of that.
+use Rattle.std.specs.Prelude.{ℕ, Bool, ◌==◌, ◌+◌, if◌then◌else◌, Option, Some, None, unwrap_or, List, [], ◌∷◌, ◌++◌, find}
+use Rattle.lks_base.specs.declared.names.PollName.{PollName}
+use Rattle.lks_base.specs.declared.plans.Rules.{Rules}
+use Rattle.lks_base.specs.declared.records.Record.{Record}
+use Rattle.lks_law.specs.Firsts.{changed_first, without_first}
+use Rattle.lks_law.specs.Journal.{Told, voted_by}
+use Rattle.lks_law.specs.Sessions.{Join, Commitment, Turn, Part, is_poll, part_of, low_part}
+use Rattle.lks_tally.specs.declared.ballots.Vote.{Vote}
+
+-- a poll of another that the peer joined
+pub record Session : Type 0 where
+  pub poll : PollName
+  pub au : ℕ
+  pub repairs : ℕ  -- how many blocks it gives the poller at most
+
+-- a session that is committed: it keeps the blocks of its version, whatever is replaced
+pub record Pinned : Type 0 where
+  pub session : Session
+  pub commitment : Commitment
+  pub blocks : List (List ℕ)
+
+-- a session in which the peer voted
+pub record Cast : Type 0 where
+  pub pinned : Pinned
+  pub hashes : List (List ℕ)
+  pub served : List ℕ  -- the blocks that it gave, in order
+
+-- how many votes a peer gave us, and we it
+pub record Mark : Type 0 where
+  pub peer : ℕ
+  pub received : ℕ
+  pub given : ℕ
+
+-- what a peer knows as a voter
+pub record Voter : Type 0 where
+  pub sessions : List Session  -- joined, and not committed
+  pub pinned : List Pinned  -- committed, and not voted, in order of their commitments
+  pub cast : List Cast  -- voted
+  pub ended : List PollName  -- sessions that are over
+  pub marks : List Mark
+  pub last_low : Option ℕ  -- when a peer of low grade was last let in
+
+-- a voter that took no part yet
+abbrev pub newcomer : Voter
+newcomer = record { sessions = []; pinned = []; cast = []; ended = []; marks = []; last_low = None }
+
+-- Sessions by the names of their polls.
+
+abbrev pub is_session_of : PollName → Session → Bool
+is_session_of q s = is_poll s.poll q
+
+abbrev pub is_pinned_of : PollName → Pinned → Bool
+is_pinned_of q p = is_poll p.session.poll q
+
+abbrev pub is_cast_of : PollName → Cast → Bool
+is_cast_of q c = is_poll c.pinned.session.poll q
+
+abbrev pub session_at : PollName → List Session → Option Session
+session_at q ss = find (is_session_of q) ss
+
+abbrev pub pinned_at : PollName → List Pinned → Option Pinned
+pinned_at q ps = find (is_pinned_of q) ps
+
+abbrev pub cast_at : PollName → List Cast → Option Cast
+cast_at q cs = find (is_cast_of q) cs
+
+-- a session has this number, or the rules' where it has none
+abbrev pub joined_as : Rules → PollName → Join → Session
+joined_as rules q j = record { poll = q; au = j.au; repairs = unwrap_or j.repairs rules.repairs }
+
+-- the session is committed to the version whose blocks these are
+abbrev pub pinning : (ℕ → List (List ℕ)) → Commitment → Option Session → List Pinned
+pinning blocks c None = []
+pinning blocks c (Some s) = record { session = s; commitment = c; blocks = blocks s.au } ∷ []
+
+-- the peer voted in it
+abbrev pub casting : List (List ℕ) → Option Pinned → List Cast
+casting hashes None = []
+casting hashes (Some p) = record { pinned = p; hashes = hashes; served = [] } ∷ []
+
+-- it gave a block
+abbrev pub serving : ℕ → Cast → Cast
+serving block c = record c { served = c.served ++ block ∷ [] }
+
+-- after a turn in poll q, where each AU has these blocks
+abbrev pub turned : Rules → (ℕ → List (List ℕ)) → PollName → Turn → Voter → Voter
+turned rules blocks q (Turn.Joins join) v = record v { sessions = v.sessions ++ joined_as rules q join ∷ [] }
+turned rules blocks q (Turn.Commits commitment) v =
+    record v {
+      sessions = without_first (is_session_of q) v.sessions;
+      pinned = v.pinned ++ pinning blocks commitment (session_at q v.sessions);
+    }
+turned rules blocks q (Turn.Votes hashes) v =
+    record v {
+      pinned = without_first (is_pinned_of q) v.pinned;
+      cast = v.cast ++ casting hashes (pinned_at q v.pinned);
+    }
+turned rules blocks q (Turn.Serves block) v = record v { cast = changed_first (is_cast_of q) (serving block) v.cast }
+turned rules blocks q Turn.Ends v =
+    record v {
+      sessions = without_first (is_session_of q) v.sessions;
+      pinned = without_first (is_pinned_of q) v.pinned;
+      cast = without_first (is_cast_of q) v.cast;
+      ended = v.ended ++ q ∷ [];
+    }
+
+abbrev pub turned_by : Rules → (ℕ → List (List ℕ)) → Option Part → Voter → Voter
+turned_by rules blocks None v = v
+turned_by rules blocks (Some p) v = turned rules blocks p.poll p.turn v
+
+-- Marks.
+
+-- the marks of a peer, which has none at first
+abbrev pub mark_at : ℕ → List Mark → Mark
+mark_at f marks = unwrap_or (find (λ (m : Mark). m.peer == f) marks) (record { peer = f; received = 0; given = 0 })
+
+-- with other marks of that peer
+abbrev pub mark_put : Mark → List Mark → List Mark
+mark_put m [] = m ∷ []
+mark_put m (x ∷ xs) = if x.peer == m.peer then m ∷ xs else x ∷ mark_put m xs
+
+-- a vote of this peer came
+abbrev pub marked_received : ℕ → List Mark → List Mark
+marked_received f marks = let m = mark_at f marks in mark_put (record m { received = m.received + 1 }) marks
+
+-- it got one
+abbrev pub marked_given : ℕ → List Mark → List Mark
+marked_given f marks = let m = mark_at f marks in mark_put (record m { given = m.given + 1 }) marks
+
+abbrev pub marks_told : Option (Told Vote) → List Mark → List Mark
+marks_told None marks = marks
+marks_told (Some told) marks = marked_received told.fact.voter marks
+
+abbrev pub marks_turned : PollName → Turn → List Mark → List Mark
+marks_turned q (Turn.Joins join) marks = marks
+marks_turned q (Turn.Commits commitment) marks = marks
+marks_turned q (Turn.Votes hashes) marks = marked_given q.poller marks
+marks_turned q (Turn.Serves block) marks = marks
+marks_turned q Turn.Ends marks = marks
+
+abbrev pub marks_by : Option Part → List Mark → List Mark
+marks_by None marks = marks
+marks_by (Some p) marks = marks_turned p.poll p.turn marks
+
+-- The voter.
+
+-- after a record, where each AU has these blocks
+abbrev pub voter_after : Rules → (ℕ → List (List ℕ)) → Record → Voter → Voter
+voter_after rules blocks r v =
+    record (turned_by rules blocks (part_of r) v) {
+      marks = marks_by (part_of r) (marks_told (voted_by r) v.marks);
+      last_low = low_part v.last_low (part_of r);
+    }
