@@ -1,7 +1,7 @@
 -- The poll and the AU of a session, which are what is left at its end.
 use Rattle.std.specs.Prelude.{ℕ}
 use Rattle.lks_base.specs.declared.names.PollName.{PollName}
-use Rattle.lks_voter.specs.declared.commitments.Ended.{Ended}
+use Rattle.lks_voter.specs.States.{Ending}
 use Rattle.lks_voter.specs.declared.sessions.Session.{Session}
 use Rattle.lks_voter.specs.declared.sessions.Session.TheVariants as session
 
@@ -17,5 +17,5 @@ au_of (session.Committed committed) = committed.joined.au
 au_of (session.Voted vote) = vote.committed.joined.au
 au_of (session.Ended ended) = ended.au
 
-abbrev pub ended : Session → Ended
+abbrev pub ended : Session → Ending
 ended s = record { poll = poll_of s; au = au_of s }

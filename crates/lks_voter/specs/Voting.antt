@@ -1,17 +1,17 @@
 -- What contracts see of a vote, and of the repairs that follow it.
 use Rattle.std.specs.Prelude.{ℕ, Bool, nat_le, if◌then◌else◌, List, [], ◌∷◌, ◌++◌, length}
 use Rattle.lks_base.specs.Checking.{has_member}
-use Rattle.lks_voter.specs.declared.commitments.Committed.{Committed}
+use Rattle.lks_voter.specs.States.{Commitment}
 use Rattle.lks_voter.specs.declared.commitments.Serve.{Serve}
 use Rattle.lks_voter.specs.declared.commitments.Serve.TheVariants.{First, Again, Spent}
 
 -- the commitment under which the vote was made, its hashes, and the blocks that were served, in order
 pub record Vote : Type 0 where
-  pub committed : Committed
+  pub committed : Commitment
   pub hashes : List (List ℕ)
   pub served : List ℕ
 
-abbrev pub vote_of : Committed → List (List ℕ) → Vote
+abbrev pub vote_of : Commitment → List (List ℕ) → Vote
 vote_of committed hashes = record { committed = committed; hashes = hashes; served = [] }
 
 abbrev pub was_served : Vote → ℕ → Bool

@@ -3,32 +3,55 @@
 ghost use Rattle.std.specs.Prelude.{◌≡◌};
 
 use lks_base::{AuId, HashKind, PollName};
+use std::marker::Model;
 
 /// The voter takes part in a poll on an AU.
 #[derive(Drop)]
 pub struct Joined {
-    pub poll: PollName,
-    pub au: AuId,
-    /// When it joined.
-    pub tick: u32,
-    /// Whether the poller had a low grade then.
-    pub low: bool,
+    poll: PollName,
+    au: AuId,
+    tick: u32,
+    low: bool,
+}
+
+impl Model for Joined {
+    ghost use Rattle.lks_voter.specs.States.{Joining};
+
+    ghost Value = { Joining };
+
+    ghost view = { λ a. record { poll = a.poll; au = a.au; tick = a.tick; low = a.low } };
 }
 
 /// The voter will vote on a version of its copy, under the poll's nonce.
 #[derive(Drop)]
 pub struct Committed {
-    pub joined: Joined,
-    pub kind: HashKind,
-    pub nonce: [u8; 32],
-    pub version: u32,
+    joined: Joined,
+    kind: HashKind,
+    nonce: [u8; 32],
+    version: u32,
+}
+
+impl Model for Committed {
+    ghost use Rattle.lks_voter.specs.States.{Commitment};
+
+    ghost Value = { Commitment };
+
+    ghost view = { λ a. record { joined = a.joined; kind = a.kind; nonce = a.nonce; version = a.version } };
 }
 
 /// The session is over.
 #[derive(Drop)]
 pub struct Ended {
-    pub poll: PollName,
-    pub au: AuId,
+    poll: PollName,
+    au: AuId,
+}
+
+impl Model for Ended {
+    ghost use Rattle.lks_voter.specs.States.{Ending};
+
+    ghost Value = { Ending };
+
+    ghost view = { λ a. record { poll = a.poll; au = a.au } };
 }
 
 /// How a voter takes a request for a block.
@@ -65,5 +88,86 @@ impl Joined {
             nonce,
             version,
         }
+    }
+
+    /// The poll.
+    pub fn poll(&self) -> PollName
+        ensures { result ≡ self.now.poll }
+    {
+        self.poll
+    }
+
+    /// The AU on which it is.
+    pub fn au(&self) -> AuId
+        ensures { result ≡ self.now.au }
+    {
+        self.au
+    }
+
+    /// When the voter joined.
+    pub fn tick(&self) -> u32
+        ensures { result ≡ self.now.tick }
+    {
+        self.tick
+    }
+
+    /// Whether the poller had a low grade then.
+    pub fn low(&self) -> bool
+        ensures { result ≡ self.now.low }
+    {
+        self.low
+    }
+}
+
+impl Committed {
+    /// How the voter joined the poll.
+    pub fn joined(&self) -> &Joined
+        ensures { result.now ≡ self.now.joined }
+    {
+        &self.joined
+    }
+
+    /// The hash function of the poll.
+    pub fn kind(&self) -> HashKind
+        ensures { result ≡ self.now.kind }
+    {
+        self.kind
+    }
+
+    /// The nonce of the poll.
+    pub fn nonce(&self) -> &[u8; 32]
+        ensures { result.now ≡ self.now.nonce }
+    {
+        &self.nonce
+    }
+
+    /// The version of the voter's copy.
+    pub fn version(&self) -> u32
+        ensures { result ≡ self.now.version }
+    {
+        self.version
+    }
+}
+
+impl Ended {
+    /// The poll of a session that is over: it had this poll, on this AU.
+    pub(crate) fn of(poll: PollName, au: AuId) -> Ended
+        ensures { result ≡ record { poll = poll; au = au } }
+    {
+        Ended { poll, au }
+    }
+
+    /// The poll.
+    pub fn poll(&self) -> PollName
+        ensures { result ≡ self.now.poll }
+    {
+        self.poll
+    }
+
+    /// The AU on which it was.
+    pub fn au(&self) -> AuId
+        ensures { result ≡ self.now.au }
+    {
+        self.au
     }
 }

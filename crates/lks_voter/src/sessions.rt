@@ -22,10 +22,10 @@ impl Session {
         ensures { result ≡ poll_of self.now }
     {
         match self {
-            Session::Joined(joined) => joined.poll,
-            Session::Committed(committed) => committed.joined.poll,
-            Session::Voted(voted) => voted.committed().joined.poll,
-            Session::Ended(ended) => ended.poll,
+            Session::Joined(joined) => joined.poll(),
+            Session::Committed(committed) => committed.joined().poll(),
+            Session::Voted(voted) => voted.committed().joined().poll(),
+            Session::Ended(ended) => ended.poll(),
         }
     }
 
@@ -34,10 +34,10 @@ impl Session {
         ensures { result ≡ au_of self.now }
     {
         match self {
-            Session::Joined(joined) => joined.au,
-            Session::Committed(committed) => committed.joined.au,
-            Session::Voted(voted) => voted.committed().joined.au,
-            Session::Ended(ended) => ended.au,
+            Session::Joined(joined) => joined.au(),
+            Session::Committed(committed) => committed.joined().au(),
+            Session::Voted(voted) => voted.committed().joined().au(),
+            Session::Ended(ended) => ended.au(),
         }
     }
 
@@ -45,9 +45,6 @@ impl Session {
     pub fn end(self) -> Ended
         ensures { result ≡ ended self }
     {
-        Ended {
-            poll: self.poll(),
-            au: self.au(),
-        }
+        Ended::of(self.poll(), self.au())
     }
 }

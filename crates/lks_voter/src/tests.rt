@@ -26,6 +26,7 @@ fn at_most_two(rt: HostRuntime) -> Result<(), OutOfMemory> {
         (4, Serve::Spent),
         (1, Serve::Again),
     ] {
+        assert_eq!(rt; voted.answer(b, 2), answer);
         assert_eq!(rt; voted.serve(b, 2)?, answer);
     }
     assert_eq!(rt; voted.served(), [1, 3].as_slice());
@@ -46,13 +47,17 @@ fn none_at_all(rt: HostRuntime) -> Result<(), OutOfMemory> {
 fn what_was_handed_in(rt: HostRuntime) -> Result<(), OutOfMemory> {
     let voted = voted(rt.alloc())?;
     let committed = voted.committed();
-    assert!(rt; committed.joined.low);
-    assert_eq!(rt; (committed.joined.tick, committed.version), (20, 3));
-    assert_eq!(rt; committed.nonce, [7; 32]);
+    let joined = committed.joined();
+    assert!(rt; joined.low());
+    assert_eq!(rt; (joined.tick(), committed.version()), (20, 3));
+    assert_eq!(rt; committed.nonce(), &[7; 32]);
+    assert_eq!(rt; committed.kind(), HashKind::Sha512_256);
     assert_eq!(rt; voted.hashes().as_slice().len(), 1);
     let session = Session::Voted(voted);
     assert_eq!(rt; (session.poll(), session.au()), (POLL, 6));
-    let over = Session::Ended(session.end());
+    let ended = session.end();
+    assert_eq!(rt; (ended.poll(), ended.au()), (POLL, 6));
+    let over = Session::Ended(ended);
     assert_eq!(rt; (over.poll(), over.au()), (POLL, 6));
     Ok(())
 }

@@ -69,6 +69,19 @@ impl Voted {
         self.served.as_slice()
     }
 
+    /// How the voter takes the poller's request for block `b`, where it may have at most `most` blocks. It changes nothing.
+    pub fn answer(&self, b: u16, most: u16) -> Serve
+        ensures { result ≡ answer_of self.now b most }
+    {
+        if self.was_served(b) {
+            return Serve::Again;
+        }
+        if most as usize <= self.served.len() {
+            return Serve::Spent;
+        }
+        Serve::First
+    }
+
     /// Takes the poller's request for block `b`, where it may have at most `most` blocks. Want of memory, which can come
     /// at a new block alone, changes nothing.
     #[tactic(auto, using(crate::proofs::Served::distinct_more))]
@@ -82,14 +95,14 @@ impl Voted {
         ensures need { OnErr result (answer_of self.old b most ≡ First) }
         ensures bound { length self.old.served ≤ most → length self.new.served ≤ most }
     {
-        if self.was_served(b) {
-            return Ok(Serve::Again);
+        match self.answer(b, most) {
+            Serve::First => {
+                self.served.push(b)?;
+                Ok(Serve::First)
+            }
+            Serve::Again => Ok(Serve::Again),
+            Serve::Spent => Ok(Serve::Spent),
         }
-        if most as usize <= self.served.len() {
-            return Ok(Serve::Spent);
-        }
-        self.served.push(b)?;
-        Ok(Serve::First)
     }
 
     fn was_served(&self, b: u16) -> bool

@@ -1,0 +1,7 @@
+pub mod Admitting
+pub mod Keyed
+pub mod Lasting
+pub mod Marking
+pub mod Pairs
+pub mod Pools
+pub mod Sending

@@ -1,0 +1,89 @@
+-- What a peer sends as a voter.
+use Rattle.std.proofs.Common.{◌≡◌, ◌≤◌, ap, sym, subst, ℕ, zero, suc, Bool, true, false, cond, not, List, [], ◌∷◌, length, refl, arith}
+use Rattle.std.specs.Prelude.{Some, nat_lt, nat_le, find, map, slice_get, All}
+use Rattle.std.proofs.lemmas.Bool.Decides.{nat_tests}
+use Rattle.std.proofs.lemmas.List.Elements.{All-head, All-tail}
+use Rattle.lks_base.specs.Checking.{has_member}
+use Rattle.lks_base.specs.Kinds.{is_second}
+use Rattle.lks_base.specs.declared.limits.TheConstants.{MOST_BLOCK_BYTES}
+use Rattle.lks_base.specs.declared.names.PollName.{PollName}
+use Rattle.lks_base.specs.declared.records.Record.TheVariants as records
+use Rattle.lks_blocks.proofs.Bytes.{bytes_count}
+use Rattle.lks_blocks.specs.Block.{AllOf, bytes_of}
+use Rattle.lks_hash.proofs.RunningLaws.{hashes_length}
+use Rattle.lks_hash.specs.Hashes.{key_of}
+use Rattle.lks_hash.specs.Running.{hashes_of}
+use Rattle.lks_law.specs.Answering.{hashes_for}
+use Rattle.lks_law.specs.Polls.{Station}
+use Rattle.lks_law.specs.Reaction.{nothing}
+use Rattle.lks_law.specs.Sessions.{is_poll}
+use Rattle.lks_law.specs.Voting.{vote_hashes, answers, adds, serves}
+use Rattle.lks_sessions.specs.Giving.{repair, given}
+use Rattle.lks_sessions.specs.Kept.{Kept, pinned_of, cast_of, voter_of, IsPinnedOf, IsCastOf, IsOf}
+use Rattle.lks_sessions.specs.Sendable.{IsShort, CanVote, CanSend, IsSendable}
+use Rattle.lks_sessions.specs.declared.stages.PinnedSession.{PinnedSession}
+use Rattle.lks_sessions.specs.declared.stages.CastSession.{CastSession}
+use Rattle.lks_voter.specs.Voting.{answer_of}
+use Rattle.lks_voter.specs.declared.commitments.Serve.TheVariants.{First, Again, Spent}
+
+-- What is true of each session is true of one that is found.
+
+module _ {E X : Type 0} (seen : E → X) (P : X → Type 0) (t : E → Bool) where
+  found_is : (es : List E) (e : E) → Some e ≡ find t es → All P (map seen es) → P (seen e)
+  found_is [] e is all = absurd cc
+  found_is (x ∷ es) e is all = here (t x) is (λ rest. found_is es e rest (All-tail P (seen x) (map seen es) all))
+    where
+      here : (b : Bool) → Some e ≡ cond b (Some x) (find t es) → (Some e ≡ find t es → P (seen e)) → P (seen e)
+      here true is rest = let same : x ≡ e = cc in subst (λ y. P (seen y)) same (All-head P (seen x) (map seen es) all)
+      here false is rest = rest is
+
+module _ {E : Type 0} (P : E → Type 0) (t : E → Bool) where
+  found_so : (es : List E) (e : E) → Some e ≡ find t es → All P es → P e
+  found_so [] e is all = absurd cc
+  found_so (x ∷ es) e is all = here (t x) is (λ rest. found_so es e rest (All-tail P x es all))
+    where
+      here : (b : Bool) → Some e ≡ cond b (Some x) (find t es) → (Some e ≡ find t es → P e) → P e
+      here true is rest = let same : x ≡ e = cc in subst P same (All-head P x es all)
+      here false is rest = rest is
+
+pub can_vote : (q : PollName) (k : Kept) (p : PinnedSession) → Some p ≡ find (λ (p : PinnedSession). is_poll p.committed.joined.poll q) k.pinned → IsSendable (voter_of k) → CanVote (pinned_of p)
+can_vote q k p is all = found_is pinned_of CanVote (λ (p : PinnedSession). is_poll p.committed.joined.poll q) k.pinned p is all.pinned
+
+pub can_send : (q : PollName) (k : Kept) (c : CastSession) → Some c ≡ find (λ (c : CastSession). is_poll c.voted.committed.joined.poll q) k.cast → IsSendable (voter_of k) → CanSend (cast_of c)
+can_send q k c is all = found_is cast_of CanSend (λ (c : CastSession). is_poll c.voted.committed.joined.poll q) k.cast c is all.cast
+
+pub pinned_from : (pool : List ℕ) (q : PollName) (k : Kept) (p : PinnedSession) → Some p ≡ find (λ (p : PinnedSession). is_poll p.committed.joined.poll q) k.pinned → IsOf pool k → AllOf pool p.refs
+pinned_from pool q k p is of = found_so (IsPinnedOf pool) (λ (p : PinnedSession). is_poll p.committed.joined.poll q) k.pinned p is of.pinned
+
+pub cast_from : (pool : List ℕ) (q : PollName) (k : Kept) (c : CastSession) → Some c ≡ find (λ (c : CastSession). is_poll c.voted.committed.joined.poll q) k.cast → IsOf pool k → AllOf pool c.refs
+cast_from pool q k c is of = found_so (IsCastOf pool) (λ (c : CastSession). is_poll c.voted.committed.joined.poll q) k.cast c is of.cast
+
+-- The vote.
+
+pub hashes_seen : (own : Station) (p : PinnedSession)
+    → hashes_of (is_second p.committed.kind) (key_of (is_second p.committed.kind) p.committed.joined.poll.poller p.committed.joined.poll.number p.committed.nonce own.id p.committed.joined.au (length p.refs)) (bytes_of p.refs)
+    ≡ hashes_for own (pinned_of p)
+unfolding hashes_for vote_hashes
+hashes_seen own p =
+    ap (λ n. hashes_of (is_second p.committed.kind) (key_of (is_second p.committed.kind) p.committed.joined.poll.poller p.committed.joined.poll.number p.committed.nonce own.id p.committed.joined.au n) (bytes_of p.refs))
+    (sym (bytes_count p.refs))
+
+pub hashes_count : (own : Station) (p : PinnedSession) → length (hashes_for own (pinned_of p)) ≡ length (bytes_of p.refs)
+unfolding hashes_for vote_hashes
+hashes_count own p = hashes_length (is_second p.committed.kind) _ (bytes_of p.refs)
+
+-- A repair.
+
+pub short_at : (bs : List (List ℕ)) (b : ℕ) (bytes : List ℕ) → slice_get bs b ≡ Some bytes → All IsShort bs → length bytes ≤ MOST_BLOCK_BYTES
+short_at [] b bytes is all = absurd cc
+short_at (x ∷ bs) zero bytes is all = let same : x ≡ bytes = cc in subst IsShort same (All-head IsShort x bs all)
+short_at (x ∷ bs) (suc b) bytes is all = short_at bs b bytes is (All-tail IsShort x bs all)
+
+pub given_seen : (q : PollName) (b : ℕ) (c : CastSession) (bytes : List ℕ) → serves q b c.repairs c.voted.served (Some bytes) ≡ given q b bytes (answer_of c.voted b c.repairs)
+given_seen q b c bytes = by_member (has_member c.voted.served b) (nat_lt (length c.voted.served) c.repairs) (nat_le c.repairs (length c.voted.served)) (grind (arith, nat_tests))
+  where
+    by_member : (m room spent : Bool) → room ≡ not spent
+        → cond m (answers (repair q b bytes)) (cond room (adds (records.Served q b) (repair q b bytes)) nothing) ≡ given q b bytes (cond m Again (cond spent Spent First))
+    by_member true room spent is = refl
+    by_member false room true is = ap (λ (r : Bool). cond r (adds (records.Served q b) (repair q b bytes)) nothing) is
+    by_member false room false is = ap (λ (r : Bool). cond r (adds (records.Served q b) (repair q b bytes)) nothing) is

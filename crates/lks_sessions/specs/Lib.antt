@@ -1,0 +1,4 @@
+pub mod Giving
+pub mod Kept
+pub mod Pair
+pub mod Sendable

@@ -1,0 +1,268 @@
+//! What a peer adds and sends for a proof of the poller's effort, and for its vote.
+
+ghost use Rattle.std.specs.Prelude.{◌≡◌, ◌≤◌, ◌∷◌, [], None, Some, IfOk, length};
+ghost use Rattle.lks_base.specs.declared.limits.TheConstants.{MOST_BLOCKS, MOST_PROOF_BYTES};
+ghost use Rattle.lks_base.specs.declared.messages.Message.TheVariants as message;
+ghost use Rattle.lks_blocks.specs.Block.{AllOf};
+ghost use Rattle.lks_law.specs.Answering.{hashes_for, proof_in, version_at, work_in};
+ghost use Rattle.lks_law.specs.Reaction.{letter};
+ghost use Rattle.lks_law.specs.Voting as law;
+ghost use Rattle.lks_law.specs.Voting.{commits, commits_again, nominates, votes_with};
+ghost use Rattle.lks_audit.specs.Copied.{copies_of};
+ghost use Rattle.lks_sessions.specs.Kept.{cast_of, commitment_of, pinned_of, voter_of, IsOf};
+ghost use Rattle.lks_sessions.specs.Sendable.{CanSend, CanVote, IsSendable};
+
+use crate::draws::pick_nominees;
+use crate::sessions::Sessions;
+use crate::stages::{CastSession, PinnedSession};
+use lks_audit::letters::write;
+use lks_audit::reactions::{adding, no_reaction, no_sends, sending, telling};
+use lks_audit::{Held, Station, find_copy};
+use lks_base::{
+    AuId, HashKind, Hashes, Judged, Message, OutOfMemory, Outgoing, PeerId, PollName, Reaction,
+    Record, Seq,
+};
+use lks_blocks::BlockPool;
+use lks_versions::PinTag;
+use lks_voter::Committed;
+use lks_work::{VoteJob, hash_vote};
+use std::alloc::Global;
+
+fn version_of(copies: &[Held], au: AuId) -> u32
+    ensures { result ≡ version_at au (copies_of copies.now) }
+{
+    match find_copy(copies, au) {
+        Some(held) => held.versions.current(),
+        None => 0,
+    }
+}
+
+fn write_nomination(
+    alloc: Global,
+    own: &Station,
+    refs: &[PeerId],
+    poll: PollName,
+) -> Result<Outgoing, OutOfMemory>
+    ensures { IfOk result (λ o. o ≡ nominates own.now refs.now poll) }
+{
+    let message = Message::Nominate {
+        number: poll.number,
+        nominees: pick_nominees(alloc, own, refs, poll)?,
+    };
+    write(alloc, &message, poll.poller)
+}
+
+fn write_vote(
+    alloc: Global,
+    own: &Station,
+    poll: PollName,
+    hashes: &Hashes,
+) -> Result<Outgoing, OutOfMemory>
+    requires few { length hashes.now ≤ MOST_BLOCKS }
+    requires proof { length own.now.proof ≤ MOST_PROOF_BYTES }
+    ensures { IfOk result (λ o. o ≡ letter (message.Vote poll.number hashes.now own.now.proof) poll.poller) }
+{
+    let message = Message::Vote {
+        number: poll.number,
+        hashes: hashes.clone()?,
+        proof: own.proof.clone()?,
+    };
+    write(alloc, &message, poll.poller)
+}
+
+fn commit_to(
+    alloc: Global,
+    own: &Station,
+    refs: &[PeerId],
+    poll: PollName,
+    version: u32,
+    nonce: &[u8; 32],
+    kind: HashKind,
+) -> Result<Reaction, OutOfMemory>
+    ensures { IfOk result (λ r. r ≡ commits own.now refs.now poll version nonce.now kind Judged.Accepted) }
+{
+    let item = Record::Committed {
+        poll,
+        nonce: *nonce,
+        version,
+        kind,
+    };
+    let mut sends = Vec::new(alloc);
+    sends.push(write_nomination(alloc, own, refs, poll)?)?;
+    adding(alloc, item, Seq::from_vec(sends))
+}
+
+fn commit(
+    alloc: Global,
+    own: &Station,
+    refs: &[PeerId],
+    poll: PollName,
+    version: u32,
+    nonce: &[u8; 32],
+    kind: HashKind,
+    judged: Judged,
+) -> Result<Reaction, OutOfMemory>
+    ensures { IfOk result (λ r. r ≡ commits own.now refs.now poll version nonce.now kind judged) }
+{
+    match judged {
+        Judged::Accepted => commit_to(alloc, own, refs, poll, version, nonce, kind),
+        Judged::Refused => adding(alloc, Record::Ended { poll }, no_sends(alloc)),
+        Judged::NotAsked => Ok(no_reaction(alloc)),
+    }
+}
+
+fn is_kind(a: HashKind, b: HashKind) -> bool
+    ensures { result ≡ law.is_kind a b }
+{
+    match a {
+        HashKind::Sha256 => matches!(b, HashKind::Sha256),
+        HashKind::Sha512_256 => matches!(b, HashKind::Sha512_256),
+    }
+}
+
+#[tactic(auto, unfolding(lks_law::specs::Voting::repeats))]
+fn repeats(committed: &Committed, nonce: &[u8; 32], kind: HashKind) -> bool
+    ensures { result ≡ law.repeats (commitment_of committed.now) nonce.now kind }
+{
+    committed.nonce().as_slice() == nonce.as_slice() && is_kind(committed.kind(), kind)
+}
+
+fn nominate_again(
+    alloc: Global,
+    own: &Station,
+    refs: &[PeerId],
+    poll: PollName,
+    committed: &Committed,
+    nonce: &[u8; 32],
+    kind: HashKind,
+) -> Result<Reaction, OutOfMemory>
+    ensures { IfOk result (λ r. r ≡ commits_again own.now refs.now poll (commitment_of committed.now) nonce.now kind None) }
+{
+    if !repeats(committed, nonce, kind) {
+        return Ok(no_reaction(alloc));
+    }
+    sending(alloc, write_nomination(alloc, own, refs, poll)?)
+}
+
+fn vote_again(
+    alloc: Global,
+    own: &Station,
+    refs: &[PeerId],
+    poll: PollName,
+    session: &CastSession,
+    nonce: &[u8; 32],
+    kind: HashKind,
+) -> Result<Reaction, OutOfMemory>
+    requires sendable { CanSend (cast_of session.now) }
+    requires proof { length own.now.proof ≤ MOST_PROOF_BYTES }
+    ensures { IfOk result (λ r. r ≡ commits_again own.now refs.now poll (commitment_of session.now.voted.committed) nonce.now kind (Some session.now.voted.hashes)) }
+{
+    if !repeats(session.voted.committed(), nonce, kind) {
+        return Ok(no_reaction(alloc));
+    }
+    let mut sends = Vec::new(alloc);
+    sends.push(write_nomination(alloc, own, refs, poll)?)?;
+    sends.push(write_vote(alloc, own, poll, session.voted.hashes())?)?;
+    Ok(telling(alloc, Seq::from_vec(sends)))
+}
+
+/// Takes the poller's proof of effort. One that is accepted commits a joined session to the newest version, and one that is
+/// refused ends it. One that repeats the commitment of a session is answered again, with the vote if there is one.
+#[tactic(auto, unfolding(lks_law::specs::Answering::proof_in))]
+pub fn answer_proof(
+    alloc: Global,
+    own: &Station,
+    sessions: &Sessions,
+    copies: &[Held],
+    refs: &[PeerId],
+    poll: PollName,
+    nonce: &[u8; 32],
+    kind: HashKind,
+    judged: Judged,
+) -> Result<Reaction, OutOfMemory>
+    requires proof { length own.now.proof ≤ MOST_PROOF_BYTES }
+    requires sendable { IsSendable (voter_of sessions.now) }
+    ensures { IfOk result (λ r. r ≡ proof_in own.now (voter_of sessions.now) (copies_of copies.now) refs.now poll nonce.now kind judged) }
+{
+    if let Some(session) = sessions.find_joined(poll) {
+        let version = version_of(copies, session.joined.au());
+        return commit(alloc, own, refs, poll, version, nonce, kind, judged);
+    }
+    if let Some(session) = sessions.find_pinned(poll) {
+        return nominate_again(alloc, own, refs, poll, &session.committed, nonce, kind);
+    }
+    match sessions.find_cast(poll) {
+        Some(session) => vote_again(alloc, own, refs, poll, session, nonce, kind),
+        None => Ok(no_reaction(alloc)),
+    }
+}
+
+/// The hashes of the vote in a committed session, over the blocks that it keeps.
+#[tactic(auto, unfolding(lks_law::specs::Answering::hashes_for), using(lks_blocks::proofs::Bytes::bytes_count))]
+fn hash_pinned(
+    alloc: Global,
+    pool: &BlockPool,
+    own: &Station,
+    session: &PinnedSession,
+) -> Result<Hashes, OutOfMemory>
+    requires of { AllOf pool.now session.now.refs }
+    requires counted { CanVote (pinned_of session.now) }
+    ensures hashes { IfOk result (λ hashes. hashes ≡ hashes_for own.now (pinned_of session.now)) }
+    ensures few { IfOk result (λ hashes. length hashes ≤ MOST_BLOCKS) }
+{
+    let committed = &session.committed;
+    let job = VoteJob {
+        peer: own.id,
+        poll: committed.joined().poll(),
+        au: committed.joined().au(),
+        kind: committed.kind(),
+        nonce: *committed.nonce(),
+        tag: PinTag {
+            first: 0,
+            version: committed.version(),
+        },
+        refs: session.refs.clone()?,
+    };
+    match hash_vote(alloc, pool, job) {
+        Ok(done) => Ok(done.hashes),
+        Err(_job) => Err(OutOfMemory),
+    }
+}
+
+fn vote(
+    alloc: Global,
+    pool: &BlockPool,
+    own: &Station,
+    session: &PinnedSession,
+    poll: PollName,
+) -> Result<Reaction, OutOfMemory>
+    requires of { AllOf pool.now session.now.refs }
+    requires counted { CanVote (pinned_of session.now) }
+    requires proof { length own.now.proof ≤ MOST_PROOF_BYTES }
+    ensures { IfOk result (λ r. r ≡ votes_with own.now poll (hashes_for own.now (pinned_of session.now))) }
+{
+    let hashes = hash_pinned(alloc, pool, own, session)?;
+    let mut sends = Vec::new(alloc);
+    sends.push(write_vote(alloc, own, poll, &hashes)?)?;
+    adding(alloc, Record::Voted { poll, hashes }, Seq::from_vec(sends))
+}
+
+/// Votes in a committed session.
+#[tactic(auto, unfolding(lks_law::specs::Answering::work_in))]
+pub fn work(
+    alloc: Global,
+    pool: &BlockPool,
+    own: &Station,
+    sessions: &Sessions,
+    poll: PollName,
+) -> Result<Reaction, OutOfMemory>
+    requires of { IsOf pool.now sessions.now }
+    requires sendable { IsSendable (voter_of sessions.now) }
+    requires proof { length own.now.proof ≤ MOST_PROOF_BYTES }
+    ensures { IfOk result (λ r. r ≡ work_in own.now (voter_of sessions.now) poll) }
+{
+    match sessions.find_pinned(poll) {
+        Some(session) => vote(alloc, pool, own, session, poll),
+        None => Ok(no_reaction(alloc)),
+    }
+}
