@@ -4,7 +4,7 @@ use Rattle.std.specs.Prelude.{Some, None, map, find, option_map, slice_set}
 use Rattle.std.specs.List.{position, position_or_len, remove}
 use Rattle.std.proofs.lemmas.Bool.{ltb-false, le-ltb}
 use Rattle.std.proofs.lemmas.List.Quantifiers.{position-Some}
-use Rattle.lks_law.specs.State.{changed_first, without_first}
+use Rattle.lks_law.specs.Firsts.{changed_first, without_first}
 
 above : (b : Bool) (k : ℕ) → cond b (Some k) None ≡ None → b ≡ false
 above true k e = absurd cc

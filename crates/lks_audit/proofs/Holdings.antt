@@ -1,10 +1,11 @@
 -- The copies that a peer holds, as they are seen.
 use Rattle.std.proofs.Common.{◌≡◌, ◌<◌, ◌≤◌, ◌∙◌, refl, arith, length, ap, sym, subst, ℕ, Bool, true, false, cond, List, [], ◌∷◌, get_or}
 use Rattle.std.proofs.lemmas.List.Elements.{All-set, All-head, All-tail}
-use Rattle.std.specs.Prelude.{Option, Some, None, is_some, ◌==◌, map, find, option_map, slice_set, All}
+use Rattle.std.specs.Prelude.{Option, Some, None, is_some, ◌==◌, map, find, option_map, slice_set, All, Result, Ok, Err, IfOk}
 use Rattle.std.specs.List.{position}
 use Rattle.lks_audit.proofs.Changing as changing
 use Rattle.lks_blocks.proofs.Bytes.{bytes_count}
+use Rattle.lks_blocks.specs.Block.{Block, AllOf}
 use Rattle.lks_law.specs.Fitting.{Where, most_numbered}
 use Rattle.lks_versions.specs.Shelf.{newest_of, current_of}
 use Rattle.lks_law.specs.State.{Copy, copy_at, blocks_in, blocks_at, copy_changed}
@@ -68,3 +69,9 @@ few_on au (c ∷ cs) all = here (c.au == au) (All-head HasBlocks c cs all) (few_
     here : (b : Bool) → HasBlocks c → length (blocks_at au cs) ≤ MOST_BLOCKS → length (blocks_in (cond b (Some c) (copy_at au cs))) ≤ MOST_BLOCKS
     here true has rest = has.1
     here false has rest = rest
+
+-- what is of the pool of a copy that is found is of that of all copies
+pub of_found : {E : Type 0} (au : ℕ) (hs : List Held) (h : Held) (result : Result (List Block) E) → Some h ≡ find (λ (h : Held). h.au == au) hs
+    → IfOk result (λ refs. (pool : List ℕ) → IsOf pool h → AllOf pool refs) → IfOk result (λ refs. (pool : List ℕ) → All (IsOf pool) hs → AllOf pool refs)
+of_found au hs h (Ok refs) found of = λ pool all. of pool (held_of pool au hs h found all)
+of_found au hs h (Err e) found of = tt

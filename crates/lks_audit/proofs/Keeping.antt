@@ -9,7 +9,8 @@ use Rattle.lks_audit.proofs.Sessions.{found_poll, no_poll}
 use Rattle.lks_audit.specs.Kept.{Kept, kept_in, kept_of, kept_at, recounted, kept_changed, without_kept, kept_voted, kept_tallied, kept_by_tally}
 use Rattle.lks_audit.specs.Seen.{poll_of, polls_of}
 use Rattle.lks_law.specs.Polls.{Station}
-use Rattle.lks_law.specs.State.{Copy, Poll, poll_at, changed_first}
+use Rattle.lks_law.specs.Firsts.{changed_first}
+use Rattle.lks_law.specs.State.{Copy, Poll, poll_at}
 use Rattle.lks_law.specs.Turning.{has_inner_of}
 use Rattle.lks_poller.specs.Polling as polling
 use Rattle.lks_poller.specs.Polling.{Polled}

@@ -2,7 +2,8 @@
 use Rattle.std.specs.Prelude.{ℕ, Bool, ◌==◌, ◌&&◌, not, if◌then◌else◌, min, Option, None, Some, option_map, is_some, List, length, map, find}
 use Rattle.lks_law.specs.Polls.{Station}
 use Rattle.lks_law.specs.Reacting.{verdict_of}
-use Rattle.lks_law.specs.State.{Copy, Poll, blocks_at, changed_first, without_first}
+use Rattle.lks_law.specs.Firsts.{changed_first, without_first}
+use Rattle.lks_law.specs.State.{Copy, Poll, blocks_at}
 use Rattle.lks_poller.specs.Polling.{Polled}
 use Rattle.lks_tally.specs.Keeping.{kept_after}
 

@@ -3,16 +3,16 @@
 ghost use Rattle.std.specs.Prelude.{◌≡◌, ◌<◌, ◌==◌, ℕ, List, ◌∷◌, ◌++◌, [], false, true, None, Some, ◌≤◌, length, if◌then◌else◌, is_some, map, option_map, find, get_or, OnOk, OnErr, IfOk, All};
 ghost use Rattle.std.specs.List.{position};
 ghost use Rattle.std.specs.Option.{option_copied};
-ghost use Rattle.lks_blocks.specs.Block.{bytes_of};
+ghost use Rattle.lks_blocks.specs.Block.{AllOf, bytes_of};
 ghost use Rattle.lks_law.specs.Fitting.{IsCounted, most_numbered};
 ghost use Rattle.lks_law.specs.State.{copy_at, blocks_at, deposited, opened_at, replaced_in, agreed_at, noted, copy_changed};
-ghost use Rattle.lks_law.specs.State as state;
+ghost use Rattle.lks_law.specs.Journal as journal;
 ghost use Rattle.lks_audit.specs.Copied.{copy_of, copies_of, IsOf, MayReplace};
 ghost use Rattle.lks_versions.specs.Each.{EachOf};
 ghost use Rattle.lks_versions.specs.Shelf.{newest_of, current_of};
 
 use lks_base::{AuId, Bytes, OutOfMemory};
-use lks_blocks::BlockPool;
+use lks_blocks::{BlockPool, Refs};
 use lks_versions::{Newest, Versions};
 use std::alloc::Global;
 use std::marker::Model;
@@ -74,8 +74,20 @@ pub fn count_held(copies: &[Held], au: AuId) -> u16
     }
 }
 
+/// References to the blocks of the newest version of an AU, none of one that isn't held.
+#[tactic(auto, using(crate::proofs::Holdings::copy_seen, lks_blocks::specs::Block::all_none))]
+pub fn refer(alloc: Global, copies: &[Held], au: AuId) -> Result<Refs, OutOfMemory>
+    ensures blocks { IfOk result (λ refs. bytes_of refs ≡ blocks_at au (copies_of copies.now)) }
+    ensures of { IfOk result (λ refs. (pool : List ℕ) → All (IsOf pool) copies.now → AllOf pool refs) }
+{
+    match find(copies, au) {
+        Some(held) => held.refer(),
+        None => Ok(Refs::from_vec(Vec::new(alloc))),
+    }
+}
+
 fn later(before: Option<u32>, tick: u32) -> u32
-    ensures { Some result ≡ state.later before tick }
+    ensures { Some result ≡ journal.later before tick }
 {
     match before {
         Some(before) => before.max(tick),
@@ -84,6 +96,15 @@ fn later(before: Option<u32>, tick: u32) -> u32
 }
 
 impl Held {
+    #[tactic(auto, using(lks_versions::specs::Each::each_newest))]
+    fn refer(&self) -> Result<Refs, OutOfMemory>
+        ensures blocks { IfOk result (λ refs. bytes_of refs ≡ (copy_of self.now).blocks) }
+        ensures of { IfOk result (λ refs. (pool : List ℕ) → IsOf pool self.now → AllOf pool refs) }
+    {
+        let refs = self.versions.refs(self.versions.current())?;
+        Ok(Refs::from_vec(refs))
+    }
+
     #[tactic(auto, using(lks_blocks::proofs::Bytes::bytes_count))]
     fn count(&self) -> usize
         ensures { result ≡ length (copy_of self.now).blocks }

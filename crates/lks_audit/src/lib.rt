@@ -20,7 +20,7 @@ pub mod tallies;
 pub mod voting;
 
 pub use audits::check_aus;
-pub use copies::{Copies, Held, count_blocks, count_held, find_copy};
+pub use copies::{Copies, Held, count_blocks, count_held, find_copy, refer};
 pub use openings::{Opening, begin};
 pub use polls::{Polls, find_poll};
 pub use samples::sample_inner;

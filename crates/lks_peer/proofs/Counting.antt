@@ -15,7 +15,8 @@ use Rattle.lks_base.specs.declared.records.Record.{Record}
 use Rattle.lks_base.specs.declared.records.Record.TheVariants.{Deposit, PollOpened, Nominated, OuterOpened, VoteIn, Shut, Asked, RepairBad, Replaced, Closed, Overdue, Joined, Committed, Voted, Served, Ended, Tuned}
 use Rattle.lks_law.specs.Journal.{Opening}
 use Rattle.lks_law.specs.Polls.{Station}
-use Rattle.lks_law.specs.Reacting.{closed_as, for_poll, if_may, react_on, asked_for, supplier, tallied_as, tally_in, verdict_of}
+use Rattle.lks_law.specs.Reacting.{closed_as, for_poll, if_may, asked_for, supplier, tallied_as, tally_in, verdict_of}
+use Rattle.lks_law.specs.Table.{react_on}
 use Rattle.lks_law.specs.State.{Copy, Poll, State, after, after_all, asking, answered, begun, blocks_at, changed, nominated_by, poll_at, settled, shut_now, voted_by, widened_to, without_poll}
 use Rattle.lks_law.specs.Turning.{has_inner_of}
 use Rattle.lks_peer.specs.declared.known.Known.{Known}

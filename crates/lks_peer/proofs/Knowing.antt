@@ -1,6 +1,6 @@
 -- What a peer knows stays tied together.
 use Rattle.std.proofs.Common.{◌≡◌, ◌∙◌, ap, sym, subst, ℕ, Bool, true, false, cond, eqb, List, [], ◌∷◌, ◌++◌, refl, length, get_or, arith, ◌≤◌, ◌<◌}
-use Rattle.std.specs.Prelude.{Option, Some, None, is_some, ◌==◌, option_map, All, map, slice_set}
+use Rattle.std.specs.Prelude.{Option, Some, None, is_some, ◌==◌, option_map, All, map, slice_set, Result, Ok, Err, OnErr}
 use Rattle.std.specs.List.{position}
 use Rattle.lks_base.specs.Checking.{has_member}
 use Rattle.lks_base.specs.declared.names.Outcome.TheVariants as outcome
@@ -18,19 +18,54 @@ use Rattle.lks_audit.specs.declared.copies.Held.{Held}
 use Rattle.lks_peer.specs.declared.known.Known.{Known}
 use Rattle.lks_audit.specs.Copied.{copies_of, IsOf, MayReplace}
 use Rattle.lks_audit.specs.Counted.{IsCountedOn}
-use Rattle.lks_peer.specs.Knows.{state_of, IsTied, StaysTied}
+use Rattle.lks_blocks.specs.Block.{Block, AllOf}
+use Rattle.lks_law.specs.State.{State}
+use Rattle.lks_peer.specs.Knows.{state_of, IsSameButMarks, IsTied, StaysTied}
+use Rattle.lks_sessions.specs.Kept as sessions
 use Rattle.lks_audit.specs.Seen.{request_of, poll_of, polls_of, MayVote, MayAsk, AreAgreed, IsOn, RunsOn, RunOver, forgetting}
 use Rattle.lks_poller.specs.Polling.{Polled}
 use Rattle.lks_tally.proofs.Caching.{cache_forgotten}
 use Rattle.lks_tally.specs.Keeping.{forgotten}
 
 -- where the polls alone changed
-pub tied_polls : (old new : Known) → new.copies ≡ old.copies → new.references ≡ old.references → RunsOn old.polls new.polls → StaysTied old new
+pub tied_polls : (old new : Known) → new.copies ≡ old.copies → new.references ≡ old.references → new.sessions ≡ old.sessions → RunsOn old.polls new.polls → StaysTied old new
 unfolding StaysTied RunsOn
-tied_polls old new copies references runs id pool tied = record {
+tied_polls old new copies references pins runs id pool tied = record {
   of = subst (λ cs. All (IsOf pool) cs) (sym copies) tied.of;
   on = subst (λ cs. All (IsOn id (copies_of cs)) new.polls) (sym copies) (runs id (copies_of old.copies) tied.on);
   owner = ap (λ r. r.own) references ∙ tied.owner;
+  pins = subst (sessions.IsOf pool) (sym pins) tied.pins;
+}
+
+-- where the polls and marks alone changed
+pub tied_voted : (old new : Known) → new.copies ≡ old.copies → new.references ≡ old.references → sessions.StaysOf old.sessions new.sessions → RunsOn old.polls new.polls → StaysTied old new
+unfolding StaysTied RunsOn sessions.StaysOf
+tied_voted old new copies references pins runs id pool tied = record {
+  of = subst (λ cs. All (IsOf pool) cs) (sym copies) tied.of;
+  on = subst (λ cs. All (IsOn id (copies_of cs)) new.polls) (sym copies) (runs id (copies_of old.copies) tied.on);
+  owner = ap (λ r. r.own) references ∙ tied.owner;
+  pins = pins pool tied.pins;
+}
+
+-- where the sessions alone changed
+pub tied_sessions : (old new : Known) → new.copies ≡ old.copies → new.polls ≡ old.polls → new.references ≡ old.references → sessions.StaysOf old.sessions new.sessions → StaysTied old new
+unfolding StaysTied sessions.StaysOf
+tied_sessions old new copies polls references pins id pool tied = record {
+  of = subst (λ cs. All (IsOf pool) cs) (sym copies) tied.of;
+  on = subst (λ cs. All (IsOn id (copies_of cs)) new.polls) (sym copies) (subst (λ ps. All (IsOn id (copies_of old.copies)) ps) (sym polls) tied.on);
+  owner = ap (λ r. r.own) references ∙ tied.owner;
+  pins = pins pool tied.pins;
+}
+
+-- and a version of a copy is pinned
+pub tied_pinned : (old new : Known) (refs : List Block) → new.copies ≡ old.copies → new.polls ≡ old.polls → new.references ≡ old.references
+    → ((pool : List ℕ) → All (IsOf pool) old.copies → AllOf pool refs) → ((pool : List ℕ) → AllOf pool refs → sessions.IsOf pool old.sessions → sessions.IsOf pool new.sessions) → StaysTied old new
+unfolding StaysTied
+tied_pinned old new refs copies polls references held pins id pool tied = record {
+  of = subst (λ cs. All (IsOf pool) cs) (sym copies) tied.of;
+  on = subst (λ cs. All (IsOn id (copies_of cs)) new.polls) (sym copies) (subst (λ ps. All (IsOn id (copies_of old.copies)) ps) (sym polls) tied.on);
+  owner = ap (λ r. r.own) references ∙ tied.owner;
+  pins = pins pool (held pool tied.of) tied.pins;
 }
 
 pub tied_still : (k : Known) → StaysTied k k
@@ -38,12 +73,13 @@ unfolding StaysTied
 tied_still k id pool tied = tied
 
 -- where the copies alone changed
-pub tied_copies : (id : ℕ) (pool : List ℕ) (old new : Known) → new.polls ≡ old.polls → new.references ≡ old.references → IsTied id pool old
+pub tied_copies : (id : ℕ) (pool : List ℕ) (old new : Known) → new.polls ≡ old.polls → new.references ≡ old.references → new.sessions ≡ old.sessions → IsTied id pool old
     → All (IsOf pool) new.copies → All (IsOn id (copies_of new.copies)) old.polls → IsTied id pool new
-tied_copies id pool old new polls references tied of on = record {
+tied_copies id pool old new polls references pins tied of on = record {
   of = of;
   on = subst (λ ps. All (IsOn id (copies_of new.copies)) ps) (sym polls) on;
   owner = ap (λ r. r.own) references ∙ tied.owner;
+  pins = subst (sessions.IsOf pool) (sym pins) tied.pins;
 }
 
 -- Blocks that stay.
@@ -83,12 +119,12 @@ no_polls id copies [] none = All-nil (IsOn id copies)
 no_polls id copies (s ∷ ss) none = absurd cc
 
 -- where an AU is noted, opened, or agreed
-module _ (old new : Known) (polls : new.polls ≡ old.polls) (references : new.references ≡ old.references)
+module _ (old new : Known) (polls : new.polls ≡ old.polls) (references : new.references ≡ old.references) (pins : new.sessions ≡ old.sessions)
     (of : (pool : List ℕ) → All (IsOf pool) old.copies → All (IsOf pool) new.copies) where
   pub tied_noted : (au : ℕ) → copies_of new.copies ≡ copy_changed au noted (copies_of old.copies) → StaysTied old new
   unfolding StaysTied
   tied_noted au is id pool tied =
-      tied_copies id pool old new polls references tied (of pool tied.of) (still_noted id au (copies_of old.copies) (copies_of new.copies) old.polls is tied.on)
+      tied_copies id pool old new polls references pins tied (of pool tied.of) (still_noted id au (copies_of old.copies) (copies_of new.copies) old.polls is tied.on)
 
 -- a poll is opened behind the others
 pub on_opened : (id au tick : ℕ) (old new : List Copy) (before after : List Polled) (s : Polled) → new ≡ copy_changed au (opened_at tick) old → after ≡ before ++ s ∷ [] → All (IsOn id old) before
@@ -145,14 +181,15 @@ module _ (id au b : ℕ) (bytes : List ℕ) (cs : List Copy) where
       All-cons (IsOn id (copy_changed au (replaced_in b bytes) cs)) (forgetting au b s) (map (forgetting au b) ss) (forget_on s (All-head (IsOn id cs) s ss all)) (forget_all ss (All-tail (IsOn id cs) s ss all))
 
 pub tied_replaced : (id : ℕ) (pool : List ℕ) (au b : ℕ) (bytes : List ℕ) (old new : Known) (ss : List Polled) → copies_of new.copies ≡ copy_changed au (replaced_in b bytes) (copies_of old.copies)
-    → (All (IsOf pool) old.copies → All (IsOf pool) new.copies) → RunsOn old.polls ss → new.polls ≡ map (forgetting au b) ss → new.references ≡ old.references
+    → (All (IsOf pool) old.copies → All (IsOf pool) new.copies) → RunsOn old.polls ss → new.polls ≡ map (forgetting au b) ss → new.references ≡ old.references → new.sessions ≡ old.sessions
     → IsTied id pool old → IsTied id pool new
 unfolding RunsOn
-tied_replaced id pool au b bytes old new ss copies of runs polls references tied = record {
+tied_replaced id pool au b bytes old new ss copies of runs polls references pins tied = record {
   of = of tied.of;
   on = subst (λ cs. All (IsOn id cs) new.polls) (sym copies)
       (subst (All (IsOn id (copy_changed au (replaced_in b bytes) (copies_of old.copies)))) (sym polls) (forget_all id au b bytes (copies_of old.copies) ss (runs id (copies_of old.copies) tied.on)));
   owner = ap (λ r. r.own) references ∙ tied.owner;
+  pins = subst (sessions.IsOf pool) (sym pins) tied.pins;
 }
 
 -- forgetting changes nothing that is seen
@@ -184,12 +221,13 @@ over_same held id ss on = on
 
 -- the poll is gone, and the others run over the same copies
 pub tied_agreed : (id : ℕ) (pool : List ℕ) (old new : Known) (ss : List Polled) → IsTied id pool old → ((pool : List ℕ) → All (IsOf pool) old.copies → All (IsOf pool) new.copies)
-    → RunOver old.copies new.copies → All (IsOn id (copies_of old.copies)) ss → RunsOn ss new.polls → new.references.own ≡ old.references.own → IsTied id pool new
+    → RunOver old.copies new.copies → All (IsOn id (copies_of old.copies)) ss → RunsOn ss new.polls → new.references.own ≡ old.references.own → new.sessions ≡ old.sessions → IsTied id pool new
 unfolding RunsOn RunOver
-tied_agreed id pool old new ss tied of over on runs owner = record {
+tied_agreed id pool old new ss tied of over on runs owner pins = record {
   of = of pool tied.of;
   on = runs id (copies_of new.copies) (over id ss on);
   owner = owner ∙ tied.owner;
+  pins = subst (sessions.IsOf pool) (sym pins) tied.pins;
 }
 
 -- What fits the state may be noted.
@@ -227,11 +265,20 @@ module _ (own : Station) (pool : List ℕ) (k : Known) (tied : IsTied own.id poo
 
   pub replace_fits : (n au block : ℕ) (bytes : List ℕ) → Fits own (state_of k) (record_of.Replaced n au block bytes) → MayReplace au block (copies_of k.copies)
   unfolding MayReplace
-  replace_fits n au block bytes fits = fits
+  replace_fits n au block bytes fits = fits.0
 
   pub agree_fits : (n tick : ℕ) → Fits own (state_of k) (record_of.Closed n outcome.Agreed tick) → AreAgreed own n (copies_of k.copies) (polls_of k.polls)
   unfolding AreAgreed
   agree_fits n tick fits = fits
+
+-- what is true anyway is true at an error
+pub any_err : {X E : Type 0} (result : Result X E) (P : Type 0) → P → OnErr result P
+any_err (Ok x) P is = tt
+any_err (Err e) P is = is
+
+-- where nothing changed, nothing but marks did
+pub same_but_marks : (old new : State) → new ≡ old → IsSameButMarks old new
+same_but_marks old new is = (old.voter.marks, is)
 
 pub tied_on : (id : ℕ) (pool : List ℕ) (old new : Known) → StaysTied old new → IsTied id pool old → IsTied id pool new
 unfolding StaysTied

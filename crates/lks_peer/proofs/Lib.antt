@@ -2,4 +2,6 @@ pub mod Asking
 pub mod Counting
 pub mod Knowing
 pub mod Listing
+pub mod Pinning
+pub mod Sending
 pub mod Welling

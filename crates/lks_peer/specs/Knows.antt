@@ -5,12 +5,15 @@ use Rattle.lks_law.specs.Fitting.{Where, IsSound}
 use Rattle.lks_law.specs.Polls.{Station}
 use Rattle.lks_law.specs.State.{Poll, State, blank}
 use Rattle.lks_law.specs.State as law
+use Rattle.lks_law.specs.Taking.{Mark}
 use Rattle.lks_law.specs.World.{Standing}
 use Rattle.lks_peer.specs.declared.known.Known.{Known}
 use Rattle.lks_peer.specs.Keeping.{nothing_kept}
 use Rattle.lks_audit.specs.Copied.{copies_of, IsOf}
 use Rattle.lks_audit.specs.Kept.{Kept}
 use Rattle.lks_audit.specs.Seen.{polls_of, IsOn}
+use Rattle.lks_sessions.specs.Kept.{voter_of}
+use Rattle.lks_sessions.specs.Kept as sessions
 
 -- the state
 abbrev pub state_of : Known → State
@@ -21,17 +24,24 @@ state_of k =
       copies = copies_of k.copies;
       polls = polls_of k.polls;
       refs = k.references.list;
+      voter = voter_of k.sessions;
     }
 
--- All blocks are of this pool, each poll runs over the copy that is held, and the reference list is this peer's.
+-- All blocks are of this pool, those that sessions pin too; each poll runs over the copy that is held, and the reference list is
+-- this peer's.
 pub record IsTied (id : ℕ) (pool : List ℕ) (k : Known) : Type 0 where
   pub of : All (IsOf pool) k.copies
   pub on : All (IsOn id (copies_of k.copies)) k.polls
   pub owner : k.references.own ≡ id
+  pub pins : sessions.IsOf pool k.sessions
 
 -- whatever pool the blocks are of, and whosever polls these are, they stay so
 unfoldable pub StaysTied : Known → Known → Type 0
 StaysTied old new = (id : ℕ) (pool : List ℕ) → IsTied id pool old → IsTied id pool new
+
+-- all is the same, but for the votes that each peer gave and got
+abbrev pub IsSameButMarks : State → State → Type 0
+IsSameButMarks old new = (marks : List Mark) × (new ≡ record old { voter = record old.voter { marks = marks } })
 
 -- a peer that goes by such numbers, in a state in which such a peer may be
 pub record IsFit (own : Station) (s : State) : Type 0 where

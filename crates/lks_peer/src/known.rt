@@ -1,26 +1,33 @@
 //! What a peer knows, and what each record makes of it.
 
-ghost use Rattle.std.specs.Prelude.{◌≡◌, ◌<◌, ◌≤◌, ◌++◌, ◌∷◌, ℕ, List, [], Option, map, option_map, is_some, true, length, OnOk, OnErr, All};
+ghost use Rattle.std.specs.Prelude.{◌≡◌, ◌<◌, ◌≤◌, ◌++◌, ◌∷◌, ℕ, List, [], Option, Some, IfOk, map, option_map, is_some, true, length, OnOk, OnErr, All};
 ghost use Rattle.lks_base.specs.declared.limits.TheConstants.{MOST_CIRCLE};
 ghost use Rattle.lks_base.specs.declared.names.Outcome.TheVariants as outcome;
 ghost use Rattle.lks_base.specs.declared.records.Record.TheVariants as record_of;
-ghost use Rattle.lks_law.specs.Fitting.{Fits, IsCounted, most_numbered};
-ghost use Rattle.lks_law.specs.State.{Poll, after, agreed_on, copy_at};
+ghost use Rattle.lks_blocks.specs.Block.{AllOf, bytes_of};
+ghost use Rattle.lks_law.specs.Fitting.{Fits, IsCounted, marks_left, most_numbered};
+ghost use Rattle.lks_law.specs.State.{Poll, after, agreed_on, blocks_at, copy_at};
 ghost use Rattle.lks_audit.specs.Copied.{IsOf, MayReplace, copies_of};
 ghost use Rattle.lks_audit.specs.Kept.{kept_of, kept_before, without_kept};
 ghost use Rattle.lks_peer.specs.Keeping.{kept_after};
-ghost use Rattle.lks_peer.specs.Knows.{state_of, IsTied, StaysTied};
+ghost use Rattle.lks_peer.specs.Knows.{state_of, IsSameButMarks, IsTied, StaysTied};
 ghost use Rattle.lks_audit.specs.Seen.{AreAgreed, MayAsk, MayVote, RunOver, polls_of};
+ghost use Rattle.lks_sessions.specs.Kept.{voter_of};
+ghost use Rattle.lks_sessions.specs.Sendable.{MayServe};
 
-use lks_audit::{Copies, Opening, Polls, Station, begin, count_held};
-use lks_base::{AuId, Blocks, Bytes, Hashes, Ids, Numbers, OutOfMemory, Outcome, PeerId, Record};
-use lks_blocks::BlockPool;
+use lks_audit::{Copies, Held, Opening, Polls, Station, begin, count_held, refer};
+use lks_base::{
+    AuId, Blocks, Bytes, HashKind, Hashes, Ids, Numbers, OutOfMemory, Outcome, PeerId, PollName,
+    Record,
+};
+use lks_blocks::{BlockPool, Refs};
 use lks_refs::References;
+use lks_sessions::Sessions;
 use std::alloc::Global;
 use std::sync::Wait;
 
-/// What a peer knows: the numbers in force, how many polls it opened, its copies, those of its polls that run, and its
-/// reference list.
+/// What a peer knows: the numbers in force, how many polls it opened, its copies, those of its polls that run, its reference
+/// list, and its part in polls of others.
 #[derive(Drop)]
 pub struct Known {
     pub numbers: Numbers,
@@ -28,6 +35,7 @@ pub struct Known {
     pub copies: Copies,
     pub polls: Polls,
     pub references: References,
+    pub sessions: Sessions,
 }
 
 /// Notes a nomination.
@@ -62,8 +70,8 @@ pub fn widen(own: &Station, known: &mut Known, number: u32, outer: &Ids) -> Resu
     Ok(())
 }
 
-/// Notes a vote.
-#[tactic(auto, unfolding(lks_law::specs::State::after), using(crate::proofs::Knowing::tied_polls, lks_audit::proofs::Running::on_equal, lks_audit::proofs::Running::on_none))]
+/// Notes a vote. For want of memory its voter may already be given credit.
+#[tactic(auto, unfolding(lks_law::specs::State::after), using(crate::proofs::Knowing::tied_voted, crate::proofs::Knowing::tied_still, crate::proofs::Knowing::same_but_marks, lks_audit::proofs::Running::on_equal, lks_audit::proofs::Running::on_none))]
 pub fn vote(
     own: &Station,
     known: &mut Known,
@@ -71,13 +79,15 @@ pub fn vote(
     voter: PeerId,
     hashes: &Hashes,
 ) -> Result<(), OutOfMemory>
-    requires { MayVote number voter hashes.now known.old.polls }
+    requires may { MayVote number voter hashes.now known.old.polls }
+    requires marks { marks_left (voter_of known.old.sessions) ≡ true }
     ensures state { OnOk result (state_of known.new ≡ after own.now (state_of known.old) (record_of.VoteIn number voter hashes.now)) }
     ensures tied { StaysTied known.old known.new }
-    ensures err { OnErr result (state_of known.new ≡ state_of known.old) }
+    ensures err { OnErr result (IsSameButMarks (state_of known.old) (state_of known.new)) }
     ensures kept { OnOk result (kept_of known.new.polls ≡ kept_after (state_of known.old).polls (record_of.VoteIn number voter hashes.now) (kept_of known.old.polls)) }
 {
     let hashes = hashes.clone()?;
+    known.sessions.receive(voter)?;
     known.polls.vote(number, voter, hashes)?;
     Ok(())
 }
@@ -271,6 +281,112 @@ pub fn agree(
     Ok(())
 }
 
+/// References to the blocks of the newest version of an AU, none where none is named.
+#[tactic(auto, using(lks_blocks::specs::Block::all_none))]
+fn refer_if(alloc: Global, copies: &[Held], au: Option<AuId>) -> Result<Refs, OutOfMemory>
+    ensures blocks { IfOk result (λ refs. (a : ℕ) → au ≡ Some a → bytes_of refs ≡ blocks_at a (copies_of copies.now)) }
+    ensures of { IfOk result (λ refs. (pool : List ℕ) → All (IsOf pool) copies.now → AllOf pool refs) }
+{
+    match au {
+        Some(au) => refer(alloc, copies, au),
+        None => Ok(Refs::from_vec(Vec::new(alloc))),
+    }
+}
+
+/// Notes that the peer joined a poll of another.
+#[tactic(auto, unfolding(lks_law::specs::State::after), using(crate::proofs::Knowing::tied_sessions))]
+pub fn join(
+    own: &Station,
+    known: &mut Known,
+    poll: PollName,
+    au: AuId,
+    tick: u32,
+    low: bool,
+    repairs: Option<u16>,
+) -> Result<(), OutOfMemory>
+    ensures state { OnOk result (state_of known.new ≡ after own.now (state_of known.old) (record_of.Joined poll au tick low repairs)) }
+    ensures tied { StaysTied known.old known.new }
+    ensures err { OnErr result (state_of known.new ≡ state_of known.old) }
+    ensures kept { known.new.polls ≡ known.old.polls }
+{
+    known
+        .sessions
+        .join(&own.rules, poll, au, tick, low, repairs)?;
+    Ok(())
+}
+
+/// Notes that the peer committed to the newest version of the AU of a session.
+#[tactic(auto, unfolding(lks_law::specs::State::after), using(crate::proofs::Pinning::pins, crate::proofs::Knowing::tied_pinned))]
+pub fn commit(
+    alloc: Global,
+    own: &Station,
+    known: &mut Known,
+    poll: PollName,
+    nonce: &[u8; 32],
+    version: u32,
+    kind: HashKind,
+) -> Result<(), OutOfMemory>
+    ensures state { OnOk result (state_of known.new ≡ after own.now (state_of known.old) (record_of.Committed poll nonce.now version kind)) }
+    ensures tied { StaysTied known.old known.new }
+    ensures err { OnErr result (state_of known.new ≡ state_of known.old) }
+    ensures kept { known.new.polls ≡ known.old.polls }
+{
+    let au = known.sessions.au_of(poll);
+    let refs = refer_if(alloc, known.copies.as_slice(), au)?;
+    known.sessions.commit(poll, *nonce, version, kind, refs)?;
+    Ok(())
+}
+
+/// Notes that the peer voted in a session.
+#[tactic(auto, unfolding(lks_law::specs::State::after), using(crate::proofs::Knowing::tied_sessions, crate::proofs::Knowing::tied_still))]
+pub fn cast(
+    alloc: Global,
+    own: &Station,
+    known: &mut Known,
+    poll: PollName,
+    hashes: &Hashes,
+) -> Result<(), OutOfMemory>
+    requires { marks_left (voter_of known.old.sessions) ≡ true }
+    ensures state { OnOk result (state_of known.new ≡ after own.now (state_of known.old) (record_of.Voted poll hashes.now)) }
+    ensures tied { StaysTied known.old known.new }
+    ensures err { OnErr result (state_of known.new ≡ state_of known.old) }
+    ensures kept { known.new.polls ≡ known.old.polls }
+{
+    let hashes = hashes.clone()?;
+    known.sessions.cast(alloc, poll, hashes)?;
+    Ok(())
+}
+
+/// Notes that the peer gave the poller of a session a block.
+#[tactic(auto, unfolding(lks_law::specs::State::after), using(crate::proofs::Knowing::tied_sessions))]
+pub fn serve(
+    own: &Station,
+    known: &mut Known,
+    poll: PollName,
+    block: u16,
+) -> Result<(), OutOfMemory>
+    requires { MayServe poll block (voter_of known.old.sessions).cast }
+    ensures state { OnOk result (state_of known.new ≡ after own.now (state_of known.old) (record_of.Served poll block)) }
+    ensures tied { StaysTied known.old known.new }
+    ensures err { OnErr result (state_of known.new ≡ state_of known.old) }
+    ensures kept { known.new.polls ≡ known.old.polls }
+{
+    known.sessions.serve(poll, block)?;
+    Ok(())
+}
+
+/// Notes that a session is over.
+#[tactic(auto, unfolding(lks_law::specs::State::after), using(crate::proofs::Knowing::tied_sessions))]
+pub fn end_session(own: &Station, known: &mut Known, poll: PollName) -> Result<(), OutOfMemory>
+    ensures state { OnOk result (state_of known.new ≡ after own.now (state_of known.old) (record_of.Ended poll)) }
+    ensures tied { StaysTied known.old known.new }
+    ensures err { OnErr result (state_of known.new ≡ state_of known.old) }
+    ensures kept { known.new.polls ≡ known.old.polls }
+{
+    known.sessions.end(poll)?;
+    Ok(())
+}
+
 /// Notes how a poll ended.
 #[tactic(auto, using(crate::proofs::Knowing::tied_on))]
 fn end(
@@ -307,7 +423,7 @@ fn end(
 }
 
 /// What a record makes of what the peer knows.
-#[tactic(auto, using(crate::proofs::Knowing::tied_on))]
+#[tactic(auto, using(crate::proofs::Knowing::tied_on, crate::proofs::Knowing::same_but_marks))]
 pub fn apply<R: Wait>(
     alloc: Global,
     rt: &R,
@@ -320,7 +436,7 @@ pub fn apply<R: Wait>(
     requires fits { Fits own.now (state_of known.old) r.now }
     ensures state { OnOk result (state_of known.new ≡ after own.now (state_of known.old) r.now) }
     ensures tied { IsTied own.now.id pool.now known.new }
-    ensures err { OnErr result (state_of known.new ≡ state_of known.old) }
+    ensures err { OnErr result (IsSameButMarks (state_of known.old) (state_of known.new)) }
     ensures kept { OnOk result (kept_of known.new.polls ≡ kept_after (state_of known.old).polls r.now (kept_of known.old.polls)) }
 {
     match r {
@@ -399,10 +515,21 @@ pub fn apply<R: Wait>(
             tune(own, known, numbers);
             Ok(())
         }
-        Record::Joined { .. } => Ok(()),
-        Record::Committed { .. } => Ok(()),
-        Record::Voted { .. } => Ok(()),
-        Record::Served { .. } => Ok(()),
-        Record::Ended { .. } => Ok(()),
+        Record::Joined {
+            poll,
+            au,
+            tick,
+            low,
+            repairs,
+        } => join(own, known, *poll, *au, *tick, *low, *repairs),
+        Record::Committed {
+            poll,
+            nonce,
+            version,
+            kind,
+        } => commit(alloc, own, known, *poll, nonce, *version, *kind),
+        Record::Voted { poll, hashes } => cast(alloc, own, known, *poll, hashes),
+        Record::Served { poll, block } => serve(own, known, *poll, *block),
+        Record::Ended { poll } => end_session(own, known, *poll),
     }
 }

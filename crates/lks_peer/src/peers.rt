@@ -1,22 +1,25 @@
 //! A peer as others see it: what it goes by, and the state in which it is.
 
-ghost use Rattle.std.specs.Prelude.{◌≡◌, ◌≤◌, ◌<◌, ℕ, List, IfOk, IsSome, is_some, Some, None, OnOk, nat_lt, length, find, option_map, slice_get};
+ghost use Rattle.std.specs.Prelude.{◌≡◌, ◌≤◌, ◌<◌, ◌++◌, ℕ, List, IfOk, IsSome, is_some, Some, None, OnOk, nat_lt, length, find, option_map, map, slice_get};
 ghost use Rattle.std.specs.List.{list_all, filter_map};
 ghost use Rattle.std.specs.Option.{option_copied};
 ghost use Rattle.lks_audit.specs.Kept.{kept_at, kept_of};
-ghost use Rattle.lks_audit.specs.Seen.{poll_of};
+ghost use Rattle.lks_audit.specs.Seen.{poll_of, polls_of};
 ghost use Rattle.lks_base.specs.Checking.{plan_fault};
+ghost use Rattle.lks_base.specs.declared.events.PeerStep.TheVariants as steps;
 ghost use Rattle.lks_base.specs.declared.plans.PeerPlan.{PeerPlan as Planned};
 ghost use Rattle.lks_law.specs.Due as due;
 ghost use Rattle.lks_versions.specs.Shelf.{current_of};
+ghost use Rattle.lks_law.specs.Facts.{IsHeard};
 ghost use Rattle.lks_law.specs.Fitting.{AreFitting, Fits, most_numbered};
 ghost use Rattle.lks_law.specs.Fitting as fitting;
-ghost use Rattle.lks_law.specs.Reacting.{react_on};
+ghost use Rattle.lks_law.specs.Table.{react_on};
 ghost use Rattle.lks_law.specs.State.{after, after_all, blank, poll_at};
 ghost use Rattle.lks_law.specs.Turning.{ready_in, turn_in, ready_on, turns_on, has_inner_in};
 ghost use Rattle.lks_law.specs.World.{station_of, is_honest_at, honest_peer};
 ghost use Rattle.lks_peer.specs.Keeping.{Keeps, kept_after, kept_after_all};
 ghost use Rattle.lks_peer.specs.Knows.{state_of, IsFit, IsWell, IsMade, knowing_of};
+ghost use Rattle.lks_sessions.specs.Kept.{voter_of};
 
 use crate::known::{Known, apply};
 use crate::reacting::react;
@@ -27,6 +30,7 @@ use lks_base::{
 use lks_blocks::{BlockPool, PoolMark};
 use lks_poller::PollSession;
 use lks_refs::References;
+use lks_sessions::Sessions;
 use std::alloc::Global;
 use std::marker::Model;
 use std::sync::Wait;
@@ -52,6 +56,7 @@ fn know_nothing(alloc: Global, own: &Station) -> Result<Known, OutOfMemory>
         copies: Copies::new(alloc),
         polls: Polls::new(alloc),
         references: References::new(alloc, own.id, own.refs.clone()?, own.friends.clone()?),
+        sessions: Sessions::new(alloc),
     })
 }
 
@@ -104,7 +109,9 @@ fn have_versions_left(copies: &[Held]) -> bool
 fn has_room(known: &Known) -> bool
     ensures { result ≡ fitting.has_room (state_of known.now) }
 {
-    known.openings < u32::MAX && have_versions_left(known.copies.as_slice())
+    known.openings < u32::MAX
+        && have_versions_left(known.copies.as_slice())
+        && known.sessions.has_marks_left()
 }
 
 fn ready_of(id: PeerId, poll: &PollSession) -> Option<PeerStep>
@@ -142,7 +149,7 @@ fn turn_of(id: PeerId, poll: &PollSession) -> Option<PeerStep>
     turn_at(id, number, asked, !poll.is_shut(), poll.outer().is_some())
 }
 
-fn find_ready(id: PeerId, polls: &[PollSession], k: u32) -> Option<PeerStep>
+fn find_tally(id: PeerId, polls: &[PollSession], k: u32) -> Option<PeerStep>
     ensures { result ≡ slice_get (filter_map (λ s. ready_in id (poll_of s)) polls.now) k }
 {
     let mut left = k;
@@ -155,6 +162,17 @@ fn find_ready(id: PeerId, polls: &[PollSession], k: u32) -> Option<PeerStep>
         }
     }
     None
+}
+
+#[tactic(auto, using(crate::proofs::Listing::ready_first))]
+fn find_ready(id: PeerId, known: &Known, k: u32) -> Option<PeerStep>
+    ensures { result ≡ slice_get (map (λ p. steps.Work id p.session.poll) (voter_of known.now.sessions).pinned ++ filter_map (ready_in id) (polls_of known.now.polls)) k }
+{
+    let votes = known.sessions.pinned_count();
+    if (k as usize) < votes {
+        return known.sessions.ready(id, k);
+    }
+    find_tally(id, known.polls.as_slice(), k - votes as u32)
 }
 
 fn find_turn(id: PeerId, polls: &[PollSession], k: u32) -> Option<PeerStep>
@@ -244,7 +262,8 @@ impl Peer {
         tick: u32,
         input: &Input,
     ) -> Result<Reaction, OutOfMemory>
-        requires { pool.now ≡ self.old.pool }
+        requires pool { pool.now ≡ self.old.pool }
+        requires heard { IsHeard input.now }
         ensures reaction { IfOk result (λ r. r ≡ react_on self.old.own self.old.state tick input.now) }
         ensures state { IfOk result (λ r. self.new.state ≡ after_all self.old.own self.old.state r.records) }
         ensures fits { IfOk result (λ r. AreFitting self.old.own self.old.state r.records) }
@@ -262,12 +281,13 @@ impl Peer {
         Ok(reaction)
     }
 
-    /// The `k`-th of the steps for which the peer is ready, counted from 0 in order of its running polls.
-    #[tactic(auto, unfolding(lks_law::specs::Turning::ready_on), using(crate::proofs::Listing::steps_seen))]
+    /// The `k`-th of the steps for which the peer is ready, counted from 0: the votes of its sessions in order of their
+    /// commitments, and then the tallies in order of its running polls.
+    #[tactic(auto, unfolding(lks_law::specs::Turning::works_on, lks_law::specs::Turning::tallies_on))]
     pub fn ready(&self, k: u32) -> Option<PeerStep>
         ensures { result ≡ slice_get (ready_on self.now.own self.now.state) k }
     {
-        find_ready(self.own.id, self.known.polls.as_slice(), k)
+        find_ready(self.own.id, &self.known, k)
     }
 
     /// The `k`-th of the steps that the peer takes in its running polls when nothing else is due, counted from 0 in their

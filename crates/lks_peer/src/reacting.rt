@@ -2,7 +2,9 @@
 
 ghost use Rattle.std.specs.Prelude.{◌≡◌, ◌<◌, IfOk};
 ghost use Rattle.lks_law.specs.Fitting.{most_numbered};
-ghost use Rattle.lks_law.specs.Reacting.{react_on, receive_in};
+ghost use Rattle.lks_law.specs.Table.{react_on, receive_in};
+ghost use Rattle.lks_law.specs.Voting as voting;
+ghost use Rattle.lks_law.specs.Voting.{named, on_tune};
 ghost use Rattle.lks_audit.specs.Kept.{kept_of};
 ghost use Rattle.lks_peer.specs.Keeping.{kept_deciding};
 ghost use Rattle.lks_peer.specs.Knows.{state_of, IsTied, IsWell};
@@ -10,32 +12,56 @@ ghost use Rattle.lks_peer.specs.Knows.{state_of, IsTied, IsWell};
 use crate::known::Known;
 use crate::opening::open;
 use crate::rows::{give_up, nominate, nudge, prove, shut, vote, widen};
-use lks_audit::reactions::no_reaction;
+use lks_audit::reactions::{adding, no_reaction, no_sends};
 use lks_audit::{Station, check_aus};
-use lks_base::{Input, Judged, Message, OutOfMemory, PeerId, Reaction};
+use lks_base::{
+    Input, Judged, MOST_REPAIRS, Message, OutOfMemory, PeerId, PollName, Reaction, Record, Rules,
+    obeys_quorum_rule,
+};
 use lks_blocks::BlockPool;
+use lks_sessions::{answer_invitation, answer_proof, answer_request, end, work};
 use std::alloc::Global;
 
 /// What it adds and sends for a message.
+#[tactic(auto, using(crate::proofs::Sending::sendable))]
 fn hear(
     alloc: Global,
     own: &Station,
     pool: &BlockPool,
     known: &mut Known,
+    tick: u32,
     from: PeerId,
     message: &Message,
     judged: Judged,
 ) -> Result<Reaction, OutOfMemory>
     requires { IsWell own.now pool.now known.old }
-    ensures reaction { IfOk result (λ r. r ≡ receive_in own.now (state_of known.old) from message.now judged) }
+    ensures reaction { IfOk result (λ r. r ≡ receive_in own.now (state_of known.old) tick from message.now judged) }
     ensures same { known.new ≡ known.old }
 {
     let polls = known.polls.as_slice();
+    let copies = known.copies.as_slice();
+    let sessions = &known.sessions;
     match message {
+        Message::Poll { number, au } => {
+            let repairs = known.numbers.repairs;
+            let poll = name(from, *number);
+            answer_invitation(alloc, own, sessions, copies, repairs, tick, poll, *au)
+        }
         Message::PollChallenge { number, yes } => prove(alloc, own, polls, *number, from, *yes),
         Message::Nominate { number, nominees } => nominate(alloc, polls, *number, from, nominees),
+        Message::PollProof {
+            number,
+            nonce,
+            kind,
+            ..
+        } => {
+            let refs = known.references.list();
+            let poll = name(from, *number);
+            answer_proof(
+                alloc, own, sessions, copies, refs, poll, nonce, *kind, judged,
+            )
+        }
         Message::Vote { number, hashes, .. } => {
-            let copies = known.copies.as_slice();
             vote(alloc, polls, copies, *number, from, hashes, judged)
         }
         Message::Repair {
@@ -52,15 +78,54 @@ fn hear(
             *block,
             bytes,
         ),
-        Message::Poll { .. }
-        | Message::PollProof { .. }
-        | Message::RepairRequest { .. }
-        | Message::Receipt { .. } => Ok(no_reaction(alloc)),
+        Message::RepairRequest { number, block } => {
+            answer_request(alloc, pool, sessions, name(from, *number), *block)
+        }
+        Message::Receipt { number } => end(alloc, sessions, name(from, *number)),
     }
 }
 
+/// A poll of this peer.
+fn name(poller: PeerId, number: u32) -> PollName
+    ensures { result ≡ named poller number }
+{
+    PollName { poller, number }
+}
+
+#[tactic(auto, unfolding(lks_law::specs::Voting::may_tune))]
+fn may_tune(rules: &Rules, quorum: u16, minority: u16, repairs: u16) -> bool
+    ensures { result ≡ voting.may_tune rules.now quorum minority repairs }
+{
+    1 <= quorum
+        && quorum <= rules.inner
+        && obeys_quorum_rule(quorum, minority)
+        && repairs <= MOST_REPAIRS
+}
+
+/// Takes the operator's numbers.
+#[tactic(auto, unfolding(lks_law::specs::Voting::on_tune))]
+fn tune(
+    alloc: Global,
+    own: &Station,
+    quorum: u16,
+    minority: u16,
+    repairs: u16,
+) -> Result<Reaction, OutOfMemory>
+    ensures { IfOk result (λ r. r ≡ on_tune own.now quorum minority repairs) }
+{
+    if !may_tune(&own.rules, quorum, minority, repairs) {
+        return Ok(no_reaction(alloc));
+    }
+    let item = Record::Tuned {
+        quorum,
+        minority,
+        repairs,
+    };
+    adding(alloc, item, no_sends(alloc))
+}
+
 /// What it adds and sends. Where it counts votes, their hashes are kept.
-#[tactic(auto, unfolding(lks_law::specs::Reacting::react_on), using(crate::proofs::Asking::asks_small))]
+#[tactic(auto, unfolding(lks_law::specs::Table::react_on), using(crate::proofs::Asking::asks_small, crate::proofs::Sending::sendable))]
 pub fn react(
     alloc: Global,
     own: &Station,
@@ -87,12 +152,18 @@ pub fn react(
         }
         Input::Nudge { number } => nudge(alloc, polls, *number),
         Input::GiveUp { number } => give_up(alloc, polls, *number),
-        Input::Work { .. } | Input::Expire { .. } | Input::Tune { .. } => Ok(no_reaction(alloc)),
+        Input::Work { poll } => work(alloc, pool, own, &known.sessions, *poll),
+        Input::Expire { poll } => end(alloc, &known.sessions, *poll),
+        Input::Tune {
+            quorum,
+            minority,
+            repairs,
+        } => tune(alloc, own, *quorum, *minority, *repairs),
         Input::Check => check_aus(alloc, own, known.copies.as_slice(), tick),
         Input::Got {
             from,
             message,
             judged,
-        } => hear(alloc, own, pool, known, *from, message, *judged),
+        } => hear(alloc, own, pool, known, tick, *from, message, *judged),
     }
 }

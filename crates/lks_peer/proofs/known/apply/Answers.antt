@@ -3,13 +3,21 @@ use Rattle.lks_base.specs.declared.records.Record.{Record}
 use Rattle.lks_law.specs.Fitting.{Fits}
 use Rattle.lks_law.specs.State.{after}
 use Rattle.lks_peer.specs.Knows.{state_of}
+use Rattle.lks_sessions.specs.Sendable.{MayServe}
 use Rattle.lks_peer.proofs.Knowing.{vote_fits, ask_fits, replace_fits, tied_on}
 use Rattle.lks_peer.proofs.known.apply.Goals as goal
 
 pub vote-requires : goal.vote-requires
 vote-requires g c =
-    vote_fits c.args.own.now c.args.pool.now c.args.known.now c.requires.tied c.in-VoteIn.number c.in-VoteIn.voter c.in-VoteIn.hashes
-    (subst (Fits c.args.own.now (state_of c.args.known.now)) c.in-VoteIn.is c.requires.fits)
+    let fits = subst (Fits c.args.own.now (state_of c.args.known.now)) c.in-VoteIn.is c.requires.fits in
+    record {
+      may = vote_fits c.args.own.now c.args.pool.now c.args.known.now c.requires.tied c.in-VoteIn.number c.in-VoteIn.voter c.in-VoteIn.hashes fits;
+      marks = fits.2;
+    }
+
+pub serve-requires : goal.serve-requires
+unfolding MayServe
+serve-requires g c = subst (Fits c.args.own.now (state_of c.args.known.now)) c.in-Served.is c.requires.fits
 
 pub ask-requires : goal.ask-requires
 ask-requires g c =
@@ -48,22 +56,17 @@ returns-in-Overdue-clause-tied g c = tied_on c.args.own.now.id c.args.pool.now c
 pub returns-in-Tuned-clause-tied : goal.returns-in-Tuned-clause-tied
 returns-in-Tuned-clause-tied g c = tied_on c.args.own.now.id c.args.pool.now c.args.known.now c.tune.new.known c.tune.ensures.tied c.requires.tied
 
-pub returns-in-Joined-clause-state : goal.returns-in-Joined-clause-state
-unfolding after
-returns-in-Joined-clause-state g c = subst (λ (r : Record). state_of c.args.known.now ≡ after c.args.own.now (state_of c.args.known.now) r) (sym c.in-Joined.is) refl
+pub returns-in-Joined-clause-tied : goal.returns-in-Joined-clause-tied
+returns-in-Joined-clause-tied g c = tied_on c.args.own.now.id c.args.pool.now c.args.known.now c.join.new.known c.join.ensures.tied c.requires.tied
 
-pub returns-in-Committed-clause-state : goal.returns-in-Committed-clause-state
-unfolding after
-returns-in-Committed-clause-state g c = subst (λ (r : Record). state_of c.args.known.now ≡ after c.args.own.now (state_of c.args.known.now) r) (sym c.in-Committed.is) refl
+pub returns-in-Committed-clause-tied : goal.returns-in-Committed-clause-tied
+returns-in-Committed-clause-tied g c = tied_on c.args.own.now.id c.args.pool.now c.args.known.now c.commit.new.known c.commit.ensures.tied c.requires.tied
 
-pub returns-in-Voted-clause-state : goal.returns-in-Voted-clause-state
-unfolding after
-returns-in-Voted-clause-state g c = subst (λ (r : Record). state_of c.args.known.now ≡ after c.args.own.now (state_of c.args.known.now) r) (sym c.in-Voted.is) refl
+pub returns-in-Voted-clause-tied : goal.returns-in-Voted-clause-tied
+returns-in-Voted-clause-tied g c = tied_on c.args.own.now.id c.args.pool.now c.args.known.now c.cast.new.known c.cast.ensures.tied c.requires.tied
 
-pub returns-in-Served-clause-state : goal.returns-in-Served-clause-state
-unfolding after
-returns-in-Served-clause-state g c = subst (λ (r : Record). state_of c.args.known.now ≡ after c.args.own.now (state_of c.args.known.now) r) (sym c.in-Served.is) refl
+pub returns-in-Served-clause-tied : goal.returns-in-Served-clause-tied
+returns-in-Served-clause-tied g c = tied_on c.args.own.now.id c.args.pool.now c.args.known.now c.serve.new.known c.serve.ensures.tied c.requires.tied
 
-pub returns-in-Ended-clause-state : goal.returns-in-Ended-clause-state
-unfolding after
-returns-in-Ended-clause-state g c = subst (λ (r : Record). state_of c.args.known.now ≡ after c.args.own.now (state_of c.args.known.now) r) (sym c.in-Ended.is) refl
+pub returns-in-Ended-clause-tied : goal.returns-in-Ended-clause-tied
+returns-in-Ended-clause-tied g c = tied_on c.args.own.now.id c.args.pool.now c.args.known.now c.end_session.new.known c.end_session.ensures.tied c.requires.tied

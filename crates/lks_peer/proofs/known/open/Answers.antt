@@ -11,6 +11,7 @@ returns-clause-tied c pool tied = record {
   on = on_opened c.args.own.now.id c.args.opening.now.au c.args.tick (copies_of c.args.known.now.copies) _ c.args.known.now.polls _ c.in_ok-poll.poll (search rules) (search rules) tied.on
       (search rules) (c.in_ok-poll.ensures.on (blocks_at c.args.opening.now.au (copies_of c.args.known.now.copies)) (search rules));
   owner = tied.owner;
+  pins = tied.pins;
 }
 
 pub returns-clause-kept : goal.returns-clause-kept

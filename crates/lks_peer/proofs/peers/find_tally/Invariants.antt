@@ -3,7 +3,7 @@ use Rattle.std.specs.Prelude.{slice_get}
 use Rattle.std.specs.List.{filter_map}
 use Rattle.lks_audit.specs.Seen.{poll_of}
 use Rattle.lks_law.specs.Turning.{ready_in}
-use Rattle.lks_peer.proofs.peers.find_ready.Given as goal
+use Rattle.lks_peer.proofs.peers.find_tally.Given as goal
 
 abbrev pub invariant-loop-poll : goal.invariant-loop-poll
 invariant-loop-poll l =
