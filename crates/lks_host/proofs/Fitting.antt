@@ -1,18 +1,24 @@
 -- What the rules add fits a batch.
-use Rattle.std.proofs.Common.{◌≡◌, ◌<◌, ◌≤◌, ◌+◌, ℕ, zero, suc, ap, Bool, true, false, cond, ltb, List, [], ◌∷◌, length, refl, subst, arith}
+use Rattle.std.proofs.Common.{◌≡◌, ◌<◌, ◌≤◌, ◌+◌, ℕ, zero, suc, ap, Bool, true, false, cond, ltb, leb, List, [], ◌∷◌, length, refl, subst, arith}
 use Rattle.std.specs.Prelude.{Option, Some, None, is_some, ◌&&◌, ◌*◌, not, map, slice_get, sum_by, All}
 use Rattle.std.specs.List.{filter_map, cons_option}
 use Rattle.std.specs.Option.{option_to_list}
-use Rattle.std.proofs.lemmas.List.Elements.{All-nil, All-cons}
+use Rattle.std.proofs.lemmas.Bool.{and_parts, leb-true}
+use Rattle.std.proofs.lemmas.List.Elements.{All-nil, All-cons, All-head, All-tail}
 use Rattle.std.proofs.lemmas.List.Sums.{sum_by-cons}
 use Rattle.lks_audit.proofs.Holdings.{few_on}
+use Rattle.lks_base.specs.Checking.{has_member}
+use Rattle.lks_base.specs.Kinds.{is_second}
+use Rattle.lks_base.specs.Quorums.{obeys_quorum_rule}
 use Rattle.lks_base.specs.declared.messages.Message.{Message}
 use Rattle.lks_base.specs.declared.messages.Message.TheVariants as message
 use Rattle.lks_base.specs.declared.names.HashKind.{HashKind}
 use Rattle.lks_base.specs.declared.names.HashKind.TheVariants.{Sha256, Sha512_256}
 use Rattle.lks_base.specs.declared.names.Judged.{Judged}
+use Rattle.lks_base.specs.declared.names.Judged.TheVariants.{NotAsked, Accepted, Refused}
 use Rattle.lks_base.specs.declared.names.Limits.{Limits}
 use Rattle.lks_base.specs.declared.names.Outcome.TheVariants as outcome
+use Rattle.lks_base.specs.declared.names.PollName.{PollName}
 use Rattle.lks_base.specs.declared.plans.AuPlan.{AuPlan}
 use Rattle.lks_base.specs.declared.reactions.Input.{Input}
 use Rattle.lks_base.specs.declared.reactions.Input.TheVariants as input
@@ -22,13 +28,19 @@ use Rattle.lks_base.specs.declared.records.Record.TheVariants as records
 use Rattle.lks_draw.proofs.Picking.{pick_law}
 use Rattle.lks_draw.proofs.Places.{word_fits}
 use Rattle.lks_draw.specs.Words.{drawn_from, words_of}
+use Rattle.lks_hash.proofs.RunningLaws.{hashes_length}
+use Rattle.lks_hash.specs.Hashes.{key_of}
+use Rattle.lks_law.specs.Answering.{is_open, may_join_in, joined_now, invitation_in, proof_at, proof_in, version_at, hashes_for, work_at, work_in, request_at, request_in, end_in}
 use Rattle.lks_law.specs.Facts.{IsHeard}
-use Rattle.lks_law.specs.Fitting.{Where}
+use Rattle.lks_law.specs.Fitting.{Where, IsPinnedWell}
 use Rattle.lks_law.specs.Journal.{Request}
 use Rattle.lks_law.specs.Polls.{Station, limits_of, ballot_of}
-use Rattle.lks_law.specs.Reacting.{for_poll, if_may, may_open_in, inner_of, limits_now, opened_as, open_in, outer_of_poll, widen_in, silent_in, nudge_in, give_up_in, receipts_of, shut_once, shut_in, closed_as, asked_for, verdict_of, supplier, tallied_as, tally_in, must_note_copy, overdue_of, check_in, challenge_in, nominate_in, vote_in_poll, said_of, repair_in, receive_in, react_on}
+use Rattle.lks_law.specs.Reacting.{for_poll, if_may, may_open_in, inner_of, limits_now, opened_as, open_in, outer_of_poll, widen_in, silent_in, nudge_in, give_up_in, receipts_of, shut_once, shut_in, closed_as, asked_for, verdict_of, supplier, tallied_as, tally_in, must_note_copy, overdue_of, check_in, challenge_in, nominate_in, vote_in_poll, said_of, repair_in}
 use Rattle.lks_law.specs.Reaction.{letter, asked_again, given_up, is_request}
 use Rattle.lks_law.specs.State.{Poll, State, poll_at, copy_at, blocks_at}
+use Rattle.lks_law.specs.Table.{receive_in, react_on}
+use Rattle.lks_law.specs.Taking.{Session, Pinned, Cast, is_pinned_of, session_at, pinned_at, cast_at}
+use Rattle.lks_law.specs.Voting.{named, answers, challenge, repeats, commits, vote_hashes, serves, may_tune, on_tune}
 use Rattle.lks_message.specs.Spelling.{IsWithin as IsMessage}
 use Rattle.lks_peer.proofs.Asking.{asks_small}
 use Rattle.lks_peer.specs.Knows.{AsksSmall, IsFit}
@@ -215,15 +227,90 @@ module _ (own : Station) (s : State) (fit : IsFit own s) where
       by_said true = fits_one (records.Replaced p.number p.opening.au b bytes) (below, short) (omega (arith, short))
       by_said false = fits_one (records.RepairBad p.number b from) below (omega arith)
 
-  message_fits : (from : ℕ) (m : Message) (judged : Judged) → IsMessage m → FitsBatch (receive_in own s from m judged).records
-  message_fits from (message.PollChallenge n agrees) judged heard = at_found (poll_at n s.polls) (challenge_in own from agrees) (λ p is. challenge_fits from agrees p)
-  message_fits from (message.Nominate n nominees) judged heard = at_found (poll_at n s.polls) (nominate_in from nominees) (λ p is. nominate_fits from nominees p heard)
-  message_fits from (message.Vote n hashes proof) judged heard = at_found (poll_at n s.polls) (vote_in_poll from hashes judged s.copies) (λ p is. vote_fits from hashes judged p heard.0)
-  message_fits from (message.Repair n b bytes) judged heard = at_found (poll_at n s.polls) (repair_in own from b bytes s.copies) (λ p is. repair_fits from b bytes p heard.0 heard.1)
-  message_fits from (message.Poll n au) judged heard = fits_nothing
-  message_fits from (message.PollProof n nonce kind proof) judged heard = fits_nothing
-  message_fits from (message.RepairRequest n b) judged heard = fits_nothing
-  message_fits from (message.Receipt n) judged heard = fits_nothing
+  -- ---- the rows of a voter
+
+  cond_fits : (b : Bool) (x y : Reaction) → (b ≡ true → FitsBatch x.records) → (b ≡ false → FitsBatch y.records) → FitsBatch (cond b x y).records
+  cond_fits true x y one other = one refl
+  cond_fits false x y one other = other refl
+
+  invitation_fits : (tick : ℕ) (q : PollName) (au : ℕ) → FitsBatch (invitation_in own s.voter s.copies s.numbers.repairs tick q au).records
+  unfolding invitation_in
+  invitation_fits tick q au =
+      cond_fits (is_open q s.voter) (answers (challenge q true)) _ (λ runs. fits_nothing)
+      (λ closed. cond_fits (may_join_in own s.voter s.copies tick q au) (joined_now own s.voter s.numbers.repairs tick q au) _ (λ may. fits_one _ fit.sound.repairs (omega arith)) (λ may_not. fits_nothing))
+
+  proof_fits : (q : PollName) (nonce : List ℕ) (kind : HashKind) (judged : Judged) → FitsBatch (proof_in own s.voter s.copies s.refs q nonce kind judged).records
+  unfolding proof_in
+  proof_fits q nonce kind judged = by_state (session_at q s.voter.sessions) (pinned_at q s.voter.pinned) (cast_at q s.voter.cast)
+    where
+      by_judged : (x : Session) (judged : Judged) → FitsBatch (commits own s.refs q (version_at x.au s.copies) nonce kind judged).records
+      by_judged x Accepted = fits_one _ tt (omega arith)
+      by_judged x Refused = fits_one _ tt (omega arith)
+      by_judged x NotAsked = fits_nothing
+
+      by_state : (x : Option Session) (p : Option Pinned) (c : Option Cast) → FitsBatch (proof_at own s.copies s.refs q nonce kind judged x p c).records
+      by_state (Some x) p c = by_judged x judged
+      by_state None (Some p) c = cond_fits (repeats p.commitment nonce kind) _ _ (λ same. fits_nothing) (λ other. fits_nothing)
+      by_state None None (Some c) = cond_fits (repeats c.pinned.commitment nonce kind) _ _ (λ same. fits_nothing) (λ other. fits_nothing)
+      by_state None None None = fits_nothing
+
+  work_fits : (q : PollName) → FitsBatch (work_in own s.voter q).records
+  unfolding work_in hashes_for vote_hashes
+  work_fits q = by_state (pinned_at q s.voter.pinned) (found_well q s.voter.pinned fit.sound.pinned)
+    where
+      found_well : (q : PollName) (ps : List Pinned) → All IsPinnedWell ps → Where (pinned_at q ps) IsPinnedWell
+      found_well q [] all = tt
+      found_well q (p ∷ ps) all = here (is_pinned_of q p) (found_well q ps (All-tail IsPinnedWell p ps all))
+        where
+          here : (b : Bool) → Where (pinned_at q ps) IsPinnedWell → Where (cond b (Some p) (pinned_at q ps)) IsPinnedWell
+          here true rest = All-head IsPinnedWell p ps all
+          here false rest = rest
+
+      by_state : (p : Option Pinned) → Where p IsPinnedWell → FitsBatch (work_at own q p).records
+      by_state None well = fits_nothing
+      by_state (Some p) well =
+          let count = hashes_length (is_second p.commitment.kind) (key_of (is_second p.commitment.kind) p.session.poll.poller p.session.poll.number p.commitment.nonce own.id p.session.au (length p.blocks)) p.blocks in
+          fits_one _ (omega (arith, count, well.0.1)) (omega (arith, count, well.0.1))
+
+  request_fits : (q : PollName) (b : ℕ) → b ≤ 511 → FitsBatch (request_in s.voter q b).records
+  unfolding request_in
+  request_fits q b below = by_state (cast_at q s.voter.cast)
+    where
+      by_block : (c : Cast) (o : Option (List ℕ)) → FitsBatch (serves q b c.pinned.session.repairs c.served o).records
+      by_block c None = fits_nothing
+      by_block c (Some bytes) =
+          cond_fits (has_member c.served b) _ _ (λ again. fits_nothing)
+          (λ new. cond_fits (ltb (length c.served) c.pinned.session.repairs) _ _ (λ few. fits_one _ below (omega arith)) (λ spent. fits_nothing))
+
+      by_state : (o : Option Cast) → FitsBatch (request_at q b o).records
+      by_state None = fits_nothing
+      by_state (Some c) = by_block c (slice_get c.pinned.blocks b)
+
+  end_fits : (q : PollName) → FitsBatch (end_in s.voter q).records
+  unfolding end_in
+  end_fits q = cond_fits (is_open q s.voter) _ _ (λ runs. fits_one _ tt (omega arith)) (λ closed. fits_nothing)
+
+  tune_fits : (quorum minority repairs : ℕ) → FitsBatch (on_tune own quorum minority repairs).records
+  unfolding on_tune may_tune
+  tune_fits quorum minority repairs = cond_fits (may_tune own.rules quorum minority repairs) _ _ (λ may.
+      let all = and_parts (leb 1 quorum && leb quorum own.rules.inner && obeys_quorum_rule quorum minority) (leb repairs 512) may in
+      let three = and_parts (leb 1 quorum && leb quorum own.rules.inner) (obeys_quorum_rule quorum minority) all.0 in
+      let two = and_parts (leb 1 quorum) (leb quorum own.rules.inner) three.0 in
+      let low = leb-true quorum own.rules.inner two.1 in
+      let few = fit.inner in
+      fits_one _ ((leb-true 1 quorum two.0, omega (arith, low, few), three.1), leb-true repairs 512 all.1) (omega arith)) (λ may_not. fits_nothing)
+
+  -- ---- all rows
+
+  message_fits : (tick from : ℕ) (m : Message) (judged : Judged) → IsMessage m → FitsBatch (receive_in own s tick from m judged).records
+  message_fits tick from (message.PollChallenge n agrees) judged heard = at_found (poll_at n s.polls) (challenge_in own from agrees) (λ p is. challenge_fits from agrees p)
+  message_fits tick from (message.Nominate n nominees) judged heard = at_found (poll_at n s.polls) (nominate_in from nominees) (λ p is. nominate_fits from nominees p heard)
+  message_fits tick from (message.Vote n hashes proof) judged heard = at_found (poll_at n s.polls) (vote_in_poll from hashes judged s.copies) (λ p is. vote_fits from hashes judged p heard.0)
+  message_fits tick from (message.Repair n b bytes) judged heard = at_found (poll_at n s.polls) (repair_in own from b bytes s.copies) (λ p is. repair_fits from b bytes p heard.0 heard.1)
+  message_fits tick from (message.Poll n au) judged heard = invitation_fits tick (named from n) au
+  message_fits tick from (message.PollProof n nonce kind proof) judged heard = proof_fits (named from n) nonce kind judged
+  message_fits tick from (message.RepairRequest n b) judged heard = request_fits (named from n) b heard
+  message_fits tick from (message.Receipt n) judged heard = end_fits (named from n)
 
   -- what a peer in its limits adds at something heard is a short batch in its limits
   pub reaction_fits : (tick : ℕ) (i : Input) → IsHeard i → FitsBatch (react_on own s tick i).records
@@ -234,8 +321,8 @@ module _ (own : Station) (s : State) (fit : IsFit own s) where
   reaction_fits tick (input.Tally n) heard = at_found (poll_at n s.polls) (tally_in own tick s.copies) (λ p is. tally_fits tick p)
   reaction_fits tick (input.Nudge n) heard = at_found (poll_at n s.polls) nudge_in (λ p is. nudge_fits p)
   reaction_fits tick (input.GiveUp n) heard = at_found (poll_at n s.polls) give_up_in (give_up_fits n)
-  reaction_fits tick (input.Work poll) heard = fits_nothing
-  reaction_fits tick (input.Expire poll) heard = fits_nothing
+  reaction_fits tick (input.Work q) heard = work_fits q
+  reaction_fits tick (input.Expire q) heard = end_fits q
   reaction_fits tick input.Check heard = check_fits tick
-  reaction_fits tick (input.Tune quorum minority repairs) heard = fits_nothing
-  reaction_fits tick (input.Got from m judged) heard = message_fits from m judged heard
+  reaction_fits tick (input.Tune quorum minority repairs) heard = tune_fits quorum minority repairs
+  reaction_fits tick (input.Got from m judged) heard = message_fits tick from m judged heard

@@ -6,7 +6,7 @@ ghost use Rattle.lks_host.specs.Cutting.{CutsOff, IsBack};
 ghost use Rattle.lks_host.specs.Hosted.{StandsFor, IsMadeBy};
 ghost use Rattle.lks_host.specs.Stepping.{CanStep};
 ghost use Rattle.lks_law.specs.Facts.{IsHeard};
-ghost use Rattle.lks_law.specs.Reacting.{react_on};
+ghost use Rattle.lks_law.specs.Table.{react_on};
 
 use crate::faults::HostFault;
 use crate::hosts::Host;

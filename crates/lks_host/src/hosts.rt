@@ -12,7 +12,7 @@ ghost use Rattle.lks_host.specs.Hosted.{count_after};
 ghost use Rattle.lks_journal.specs.Adding.{KeepsOrAdds};
 ghost use Rattle.lks_law.specs.Batches.{with_batch, alone};
 ghost use Rattle.lks_law.specs.Facts.{IsHeard};
-ghost use Rattle.lks_law.specs.Reacting.{react_on};
+ghost use Rattle.lks_law.specs.Table.{react_on};
 ghost use Rattle.lks_law.specs.Turning.{ready_on, turns_on, has_inner_in};
 ghost use Rattle.lks_law.specs.World.{standing_of, honest_peer};
 ghost use Rattle.lks_peer.specs.Knows.{knowing_of};

@@ -3,9 +3,10 @@ use Rattle.std.specs.Prelude.{ℕ, if◌then◌else◌, List, [], ◌∷◌, ◌
 use Rattle.std.specs.Str.{bytes_eq}
 use Rattle.lks_base.specs.declared.events.PeerStep.{PeerStep}
 use Rattle.lks_base.specs.declared.events.PeerStep.TheVariants as peers
+use Rattle.lks_base.specs.declared.names.PollName.{PollName}
 use Rattle.lks_base.specs.declared.plans.Plan.{Plan}
 use Rattle.lks_script.specs.declared.steps.Step.{Step}
-use Rattle.lks_script.specs.declared.steps.Step.TheVariants.{Peer, Tick, Next, Lose, Again, Settle, Finish, Forge, SayProof, SayRequest, SayReceipt, SayChallenge, SayNominate, SayVote, SayRepair}
+use Rattle.lks_script.specs.declared.steps.Step.TheVariants.{Peer, Tick, Next, Lose, Again, Settle, Finish, Forge, SayPoll, SayProof, SayRequest, SayReceipt, SayChallenge, SayNominate, SayVote, SayRepair}
 use Rattle.lks_script.specs.Numbers.{◌>>=◌, number_in}
 use Rattle.lks_script.specs.Words.{each_in, id_in, poll_in, index_in, answer_in, block_in, blocks_in, bytes_in}
 use Rattle.lks_script.specs.StepRules.{is_step_of}
@@ -43,6 +44,37 @@ check_in (peer ∷ []) = do
   Some (Peer (peers.Check p))
 check_in _ = None
 
+-- V Q N: a peer, and a poll by its poller and its number
+unfoldable pub session_in : List (List ℕ) → Option (ℕ × PollName)
+session_in (voter ∷ poller ∷ number ∷ []) = do
+  v ← id_in voter
+  q ← id_in poller
+  n ← poll_in number
+  Some (v, record { poller = q; number = n })
+session_in _ = None
+
+-- work V Q N
+unfoldable pub work_in : List (List ℕ) → Option Step
+work_in words = do
+  named ← session_in words
+  Some (Peer (peers.Work named.0 named.1))
+
+-- expire V Q N
+unfoldable pub expire_in : List (List ℕ) → Option Step
+expire_in words = do
+  named ← session_in words
+  Some (Peer (peers.Expire named.0 named.1))
+
+-- tune P Q D R
+unfoldable pub tune_in : List (List ℕ) → Option Step
+tune_in (peer ∷ quorum ∷ minority ∷ repairs ∷ []) = do
+  p ← id_in peer
+  q ← number_in 65535 quorum
+  d ← number_in 65535 minority
+  r ← number_in 65535 repairs
+  Some (Peer (peers.Tune p q d r))
+tune_in _ = None
+
 -- outer P N, shut P N, tally P N, nudge P N, give-up P N
 unfoldable pub in_own_poll : List ℕ → List (List ℕ) → Option Step
 in_own_poll key more = do
@@ -55,6 +87,9 @@ unfoldable pub peer_step_in : List ℕ → List (List ℕ) → Option Step
 peer_step_in key more =
     if bytes_eq key (codes "open") then open_in more
     else if bytes_eq key (codes "check") then check_in more
+    else if bytes_eq key (codes "work") then work_in more
+    else if bytes_eq key (codes "expire") then expire_in more
+    else if bytes_eq key (codes "tune") then tune_in more
     else in_own_poll key more
 
 -- tick N
@@ -103,7 +138,14 @@ forge_in (from ∷ to ∷ bytes ∷ []) = do
   Some (Forge f t bs)
 forge_in _ = None
 
--- What F says to T of the poll N: F's own poll where it says a proof, a request or a receipt, and else T's.
+-- What F says to T of the poll N: F's own poll where it says a poll, a proof, a request or a receipt, and else T's.
+
+-- say F poll T N A
+unfoldable pub invitation_said : ℕ → ℕ → ℕ → List (List ℕ) → Option Step
+invitation_said f t n (au ∷ []) = do
+  a ← id_in au
+  Some (SayPoll f t n a)
+invitation_said f t n _ = None
 
 -- say F proof T N
 unfoldable pub proof_said : ℕ → ℕ → ℕ → List (List ℕ) → Option Step
@@ -154,7 +196,8 @@ repair_said f t n _ = None
 -- what is said, by the word that names it and those behind the poll's number
 unfoldable pub said_in : List ℕ → ℕ → ℕ → ℕ → List (List ℕ) → Option Step
 said_in what f t n more =
-    if bytes_eq what (codes "proof") then proof_said f t n more
+    if bytes_eq what (codes "poll") then invitation_said f t n more
+    else if bytes_eq what (codes "proof") then proof_said f t n more
     else if bytes_eq what (codes "request") then request_said f t n more
     else if bytes_eq what (codes "receipt") then receipt_said f t n more
     else if bytes_eq what (codes "challenge") then challenge_said f t n more

@@ -2,13 +2,29 @@
 
 ghost use Rattle.std.specs.Prelude.{◌≡◌, map};
 ghost use Rattle.lks_script.specs.Words.{Gives};
-ghost use Rattle.lks_script.specs.StepLines.{proof_said, request_said, receipt_said, challenge_said, nominees_said, vote_said, repair_said, said_in, say_in};
+ghost use Rattle.lks_script.specs.StepLines.{invitation_said, proof_said, request_said, receipt_said, challenge_said, nominees_said, vote_said, repair_said, said_in, say_in};
 
 use crate::faults::Stop;
 use crate::steps::Step;
 use crate::words::{answer, block, blocks, id, ids, index, poll};
 use lks_base::PeerId;
 use std::alloc::Global;
+
+#[tactic(auto, unfolding(crate::specs::StepLines::invitation_said))]
+fn invitation(from: PeerId, to: PeerId, number: u32, more: &[&[u8]]) -> Result<Step, Stop>
+    ensures { Gives result (invitation_said from to number (map (λ w. w.now) more.now)) }
+{
+    let [word] = more else {
+        return Err(Stop::Bad);
+    };
+    let au = id(word)?;
+    Ok(Step::SayPoll {
+        from,
+        to,
+        number,
+        au,
+    })
+}
 
 #[tactic(auto, unfolding(crate::specs::StepLines::proof_said))]
 fn proof(from: PeerId, to: PeerId, number: u32, more: &[&[u8]]) -> Result<Step, Stop>
@@ -138,7 +154,9 @@ fn said(
 ) -> Result<Step, Stop>
     ensures { Gives result (said_in what.now from to number (map (λ w. w.now) more.now)) }
 {
-    if what == b"proof".as_slice() {
+    if what == b"poll".as_slice() {
+        invitation(from, to, number, more)
+    } else if what == b"proof".as_slice() {
         proof(from, to, number, more)
     } else if what == b"request".as_slice() {
         request(from, to, number, more)

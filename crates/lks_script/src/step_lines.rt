@@ -2,14 +2,14 @@
 
 ghost use Rattle.std.specs.Prelude.{◌≡◌, map};
 ghost use Rattle.lks_script.specs.Words.{Gives};
-ghost use Rattle.lks_script.specs.StepLines.{open_in, own_poll_in, poll_step_in, in_own_poll, check_in, peer_step_in, tick_in, next_in, lose_in, again_in, settle_in, finish_in, forge_in, step_in, steps_with};
+ghost use Rattle.lks_script.specs.StepLines.{open_in, own_poll_in, poll_step_in, in_own_poll, check_in, session_in, work_in, expire_in, tune_in, peer_step_in, tick_in, next_in, lose_in, again_in, settle_in, finish_in, forge_in, step_in, steps_with};
 
 use crate::faults::Stop;
 use crate::say_lines::say;
 use crate::step_rules::step_of;
 use crate::steps::Step;
 use crate::words::{bytes, count, id, large, poll};
-use lks_base::{PeerStep, Plan, Seq};
+use lks_base::{PeerId, PeerStep, Plan, PollName, Seq};
 use std::alloc::Global;
 
 #[tactic(auto, unfolding(crate::specs::StepLines::open_in))]
@@ -77,6 +77,55 @@ fn check(words: &[&[u8]]) -> Result<Step, Stop>
     Ok(Step::Peer(PeerStep::Check { peer }))
 }
 
+/// A peer, and a poll by its poller and its number.
+#[tactic(auto, unfolding(crate::specs::StepLines::session_in))]
+fn session(words: &[&[u8]]) -> Result<(PeerId, PollName), Stop>
+    ensures { Gives result (session_in (map (λ w. w.now) words.now)) }
+{
+    let [voter, poller, number] = words else {
+        return Err(Stop::Bad);
+    };
+    let voter = id(voter)?;
+    let poller = id(poller)?;
+    let number = poll(number)?;
+    Ok((voter, PollName { poller, number }))
+}
+
+#[tactic(auto, unfolding(crate::specs::StepLines::work_in))]
+fn work(words: &[&[u8]]) -> Result<Step, Stop>
+    ensures { Gives result (work_in (map (λ w. w.now) words.now)) }
+{
+    let (peer, poll) = session(words)?;
+    Ok(Step::Peer(PeerStep::Work { peer, poll }))
+}
+
+#[tactic(auto, unfolding(crate::specs::StepLines::expire_in))]
+fn expire(words: &[&[u8]]) -> Result<Step, Stop>
+    ensures { Gives result (expire_in (map (λ w. w.now) words.now)) }
+{
+    let (peer, poll) = session(words)?;
+    Ok(Step::Peer(PeerStep::Expire { peer, poll }))
+}
+
+#[tactic(auto, unfolding(crate::specs::StepLines::tune_in))]
+fn tune(words: &[&[u8]]) -> Result<Step, Stop>
+    ensures { Gives result (tune_in (map (λ w. w.now) words.now)) }
+{
+    let [peer, quorum, minority, repairs] = words else {
+        return Err(Stop::Bad);
+    };
+    let peer = id(peer)?;
+    let quorum = count(quorum)?;
+    let minority = count(minority)?;
+    let repairs = count(repairs)?;
+    Ok(Step::Peer(PeerStep::Tune {
+        peer,
+        quorum,
+        minority,
+        repairs,
+    }))
+}
+
 /// A step of a peer's own.
 #[tactic(auto, unfolding(crate::specs::StepLines::peer_step_in))]
 fn peer_step(key: &[u8], more: &[&[u8]]) -> Result<Step, Stop>
@@ -86,6 +135,12 @@ fn peer_step(key: &[u8], more: &[&[u8]]) -> Result<Step, Stop>
         open(more)
     } else if key == b"check".as_slice() {
         check(more)
+    } else if key == b"work".as_slice() {
+        work(more)
+    } else if key == b"expire".as_slice() {
+        expire(more)
+    } else if key == b"tune".as_slice() {
+        tune(more)
     } else {
         step_in_own_poll(key, more)
     }

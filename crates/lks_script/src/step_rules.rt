@@ -1,14 +1,32 @@
 //! Which steps a script with a plan can have.
 
 ghost use Rattle.std.specs.Prelude.{◌≡◌};
-ghost use Rattle.lks_script.specs.StepRules.{is_own_step, is_said_vote, is_said, is_invitation, is_forgery, is_request, is_repair, is_nomination, is_step_of};
+ghost use Rattle.lks_script.specs.StepRules.{is_session, is_tuning, is_own_step, is_said_vote, is_said, is_forgery, is_invitation, is_request, is_repair, is_nomination, is_step_of};
 
 use crate::steps::Step;
 use lks_base::{
     Bytes, LAST_BLOCK, MOST_BLOCK_BYTES, MOST_BLOCKS, MOST_EVENTS, MOST_FORGED_BYTES,
-    MOST_NOMINEES, MOST_TICKS, PeerStep, Plan, are_short, has_au, has_corrupt, has_honest,
-    has_peer,
+    MOST_NOMINEES, MOST_REPAIRS, MOST_TICKS, PeerStep, Plan, PollName, are_short, has_au,
+    has_corrupt, has_honest, has_peer, obeys_quorum_rule,
 };
+
+#[tactic(auto, unfolding(crate::specs::StepRules::is_session))]
+fn session(plan: &Plan, voter: u16, poll: PollName) -> bool
+    ensures { result ≡ is_session plan.now voter poll }
+{
+    has_honest(plan.peers.as_slice(), voter) && has_peer(plan.peers.as_slice(), poll.poller)
+}
+
+#[tactic(auto, unfolding(crate::specs::StepRules::is_tuning))]
+fn tuning(plan: &Plan, peer: u16, quorum: u16, minority: u16, repairs: u16) -> bool
+    ensures { result ≡ is_tuning plan.now peer quorum minority repairs }
+{
+    has_honest(plan.peers.as_slice(), peer)
+        && 1 <= quorum
+        && quorum <= plan.rules.inner
+        && obeys_quorum_rule(quorum, minority)
+        && repairs <= MOST_REPAIRS
+}
 
 #[tactic(auto, unfolding(crate::specs::StepRules::is_own_step))]
 fn own_step(plan: &Plan, step: &PeerStep) -> bool
@@ -24,10 +42,16 @@ fn own_step(plan: &Plan, step: &PeerStep) -> bool
         | PeerStep::Nudge { peer, .. }
         | PeerStep::GiveUp { peer, .. }
         | PeerStep::Check { peer } => has_honest(plan.peers.as_slice(), *peer),
-        PeerStep::Work { .. }
-        | PeerStep::Expire { .. }
-        | PeerStep::Tune { .. }
-        | PeerStep::Deliver { .. } => false,
+        PeerStep::Work { peer, poll } | PeerStep::Expire { peer, poll } => {
+            session(plan, *peer, *poll)
+        }
+        PeerStep::Tune {
+            peer,
+            quorum,
+            minority,
+            repairs,
+        } => tuning(plan, *peer, *quorum, *minority, *repairs),
+        PeerStep::Deliver { .. } => false,
     }
 }
 
@@ -49,21 +73,18 @@ fn said_vote(plan: &Plan, from: u16, to: u16, au: u16, blocks: &[Bytes]) -> bool
         && are_short(blocks)
 }
 
-#[tactic(auto, unfolding(crate::specs::StepRules::is_invitation))]
-fn invitation(bytes: &[u8]) -> bool
-    ensures { result ≡ is_invitation bytes.now }
-{
-    match bytes {
-        [version, tag, rest @ ..] => *version == 1 && *tag == 1 && rest.len() == 6,
-        _ => false,
-    }
-}
-
 #[tactic(auto, unfolding(crate::specs::StepRules::is_forgery))]
 fn forgery(plan: &Plan, from: u16, to: u16, bytes: &[u8]) -> bool
     ensures { result ≡ is_forgery plan.now from to bytes.now }
 {
-    said(plan, from, to) && bytes.len() <= MOST_FORGED_BYTES as usize && !invitation(bytes)
+    said(plan, from, to) && bytes.len() <= MOST_FORGED_BYTES as usize
+}
+
+#[tactic(auto, unfolding(crate::specs::StepRules::is_invitation))]
+fn invitation(plan: &Plan, from: u16, to: u16, au: u16) -> bool
+    ensures { result ≡ is_invitation plan.now from to au }
+{
+    said(plan, from, to) && has_au(plan.aus.as_slice(), au)
 }
 
 #[tactic(auto, unfolding(crate::specs::StepRules::is_request))]
@@ -98,6 +119,7 @@ pub fn step_of(plan: &Plan, step: &Step) -> bool
         Step::Next { times } => 1 <= *times && *times <= MOST_EVENTS,
         Step::Lose | Step::Again { .. } | Step::Settle | Step::Finish => true,
         Step::Forge { from, to, bytes } => forgery(plan, *from, *to, bytes.as_slice()),
+        Step::SayPoll { from, to, au, .. } => invitation(plan, *from, *to, *au),
         Step::SayProof { from, to, .. } => said(plan, *from, *to),
         Step::SayRequest {
             from,
@@ -127,6 +149,6 @@ pub fn step_of(plan: &Plan, step: &Step) -> bool
             blocks,
             ..
         } => said_vote(plan, *from, *to, *au, blocks.as_slice()),
-        Step::SayPoll { .. } | Step::Crash { .. } | Step::Cut { .. } => false,
+        Step::Crash { .. } | Step::Cut { .. } => false,
     }
 }

@@ -1,7 +1,7 @@
 //! Scripts that read, and the first bad lines of others.
 
 use super::*;
-use lks_base::{PeerStep, Plan};
+use lks_base::{PeerStep, Plan, PollName};
 use std::alloc::Global;
 use std::process::Abort;
 use std::test::*;
@@ -25,6 +25,9 @@ const MOVES: &str = "open 1 1\ntick 7\nnext\nnext 9\nlose\nagain 3\nouter 1 5\nc
 
 const POLL_MOVES: &str = "tally 1 2\nnudge 1 3\ngive-up 1 4\nfinish\n";
 
+const VOTER_MOVES: &str =
+    "work 1 2 3\nexpire 1 4 5\ntune 1 4 1 512\nsay 2 poll 3 4 1\nforge 2 1 0101000000010001\n";
+
 fn joined(alloc: Global, pieces: &[&str]) -> Result<Vec<u8>, Fail> {
     let mut bytes = Vec::new(alloc);
     for piece in pieces {
@@ -41,6 +44,15 @@ fn line_of(alloc: Global, pieces: &[&str]) -> Result<u32, Fail> {
         Err(ScriptFault::BadLine { line }) => Ok(line),
         Err(ScriptFault::Memory) => Err("out of memory".into()),
     }
+}
+
+/// Each text behind a plan of four peers has this first bad line.
+fn check_rows(rt: &impl Abort, alloc: Global, rows: &[(&str, u32)]) -> Result<(), Fail> {
+    for (at, (text, line)) in rows.iter().enumerate() {
+        let found = line_of(alloc, &[TITLE, RULES, AU, PEERS, text])?;
+        assert_eq!(rt; found, *line, "row {at}");
+    }
+    Ok(())
 }
 
 fn plan_is_read(rt: &impl Abort, plan: &Plan) {
@@ -282,7 +294,7 @@ fn first_bad_lines(rt: HostRuntime) -> Result<(), Fail> {
 
 #[test]
 fn first_bad_lines_behind_the_peers(rt: HostRuntime) -> Result<(), Fail> {
-    let rows: [(&str, u32); 91] = [
+    let rows = [
         // ends
         ("refs 1 2 3 4\ncopy 1 1 41,42", 9),
         // peers
@@ -348,7 +360,7 @@ fn first_bad_lines_behind_the_peers(rt: HostRuntime) -> Result<(), Fail> {
         ("say 2 repair 1 1 511 43\nsay 2 repair 1 1 512 43\n", 9),
         ("say 2 repair 1 1 0 -\nsay 2 repair 1 1 0 5a*16384\n", 0),
         ("say 2 repair 1 1 0\n", 8),
-        ("forge 2 1 -\nforge 2 1 0101000000010001\n", 9),
+        ("forge 2 1 -\nforge 2 1 0101000000010001\n", 0),
         ("forge 2 1 0g\n", 8),
         ("forge 2 9 00\n", 8),
         (
@@ -363,7 +375,6 @@ fn first_bad_lines_behind_the_peers(rt: HostRuntime) -> Result<(), Fail> {
         ("say 2 proof 1 7\nsay 2 proof 1 7 1\n", 9),
         ("say 2 request 1 7 511\nsay 2 request 1 7 512\n", 9),
         ("say 2 receipt 1 7\nsay 1 receipt 2 7\n", 9),
-        ("say 2 poll 1 1 1\n", 8),
         ("tick 1\ntick 1000000\ntick 1000001\n", 10),
         ("tick 0\n", 8),
         ("tick 01\n", 8),
@@ -395,13 +406,148 @@ fn first_bad_lines_behind_the_peers(rt: HostRuntime) -> Result<(), Fail> {
         ("check\n", 8),
         ("check 1 1\n", 8),
     ];
-    for (at, (text, line)) in rows.iter().enumerate() {
-        assert_eq!(rt;
-            line_of(rt.alloc(), &[TITLE, RULES, AU, PEERS, text])?,
-            *line,
-            "row {at}"
-        );
-    }
+    check_rows(&rt, rt.alloc(), &rows)
+}
+
+#[test]
+fn lines_of_voters(rt: HostRuntime) -> Result<(), Fail> {
+    let rows = [
+        ("work 1 2 1\nwork 1 1 0\nwork 1 4 4294967295\n", 0),
+        ("work 2 1 1\n", 8),
+        ("work 9 2 1\n", 8),
+        ("work 1 9 1\n", 8),
+        ("work 1 65536 1\n", 8),
+        ("work 1 2 4294967296\n", 8),
+        ("work 1 2 01\n", 8),
+        ("work 1 2\n", 8),
+        ("work 1 2 1 1\n", 8),
+        ("work\n", 8),
+        ("expire 1 2 1\nexpire 1 1 0\nexpire 1 4 4294967295\n", 0),
+        ("expire 2 1 1\n", 8),
+        ("expire 9 2 1\n", 8),
+        ("expire 1 9 1\n", 8),
+        ("expire 1 2 4294967296\n", 8),
+        ("expire 1 2\n", 8),
+        ("expire 1 2 1 1\n", 8),
+        // invitations
+        (
+            "say 2 poll 1 1 1\nsay 2 poll 3 0 1\nsay 2 poll 2 4294967295 1\n",
+            0,
+        ),
+        ("say 1 poll 2 1 1\n", 8),
+        ("say 9 poll 1 1 1\n", 8),
+        ("say 2 poll 9 1 1\n", 8),
+        ("say 2 poll 1 4294967296 1\n", 8),
+        ("say 2 poll 1 1 2\n", 8),
+        ("say 2 poll 1 1 65536\n", 8),
+        ("say 2 poll 1 1\n", 8),
+        ("say 2 poll 1 1 1 1\n", 8),
+        (
+            "forge 2 1 0101000000010001\nforge 2 3 01010000000100020000\n",
+            0,
+        ),
+        ("forge 1 2 0101000000010001\n", 8),
+    ];
+    check_rows(&rt, rt.alloc(), &rows)
+}
+
+#[test]
+fn lines_of_operators(rt: HostRuntime) -> Result<(), Fail> {
+    let rows = [
+        ("tune 1 1 0 0\ntune 1 3 1 2\ntune 1 4 1 512\n", 0),
+        ("tune 1 0 0 2\n", 8),
+        ("tune 1 4 0 2\ntune 1 5 0 2\n", 9),
+        ("tune 1 65536 1 2\n", 8),
+        ("tune 1 2 1 2\n", 8),
+        ("tune 1 4 2 2\n", 8),
+        ("tune 1 4 32768 2\n", 8),
+        ("tune 1 4 65535 2\n", 8),
+        ("tune 1 4 1 513\n", 8),
+        ("tune 1 4 1 65536\n", 8),
+        ("tune 2 3 1 2\n", 8),
+        ("tune 9 3 1 2\n", 8),
+        ("tune 1 03 1 2\n", 8),
+        ("tune 1 3 1\n", 8),
+        ("tune 1 3 1 2 2\n", 8),
+    ];
+    check_rows(&rt, rt.alloc(), &rows)
+}
+
+#[test]
+fn steps_of_voters_and_operators(rt: HostRuntime) -> Result<(), Fail> {
+    let bytes = joined(rt.alloc(), &[TITLE, RULES, AU, PEERS, VOTER_MOVES])?;
+    let script = read_script(rt.alloc(), &bytes)
+        .ok()
+        .ok_or("the bytes are a script")?;
+    let [work, expire, tune, poll, forge] = script.steps.as_slice() else {
+        return Err("five steps".into());
+    };
+    assert!(rt;
+        matches!(
+            work,
+            Step::Peer(PeerStep::Work {
+                peer: 1,
+                poll: PollName {
+                    poller: 2,
+                    number: 3
+                }
+            })
+        )
+    );
+    assert!(rt;
+        matches!(
+            expire,
+            Step::Peer(PeerStep::Expire {
+                peer: 1,
+                poll: PollName {
+                    poller: 4,
+                    number: 5
+                }
+            })
+        )
+    );
+    assert!(rt;
+        matches!(
+            tune,
+            Step::Peer(PeerStep::Tune {
+                peer: 1,
+                quorum: 4,
+                minority: 1,
+                repairs: 512
+            })
+        )
+    );
+    assert!(rt;
+        matches!(
+            poll,
+            Step::SayPoll {
+                from: 2,
+                to: 3,
+                number: 4,
+                au: 1
+            }
+        )
+    );
+    assert!(rt; matches!(forge, Step::Forge { from: 2, to: 1, .. }));
+    Ok(())
+}
+
+#[test]
+fn at_most_so_many_forged_bytes(rt: HostRuntime) -> Result<(), Fail> {
+    let alloc = rt.alloc();
+    let mut bytes = joined(alloc, &[TITLE, RULES, AU, PEERS, "forge 2 1 0101"])?;
+    bytes.extend_from_slice(&vec![in alloc; b'0'; 79_996]?)?;
+    bytes.push(b'\n')?;
+    assert!(rt; read_script(alloc, &bytes).is_ok());
+    let mut bytes = joined(alloc, &[TITLE, RULES, AU, PEERS, "forge 2 1 0101"])?;
+    bytes.extend_from_slice(&vec![in alloc; b'0'; 79_998]?)?;
+    bytes.push(b'\n')?;
+    assert!(rt;
+        matches!(
+            read_script(alloc, &bytes),
+            Err(ScriptFault::BadLine { line: 8 })
+        )
+    );
     Ok(())
 }
 

@@ -22,7 +22,7 @@ pub fn id(word: &[u8]) -> Result<u16, Stop>
     }
 }
 
-/// A count: of blocks, or of envelopes.
+/// A count: of blocks, of envelopes, or of votes.
 pub fn count(word: &[u8]) -> Result<u16, Stop>
     ensures { Gives result (number_in 65535 word.now) }
 {

@@ -12,15 +12,14 @@ use Rattle.lks_host.specs.Hosted.{StandsFor}
 use Rattle.lks_host.specs.Journals.{journal_on}
 use Rattle.lks_host.specs.Stepping.{IsWritten}
 use Rattle.lks_host.specs.declared.hosts.Host.{Host}
+use Rattle.lks_law.specs.Table.{react_on, reaction}
 use Rattle.lks_law.proofs.Batches.{batch_more}
-use Rattle.lks_law.proofs.StateRows.{law}
+use Rattle.lks_law.proofs.VoterRows.{law}
 use Rattle.lks_law.proofs.Turning.{inner_noted}
 use Rattle.lks_law.specs.Batches.{together, with_batch}
 use Rattle.lks_law.specs.Entries.{is_inner, note_with, note_of}
 use Rattle.lks_law.specs.Fitting.{Fits, AreFitting}
 use Rattle.lks_law.specs.Polls.{Station}
-use Rattle.lks_law.specs.Reacting.{react_on}
-use Rattle.lks_law.specs.Reaction.{reaction}
 use Rattle.lks_law.specs.State.{State, poll_at, state_of}
 use Rattle.lks_law.specs.Turning.{has_inner_in}
 use Rattle.lks_law.specs.Written.{AreWritten}

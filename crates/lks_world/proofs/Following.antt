@@ -110,7 +110,7 @@ module _ (verdict : Verdicts) (plan : Plan) (good : plan_fault plan ≡ None) (p
   performed_history history after (step.Forge from to bytes) is legal are made =
       let may = forgery_may plan (step.Forge from to bytes) from to bytes refl legal in
       subst (IsHistory plan) (sym made) (kept_history plan history (events.Forge from to bytes) is (record { corrupt = may.0; known = may.1; few = may.2; are = are }))
-  performed_history history after (step.SayPoll from to number au) is legal are made = absurd made
+  performed_history history after (step.SayPoll from to number au) is legal are made = said_history history after (step.SayPoll from to number au) is legal are made
   performed_history history after (step.SayProof from to number) is legal are made = said_history history after (step.SayProof from to number) is legal are made
   performed_history history after (step.SayRequest from to number block) is legal are made = said_history history after (step.SayRequest from to number block) is legal are made
   performed_history history after (step.SayReceipt from to number) is legal are made = said_history history after (step.SayReceipt from to number) is legal are made

@@ -1,22 +1,36 @@
 -- What a step that a script can have is known to be.
 use Rattle.std.proofs.Common.{◌≡◌, ◌≤◌, ◌∙◌, ap, sym, subst, ℕ, true, false, leb, List, length}
-use Rattle.std.specs.Prelude.{Option, Some, None, IfSome, not, ◌&&◌, nat_le}
+use Rattle.std.specs.Prelude.{Option, Some, None, IfSome, ◌&&◌, nat_le}
 use Rattle.std.proofs.lemmas.Bool.{and_parts, leb-true}
 use Rattle.lks_base.specs.Checking.{has_au, has_corrupt, has_honest, has_peer, is_within, are_short}
+use Rattle.lks_base.specs.Quorums.{obeys_quorum_rule}
 use Rattle.lks_base.specs.declared.events.Event.{Event}
 use Rattle.lks_base.specs.declared.events.PeerStep.{PeerStep}
 use Rattle.lks_base.specs.declared.events.PeerStep.TheVariants as peers
-use Rattle.lks_base.specs.declared.limits.TheConstants.{LAST_BLOCK, MOST_BLOCKS, MOST_BLOCK_BYTES, MOST_FORGED_BYTES, MOST_NOMINEES, MOST_TICKS}
+use Rattle.lks_base.specs.declared.limits.TheConstants.{LAST_BLOCK, MOST_BLOCKS, MOST_BLOCK_BYTES, MOST_FORGED_BYTES, MOST_NOMINEES, MOST_REPAIRS, MOST_TICKS}
+use Rattle.lks_base.specs.declared.names.PollName.{PollName}
 use Rattle.lks_base.specs.declared.plans.PeerPlan.{PeerPlan}
 use Rattle.lks_base.specs.declared.plans.Plan.{Plan}
 use Rattle.lks_law.specs.Histories.{MayStep}
 use Rattle.lks_law.specs.Questions.{Verdicts}
 use Rattle.lks_law.specs.World.{World}
-use Rattle.lks_script.specs.StepRules.{is_own_step, is_said, is_said_vote, is_forgery, is_invitation, is_request, is_repair, is_nomination, is_step_of}
+use Rattle.lks_script.specs.StepRules.{is_session, is_tuning, is_own_step, is_said, is_said_vote, is_forgery, is_invitation, is_request, is_repair, is_nomination, is_step_of}
 use Rattle.lks_script.specs.declared.steps.CutStep.{CutStep}
 use Rattle.lks_script.specs.declared.steps.Step.{Step}
 use Rattle.lks_script.specs.declared.steps.Step.TheVariants as step
 use Rattle.lks_world.specs.Follows.{Saying, planned, proof_by, vote_by, said_by, spoken, MayBeSaid, IsSaying, Performs}
+
+session_may : (plan : Plan) (voter : ℕ) (poll : PollName) → is_session plan voter poll ≡ true → has_honest plan.peers voter ≡ true
+unfolding is_session
+session_may plan voter poll legal = (and_parts (has_honest plan.peers voter) (has_peer plan.peers poll.poller) legal).0
+
+tuning_may : (plan : Plan) (peer quorum minority repairs : ℕ) → is_tuning plan peer quorum minority repairs ≡ true → has_honest plan.peers peer ≡ true
+unfolding is_tuning
+tuning_may plan peer quorum minority repairs legal =
+    let honest = has_honest plan.peers peer in
+    let all = and_parts (honest && is_within 1 plan.rules.inner quorum && obeys_quorum_rule quorum minority) (nat_le repairs MOST_REPAIRS) legal in
+    let first = and_parts (honest && is_within 1 plan.rules.inner quorum) (obeys_quorum_rule quorum minority) all.0 in
+    (and_parts honest (is_within 1 plan.rules.inner quorum) first.0).0
 
 own_may : (plan : Plan) (w : World) (s : PeerStep) → is_own_step plan s ≡ true → MayStep plan w s
 unfolding is_own_step
@@ -26,7 +40,10 @@ own_may plan w (peers.Shut peer number) legal = legal
 own_may plan w (peers.Tally peer number) legal = legal
 own_may plan w (peers.Nudge peer number) legal = legal
 own_may plan w (peers.GiveUp peer number) legal = legal
+own_may plan w (peers.Work peer poll) legal = session_may plan peer poll legal
+own_may plan w (peers.Expire peer poll) legal = session_may plan peer poll legal
 own_may plan w (peers.Check peer) legal = legal
+own_may plan w (peers.Tune peer quorum minority repairs) legal = tuning_may plan peer quorum minority repairs legal
 own_may plan w s legal = absurd cc
 
 -- a step of a peer's own may be taken
@@ -35,10 +52,6 @@ unfolding is_step_of
 step_may plan w given s is legal = own_may plan w s (ap (is_step_of plan) (sym is) ∙ legal)
 
 -- no script has a step of the last kinds yet
-
-pub no_poll : (plan : Plan) (given : Step) (from to number au : ℕ) → given ≡ step.SayPoll from to number au → is_step_of plan given ≡ true → ⊥
-unfolding is_step_of
-no_poll plan given from to number au is legal = let never : false ≡ true = ap (is_step_of plan) (sym is) ∙ legal in absurd cc
 
 pub no_crash : (plan : Plan) (given : Step) (peer : ℕ) → given ≡ step.Crash peer → is_step_of plan given ≡ true → ⊥
 unfolding is_step_of
@@ -64,10 +77,9 @@ pub forgery_may : (plan : Plan) (given : Step) (from to : ℕ) (bytes : List ℕ
     → (has_corrupt plan.peers from ≡ true) × (has_peer plan.peers to ≡ true) × (length bytes ≤ MOST_FORGED_BYTES)
 unfolding is_step_of is_forgery
 forgery_may plan given from to bytes is legal =
-    let all = and_parts (is_said plan from to && nat_le (length bytes) MOST_FORGED_BYTES) (not (is_invitation bytes)) (ap (is_step_of plan) (sym is) ∙ legal) in
-    let first = and_parts (is_said plan from to) (nat_le (length bytes) MOST_FORGED_BYTES) all.0 in
-    let ends = said_ends plan from to first.0 in
-    (ends.0, ends.1, leb-true (length bytes) MOST_FORGED_BYTES first.1)
+    let all = and_parts (is_said plan from to) (nat_le (length bytes) MOST_FORGED_BYTES) (ap (is_step_of plan) (sym is) ∙ legal) in
+    let ends = said_ends plan from to all.0 in
+    (ends.0, ends.1, leb-true (length bytes) MOST_FORGED_BYTES all.1)
 
 -- and so is what is said
 
@@ -81,7 +93,8 @@ vote_may plan from to (Some v) None number au blocks said = tt
 vote_may plan from to (Some v) (Some p) number au blocks said = said_ends plan from to said
 
 saying_may : (plan : Plan) (s : Step) → is_step_of plan s ≡ true → IfSome (said_by plan s) (MayBeSaid plan)
-unfolding said_by is_step_of is_said_vote is_request is_repair is_nomination
+unfolding said_by is_step_of is_invitation is_said_vote is_request is_repair is_nomination
+saying_may plan (step.SayPoll from to number au) legal = said_ends plan from to (and_parts (is_said plan from to) (has_au plan.aus au) legal).0
 saying_may plan (step.SayProof from to number) legal = proof_may plan from to number (planned plan from) legal
 saying_may plan (step.SayRequest from to number block) legal = said_ends plan from to (and_parts (is_said plan from to) (nat_le block LAST_BLOCK) legal).0
 saying_may plan (step.SayReceipt from to number) legal = said_ends plan from to legal
@@ -100,6 +113,7 @@ pub said_may : (plan : Plan) (s : Step) (said : Option Saying) → said ≡ said
 said_may plan s said is legal = subst (λ x. IfSome x (MayBeSaid plan)) (sym is) (saying_may plan s legal)
 
 pub says : (verdict : Verdicts) (plan : Plan) (history after : List Event) (s : Step) → IsSaying s → after ≡ spoken history (said_by plan s) → Performs verdict plan history s after
+says verdict plan history after (step.SayPoll from to number au) saying is = is
 says verdict plan history after (step.SayProof from to number) saying is = is
 says verdict plan history after (step.SayRequest from to number block) saying is = is
 says verdict plan history after (step.SayReceipt from to number) saying is = is

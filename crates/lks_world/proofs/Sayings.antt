@@ -62,6 +62,13 @@ pub record IsSayable (m : Message) : Type 0 where
   pub few : length (spelling m) ≤ MOST_FORGED_BYTES
   pub are : AreBytes (spelling m)
 
+invitation_sayable : (number au : ℕ) → IsSayable (message.Poll number au)
+unfolding spelling
+invitation_sayable number au = record {
+  few = omega arith;
+  are = append_bytes (start 1 1 number) (to_be_bytes w16 au) (start_bytes 1 1 number (omega arith) (omega arith)) (number_bytes w16 au);
+}
+
 proof_sayable : (number : ℕ) (nonce : List ℕ) (kind : HashKind) (proof : List ℕ) → IsHash nonce → length proof ≤ MOST_PROOF_BYTES → AreBytes proof → IsSayable (message.PollProof number nonce kind proof)
 unfolding spelling
 proof_sayable number nonce kind proof hash short are = record {
@@ -177,7 +184,7 @@ module _ (plan : Plan) (good : plan_fault plan ≡ None) (proofs : All (λ (p : 
   says_bytes step.Settle legal are = tt
   says_bytes step.Finish legal are = tt
   says_bytes (step.Forge from to bytes) legal are = tt
-  says_bytes (step.SayPoll from to number au) legal are = tt
+  says_bytes (step.SayPoll from to number au) legal are = invitation_sayable number au
   says_bytes (step.SayProof from to number) legal are = proof_says from to number (planned plan from) refl
   says_bytes (step.SayRequest from to number block) legal are = request_sayable number block
   says_bytes (step.SayReceipt from to number) legal are = receipt_sayable number

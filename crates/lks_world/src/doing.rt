@@ -155,13 +155,14 @@ pub fn do_step<R: Wait, D: CrashDisk>(
             let bytes = bytes.clone()?;
             Ok(add_forgery(state, *from, *to, bytes)?)
         }
-        Step::SayProof { .. }
+        Step::SayPoll { .. }
+        | Step::SayProof { .. }
         | Step::SayRequest { .. }
         | Step::SayReceipt { .. }
         | Step::SayChallenge { .. }
         | Step::SayNominate { .. }
         | Step::SayVote { .. }
         | Step::SayRepair { .. } => Ok(say(alloc, plan, state, step)?),
-        Step::SayPoll { .. } | Step::Crash { .. } | Step::Cut { .. } => unreachable!(),
+        Step::Crash { .. } | Step::Cut { .. } => unreachable!(),
     }
 }

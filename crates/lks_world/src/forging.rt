@@ -184,6 +184,12 @@ fn say_proof(
     Ok(say(from, to, message))
 }
 
+fn say_invitation(from: PeerId, to: PeerId, number: u32, au: AuId) -> Option<Saying>
+    ensures { result ≡ Some (saying from to (message.Poll number au)) }
+{
+    say(from, to, Message::Poll { number, au })
+}
+
 fn say_request(from: PeerId, to: PeerId, number: u32, block: u16) -> Option<Saying>
     ensures { result ≡ Some (saying from to (message.RepairRequest number block)) }
 {
@@ -240,6 +246,12 @@ pub fn what_is_said(alloc: Global, plan: &Plan, step: &Step) -> Result<Option<Sa
     ensures within { IfOk result (λ s. IfSome s (λ x. IsWithin x.message)) }
 {
     match step {
+        Step::SayPoll {
+            from,
+            to,
+            number,
+            au,
+        } => Ok(say_invitation(*from, *to, *number, *au)),
         Step::SayProof { from, to, number } => say_proof(plan, *from, *to, *number),
         Step::SayVote {
             from,
@@ -284,7 +296,6 @@ pub fn what_is_said(alloc: Global, plan: &Plan, step: &Step) -> Result<Option<Sa
         | Step::Settle
         | Step::Finish
         | Step::Forge { .. }
-        | Step::SayPoll { .. }
         | Step::Crash { .. }
         | Step::Cut { .. } => Ok(None),
     }

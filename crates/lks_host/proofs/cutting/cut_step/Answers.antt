@@ -1,6 +1,7 @@
 use Rattle.std.proofs.Common.{◌≡◌, ◌∙◌, ◌+◌, ◌≤◌, ◌<◌, inl, inr, ⊎_elim, ap, sym, subst, [], length, arith, rules}
 use Rattle.std.specs.Prelude.{IsErrOf}
 use Rattle.lks_base.specs.declared.reactions.Reaction.{Reaction}
+use Rattle.lks_law.specs.Table.{react_on}
 use Rattle.lks_host.proofs.Cuts.{cut_lies, cut_read, kept_by_count, lost_by_count, little_longer, none_or_some, rose_between}
 use Rattle.lks_host.specs.Cutting.{IsCutShort}
 use Rattle.lks_host.specs.Faults.{as_journal}
@@ -9,7 +10,6 @@ use Rattle.lks_host.specs.declared.faults.HostFault.TheVariants.{Memory}
 use Rattle.lks_journal.specs.declared.faults.JournalFault.TheVariants.{Cut}
 use Rattle.lks_law.specs.Batches.{with_batch}
 use Rattle.lks_law.specs.Polls.{Station}
-use Rattle.lks_law.specs.Reacting.{react_on}
 use Rattle.lks_peer.specs.Knows.{Knowing}
 use Rattle.lks_record.specs.Spelling.{batch_spelling}
 use Rattle.lks_host.proofs.cutting.cut_step.Goals as goal

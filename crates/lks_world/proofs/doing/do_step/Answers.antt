@@ -2,7 +2,7 @@ use Rattle.std.proofs.Common.{◌∙◌, inl, inr, sym, ap, subst}
 use Rattle.lks_effort.specs.Verdicts.{first_byte}
 use Rattle.lks_script.specs.declared.steps.Step.TheVariants as step
 use Rattle.lks_world.proofs.HostLaws.{ok_then}
-use Rattle.lks_world.proofs.OwnSteps.{step_may, ticks_within, forgery_may, no_poll, no_crash, no_cut}
+use Rattle.lks_world.proofs.OwnSteps.{step_may, ticks_within, forgery_may, no_crash, no_cut}
 use Rattle.lks_world.specs.Follows.{Performs}
 use Rattle.lks_world.specs.States.{events_in, world_in}
 use Rattle.lks_world.proofs.doing.do_step.Goals as goal
@@ -14,12 +14,9 @@ pub add_ticks-requires-clause-few : goal.add_ticks-requires-clause-few
 add_ticks-requires-clause-few g c = λ κs within. (ticks_within c.args.plan.now c.args.step.now c.in-Tick.by c.in-Tick.is c.requires.legal).1
 
 pub unreachable-requires : goal.unreachable-requires
-unreachable-requires g c = elim c.in-SayPoll.is [
-  | inl poll ↦ no_poll c.args.plan.now c.args.step.now poll.0 poll.1 poll.2 poll.3 poll.4 c.requires.legal
-  | inr others ↦ elim others [
-    | inl crash ↦ no_crash c.args.plan.now c.args.step.now crash.0 crash.1 c.requires.legal
-    | inr cut ↦ no_cut c.args.plan.now c.args.step.now cut.0 cut.1 cut.2 cut.3 c.requires.legal
-  ]
+unreachable-requires g c = elim c.in-Crash.is [
+  | inl crash ↦ no_crash c.args.plan.now c.args.step.now crash.0 crash.1 c.requires.legal
+  | inr cut ↦ no_cut c.args.plan.now c.args.step.now cut.0 cut.1 cut.2 cut.3 c.requires.legal
 ]
 
 pub returns-in-Peer-clause-state : goal.returns-in-Peer-clause-state
