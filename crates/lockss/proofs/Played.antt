@@ -5,7 +5,7 @@ use Rattle.lks_base.specs.Checking.{plan_fault}
 use Rattle.lks_base.specs.declared.plans.Plan.{Plan}
 use Rattle.lks_disk.specs.Face.{Face}
 use Rattle.lks_effort.specs.Verdicts.{first_byte}
-use Rattle.lks_law.proofs.Journals.{is_safe}
+use Rattle.lks_law.proofs.Holding.{is_safe}
 use Rattle.lks_law.specs.Histories.{IsHistory}
 use Rattle.lks_script.specs.declared.steps.Script.{Script}
 use Rattle.lks_script.specs.declared.steps.Step.{Step}
@@ -22,22 +22,24 @@ use Rattle.lockss.specs.declared.statuses.Status.TheVariants.{Done, Alarmed, Usa
 module _ {D K : Type 0} (f : Face D) (taken : K → Option (List ℕ)) (disks : List D) (s : Script) (first now : Seen D) (steps : List Step) (good : plan_fault s.plan ≡ None) (begins : first.plan ≡ s.plan) (empty : first.history ≡ []) (same : steps ≡ s.steps)
     (kept : now.plan ≡ first.plan) (back : disks ≡ now.disks) (holds : now.stopped ≡ None → HaveBatches f now.plan now.history now.disks) where
   told_with : (answer : Status) (before after : Option (List ℕ)) → IsPlayed steps first now before after answer → Tells f disks s before after answer
-  told_with answer before after played = record {
-    history = now.history;
-    follows =
-        subst (λ ss. Follows first_byte s.plan [] ss now.history) same
-        (subst (λ h. Follows first_byte s.plan h steps now.history) empty
-        (subst (λ p. Follows first_byte p first.history steps now.history) begins played.follows));
-    safe = record {
-      good = good;
-      happened = subst (λ p. IsHistory p now.history) begins played.happened;
-      safe = is_safe s.plan now.history;
-      held =
-          subst (λ p. HaveBatches f p now.history disks) (kept ∙ begins)
-          (subst (HaveBatches f now.plan now.history) (sym back) (holds played.running));
-    };
-    report = subst (λ p. TellsReport p now.history before after answer) begins played.report;
-  }
+  told_with answer before after played =
+      let happened : IsHistory s.plan now.history = subst (λ p. IsHistory p now.history) begins played.happened in
+      record {
+        history = now.history;
+        follows =
+            subst (λ ss. Follows first_byte s.plan [] ss now.history) same
+            (subst (λ h. Follows first_byte s.plan h steps now.history) empty
+            (subst (λ p. Follows first_byte p first.history steps now.history) begins played.follows));
+        safe = record {
+          good = good;
+          happened = happened;
+          safe = is_safe s.plan now.history good happened;
+          held =
+              subst (λ p. HaveBatches f p now.history disks) (kept ∙ begins)
+              (subst (HaveBatches f now.plan now.history) (sym back) (holds played.running));
+        };
+        report = subst (λ p. TellsReport p now.history before after answer) begins played.report;
+      }
 
   pub played_as : (answer : Status) (before after : K) → PlaysIn taken steps first now before after answer → Plays f taken disks s before after answer
   played_as Done before after played = told_with Done (taken before) (taken after) played

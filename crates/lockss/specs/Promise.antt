@@ -12,8 +12,10 @@ use Rattle.lockss.specs.declared.statuses.Status.TheVariants.{Done, Alarmed, Usa
 
 -- The plan breaks no rule, and what happened is a history that such a plan can have. It is safe: each block that an honest
 -- peer replaced has, before it in that peer's journal, at least a quorum of votes of distinct invited inner peers of one
--- poll, at most a minority of them for the old block, and at most a minority against the new one. Each honest peer's disk
--- holds the batches of its journal, and so it does after every crash.
+-- poll, at most a minority of them for the old block, and at most a minority against the new one; the hashes of each vote of
+-- an honest peer are those of one version of its copy; and at most a minority of the votes behind a replaced block is of
+-- honest peers whose version had that block and all before it. Each honest peer's disk holds the batches of its journal, and
+-- so it does after every crash.
 pub record IsSafeRun {D : Type 0} (f : Face D) (disks : List D) (plan : Plan) (history : List Event) : Type 0 where
   pub good : plan_fault plan ≡ None
   pub happened : IsHistory plan history

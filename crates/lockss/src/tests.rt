@@ -2,6 +2,7 @@
 
 mod disks;
 mod lists;
+mod sessions;
 mod turns;
 
 use super::*;
@@ -487,6 +488,24 @@ poll 1 1 1 0 0 running
 end 14
 ";
 
+// Peer 1 has no part in a poll of another. The invitation goes to a corrupt peer.
+const NO_PART: &str = "\
+work 1 2 7
+expire 1 2 7
+say 2 poll 3 7 1
+settle
+";
+
+const NO_PART_REPORT: &str = "\
+lockss report 1
+1 work 1 2 7 | - | 0
+2 expire 1 2 7 | - | 0
+3 forge 2 3 8 | - | 1
+4 deliver 0 2 3 | - | 0
+copy 1 1 0
+end 4
+";
+
 /// A script in two parts, one behind the other, and what its replay answers and writes, in two parts too.
 #[derive(Drop)]
 struct Row<'a> {
@@ -578,6 +597,7 @@ fn reports(rt: HostRuntime) -> Result<(), Fail> {
         done(&[HEAD, NO_MESSAGES], &[NO_MESSAGES_REPORT]),
         done(&[HEAD, CHALLENGES], &[CHALLENGES_REPORT]),
         done(&[HEAD, SAYINGS], &[SAYINGS_REPORT]),
+        done(&[HEAD, NO_PART], &[NO_PART_REPORT]),
     ];
     check_rows(&rt, rt.alloc(), &rows)
 }
@@ -625,8 +645,8 @@ fn refusals(rt: HostRuntime) -> Result<(), Fail> {
         bad(&unended, 9),
         bad(&[HEAD, "forge 1 2 00\n"], 10),
         bad(&[HEAD, "# nothing"], 10),
-        bad(&[HEAD, "forge 2 1 0101000000010001\n"], 10),
-        bad(&[HEAD, "say 2 poll 1 1 1\n"], 10),
+        bad(&[HEAD, "say 2 poll 1 1 2\n"], 10),
+        bad(&[HEAD, "tune 1 4 2 2\n"], 10),
         failing(&[1], &[], Status::ReadFault),
         failing(&[], &[1], Status::WriteFault),
     ];
