@@ -118,7 +118,8 @@ fn check_member(peers: &[PeerPlan], own: u16, before: &[u16], id: u16) -> Result
     rule(!has_member(before, id), PlanFault::Repeat)
 }
 
-fn check_members(peers: &[PeerPlan], own: u16, ids: &[u16]) -> Result<(), PlanFault>
+/// Whether these may be a list of the peer of this number, and if not, which rule the first bad member breaks.
+pub fn check_members(peers: &[PeerPlan], own: u16, ids: &[u16]) -> Result<(), PlanFault>
     ensures { fault_of result ≡ each (member_fault peers.now own) [] ids.now }
 {
     for (i, id) in ids.iter().enumerate() {
@@ -152,8 +153,9 @@ pub fn are_short(blocks: &[Bytes]) -> bool
         .all(|b| b.as_slice().len() <= MOST_BLOCK_BYTES as usize)
 }
 
+/// Whether a peer that has these copies may have this one besides, and if not, which rule it breaks.
 #[tactic(auto, unfolding(crate::specs::Checking::copy_fault))]
-fn check_copy(aus: &[AuPlan], before: &[Holding], copy: &Holding) -> Result<(), PlanFault>
+pub fn check_copy(aus: &[AuPlan], before: &[Holding], copy: &Holding) -> Result<(), PlanFault>
     ensures { fault_of result ≡ copy_fault aus.now before.now copy.now }
 {
     let blocks = copy.blocks.as_slice();
@@ -180,8 +182,9 @@ fn bare(peer: &PeerPlan) -> bool
         && peer.copies.as_slice().len() == 0
 }
 
+/// Whether the peer's proof has at most 64 bytes, and it has no lists and no copies if it is corrupt.
 #[tactic(auto, unfolding(crate::specs::Checking::is_fit))]
-fn fit(peer: &PeerPlan) -> bool
+pub fn is_fit(peer: &PeerPlan) -> bool
     ensures { result ≡ is_fit peer.now }
 {
     peer.proof.as_slice().len() <= MOST_PROOF_BYTES as usize && (!peer.corrupt || bare(peer))
@@ -196,7 +199,7 @@ fn check_peer(
 ) -> Result<(), PlanFault>
     ensures { fault_of result ≡ peer_fault aus.now peers.now before.now peer.now }
 {
-    rule(fit(peer), PlanFault::Bounds)?;
+    rule(is_fit(peer), PlanFault::Bounds)?;
     rule(!has_peer(before, peer.id), PlanFault::Repeat)?;
     check_members(peers, peer.id, peer.refs.as_slice())?;
     check_members(peers, peer.id, peer.friends.as_slice())?;
@@ -212,8 +215,8 @@ fn check_peers(aus: &[AuPlan], peers: &[PeerPlan]) -> Result<(), PlanFault>
     Ok(())
 }
 
-// What is left of `room` after these blocks, if they go into it.
-fn room_after_blocks(mut room: usize, blocks: &[Bytes]) -> Option<usize>
+/// How many bytes are left of this room after these blocks, if they go into it.
+pub fn room_after_blocks(mut room: usize, blocks: &[Bytes]) -> Option<usize>
     ensures enough { IfSome result (λ left. left + bytes_of_blocks blocks.now ≡ room) }
     ensures wanting { IfNone result (room < bytes_of_blocks blocks.now) }
 {

@@ -14,8 +14,8 @@ mod reactions;
 mod records;
 
 pub use checking::{
-    are_bounded, are_ordered, are_short, has_au, has_copy, has_corrupt, has_honest, has_member,
-    has_peer,
+    are_bounded, are_ordered, are_short, check_copy, check_members, has_au, has_copy, has_corrupt,
+    has_honest, has_member, has_peer, is_fit, room_after_blocks,
 };
 pub use entries::{Entry, Note};
 pub use events::{Due, Envelope, Event, PeerStep};
