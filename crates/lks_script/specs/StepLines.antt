@@ -7,8 +7,8 @@ use Rattle.lks_base.specs.declared.names.PollName.{PollName}
 use Rattle.lks_base.specs.declared.plans.Plan.{Plan}
 use Rattle.lks_script.specs.declared.steps.Step.{Step}
 use Rattle.lks_script.specs.declared.steps.Step.TheVariants.{Peer, Tick, Next, Lose, Again, Settle, Finish, Forge, SayPoll, SayProof, SayRequest, SayReceipt, SayChallenge, SayNominate, SayVote, SayRepair}
-use Rattle.lks_script.specs.Numbers.{◌>>=◌, number_in}
-use Rattle.lks_script.specs.Words.{each_in, id_in, poll_in, index_in, answer_in, block_in, blocks_in, bytes_in}
+use Rattle.lks_lines.specs.Numbers.{◌>>=◌, number_in}
+use Rattle.lks_lines.specs.Words.{each_in, id_in, poll_in, index_in, answer_in, block_in, blocks_in, bytes_in}
 use Rattle.lks_script.specs.StepRules.{is_step_of}
 
 -- open P A

@@ -1,17 +1,18 @@
 //! How far a script is read, and what a line makes of it.
 
 ghost use Rattle.std.specs.Prelude.{◌≡◌, map};
-ghost use Rattle.lks_script.specs.Words.{Gives};
-ghost use Rattle.lks_script.specs.Grammar.{title_line, numbers_line, rules_line, begun, turns_line, au_line, peer_line, ruled_line, in_peers, in_steps, later_line, declares_peer, planned_line, line_in, ended};
+ghost use Rattle.lks_lines.specs.Words.{Gives};
+ghost use Rattle.lks_script.specs.declared.drafts.Draft.TheVariants as drafts;
+ghost use Rattle.lks_script.specs.declared.drafts.Part.TheVariants as parts;
+ghost use Rattle.lks_script.specs.Grammar.{title_line, rules_line, turns_line, au_line, peer_line, ruled_line, in_peers, step_line, later_line, declares_peer, planned_line, stepped_line, line_in, ended};
 
-use crate::faults::Stop;
-use crate::numbers::number;
-use crate::plan_lines::{
-    ListKind, add_copy, add_list, add_peer, any_honest, au, good, may_add, rules,
-};
 use crate::step_lines::add_step;
 use crate::steps::{Script, Step};
 use lks_base::{AuPlan, MOST_EVENTS, Plan, Rules, Seq};
+use lks_lines::{
+    ListKind, PlanDraft, Stop, add_au, add_copy, add_damage, add_hash, add_list, add_peer, begin,
+    number, rules,
+};
 use std::alloc::Global;
 
 /// What the lines of a plan have come to.
@@ -21,8 +22,6 @@ pub enum Part {
     Peers,
     /// Lists and copies are given.
     Lists,
-    /// Steps are done.
-    Steps,
 }
 
 /// A script as far as it is read.
@@ -38,9 +37,13 @@ pub enum Draft {
         turns: Option<u32>,
         aus: Seq<AuPlan>,
     },
-    /// A plan that breaks no rule, and steps on it.
+    /// A plan with a peer or more.
     Planned {
         part: Part,
+        plan: PlanDraft,
+    },
+    /// A plan, and steps on it.
+    Stepped {
         plan: Plan,
         steps: Seq<Step>,
     },
@@ -60,21 +63,6 @@ fn read_title(words: &[&[u8]]) -> Result<Draft, Stop>
     }
 }
 
-#[tactic(auto, unfolding(crate::specs::Grammar::numbers_line))]
-fn read_numbers(alloc: Global, more: &[&[u8]]) -> Result<Draft, Stop>
-    ensures { Gives result (numbers_line (map (λ w. w.now) more.now)) }
-{
-    let rules = rules(more)?;
-    if !good(&rules) {
-        return Err(Stop::Bad);
-    }
-    Ok(Draft::Ruled {
-        rules,
-        turns: None,
-        aus: Seq::from_vec(Vec::new(alloc)),
-    })
-}
-
 #[tactic(auto, unfolding(crate::specs::Grammar::rules_line))]
 fn read_rules(alloc: Global, words: &[&[u8]]) -> Result<Draft, Stop>
     ensures { Gives result (rules_line (map (λ w. w.now) words.now)) }
@@ -82,11 +70,15 @@ fn read_rules(alloc: Global, words: &[&[u8]]) -> Result<Draft, Stop>
     let [key, more @ ..] = words else {
         return Err(Stop::Bad);
     };
-    if *key == b"rules".as_slice() {
-        read_numbers(alloc, more)
-    } else {
-        Err(Stop::Bad)
+    if *key != b"rules".as_slice() {
+        return Err(Stop::Bad);
     }
+    let rules = rules(more)?;
+    Ok(Draft::Ruled {
+        rules,
+        turns: None,
+        aus: Seq::from_vec(Vec::new(alloc)),
+    })
 }
 
 #[tactic(auto, unfolding(crate::specs::Grammar::turns_line))]
@@ -121,34 +113,17 @@ fn read_au(
 ) -> Result<Draft, Stop>
     ensures { Gives result (au_line rules turns aus (map (λ w. w.now) more.now)) }
 {
-    let au = au(more)?;
-    if !may_add(aus.as_slice(), &au) {
-        return Err(Stop::Bad);
-    }
-    let mut aus = aus.into_vec();
-    aus.push(au)?;
-    let aus = Seq::from_vec(aus);
+    let aus = add_au(aus, more)?;
     Ok(Draft::Ruled { rules, turns, aus })
 }
 
 #[tactic(auto, unfolding(crate::specs::Grammar::peer_line))]
-fn read_peer(alloc: Global, plan: Plan, steps: Seq<Step>, more: &[&[u8]]) -> Result<Draft, Stop>
-    ensures { Gives result (peer_line plan steps (map (λ w. w.now) more.now)) }
+fn read_peer(alloc: Global, plan: PlanDraft, more: &[&[u8]]) -> Result<Draft, Stop>
+    ensures { Gives result (peer_line plan (map (λ w. w.now) more.now)) }
 {
     let plan = add_peer(alloc, plan, more)?;
     let part = Part::Peers;
-    Ok(Draft::Planned { part, plan, steps })
-}
-
-fn begin(alloc: Global, rules: Rules, turns: Option<u32>, aus: Seq<AuPlan>) -> Plan
-    ensures { result ≡ begun rules turns aus }
-{
-    Plan {
-        rules,
-        turns: turns.unwrap_or(u32::from(MOST_EVENTS)),
-        aus,
-        peers: Seq::from_vec(Vec::new(alloc)),
-    }
+    Ok(Draft::Planned { part, plan })
 }
 
 #[tactic(auto, unfolding(crate::specs::Grammar::ruled_line))]
@@ -170,7 +145,7 @@ fn read_ruled(
         read_au(rules, turns, aus, more)
     } else if *key == b"peer".as_slice() {
         let plan = begin(alloc, rules, turns, aus);
-        read_peer(alloc, plan, Seq::from_vec(Vec::new(alloc)), more)
+        read_peer(alloc, plan, more)
     } else {
         Err(Stop::Bad)
     }
@@ -189,64 +164,71 @@ impl Part {
     {
         self.peers() && key == b"peer".as_slice()
     }
-
-    fn steps(&self) -> bool
-        ensures { result ≡ in_steps self.now }
-    {
-        matches!(self, Part::Steps)
-    }
 }
 
-#[tactic(auto, unfolding(crate::specs::Grammar::later_line))]
-fn read_later(
+#[tactic(auto, unfolding(crate::specs::Grammar::step_line))]
+fn read_step(
     alloc: Global,
-    part: Part,
     plan: Plan,
     steps: Seq<Step>,
     key: &[u8],
     more: &[&[u8]],
 ) -> Result<Draft, Stop>
-    ensures { Gives result (later_line part plan steps key.now (map (λ w. w.now) more.now)) }
+    ensures { Gives result (step_line plan steps key.now (map (λ w. w.now) more.now)) }
 {
-    if !part.steps() && key == b"refs".as_slice() {
-        let plan = add_list(alloc, ListKind::Refs, plan, more)?;
-        let part = Part::Lists;
-        Ok(Draft::Planned { part, plan, steps })
-    } else if !part.steps() && key == b"friends".as_slice() {
-        let plan = add_list(alloc, ListKind::Friends, plan, more)?;
-        let part = Part::Lists;
-        Ok(Draft::Planned { part, plan, steps })
-    } else if !part.steps() && key == b"copy".as_slice() {
-        let plan = add_copy(alloc, plan, more)?;
-        let part = Part::Lists;
-        Ok(Draft::Planned { part, plan, steps })
+    let steps = add_step(alloc, &plan, steps, key, more)?;
+    Ok(Draft::Stepped { plan, steps })
+}
+
+fn listed(plan: PlanDraft) -> Draft
+    ensures { result ≡ drafts.Planned parts.Lists plan }
+{
+    let part = Part::Lists;
+    Draft::Planned { part, plan }
+}
+
+#[tactic(auto, unfolding(crate::specs::Grammar::later_line))]
+fn read_later(alloc: Global, plan: PlanDraft, key: &[u8], more: &[&[u8]]) -> Result<Draft, Stop>
+    ensures { Gives result (later_line plan key.now (map (λ w. w.now) more.now)) }
+{
+    if key == b"refs".as_slice() {
+        Ok(listed(add_list(alloc, ListKind::Refs, plan, more)?))
+    } else if key == b"friends".as_slice() {
+        Ok(listed(add_list(alloc, ListKind::Friends, plan, more)?))
+    } else if key == b"hash".as_slice() {
+        Ok(listed(add_hash(alloc, plan, more)?))
+    } else if key == b"copy".as_slice() {
+        Ok(listed(add_copy(alloc, plan, more)?))
+    } else if key == b"damage".as_slice() {
+        Ok(listed(add_damage(alloc, plan, more)?))
     } else {
-        let steps = add_step(alloc, &plan, steps, key, more)?;
-        let part = Part::Steps;
-        Ok(Draft::Planned { part, plan, steps })
+        let PlanDraft { plan, .. } = plan;
+        read_step(alloc, plan, Seq::from_vec(Vec::new(alloc)), key, more)
     }
 }
 
 #[tactic(auto, unfolding(crate::specs::Grammar::planned_line))]
-fn read_planned(
-    alloc: Global,
-    part: Part,
-    plan: Plan,
-    steps: Seq<Step>,
-    words: &[&[u8]],
-) -> Result<Draft, Stop>
-    ensures { Gives result (planned_line part plan steps (map (λ w. w.now) words.now)) }
+fn read_planned(alloc: Global, part: Part, plan: PlanDraft, words: &[&[u8]]) -> Result<Draft, Stop>
+    ensures { Gives result (planned_line part plan (map (λ w. w.now) words.now)) }
 {
     let [key, more @ ..] = words else {
         return Err(Stop::Bad);
     };
     if part.declares_peer(key) {
-        read_peer(alloc, plan, steps, more)
-    } else if any_honest(plan.peers.as_slice()) {
-        read_later(alloc, part, plan, steps, key, more)
+        read_peer(alloc, plan, more)
     } else {
-        Err(Stop::Bad)
+        read_later(alloc, plan, key, more)
     }
+}
+
+#[tactic(auto, unfolding(crate::specs::Grammar::stepped_line))]
+fn read_stepped(alloc: Global, plan: Plan, steps: Seq<Step>, words: &[&[u8]]) -> Result<Draft, Stop>
+    ensures { Gives result (stepped_line plan steps (map (λ w. w.now) words.now)) }
+{
+    let [key, more @ ..] = words else {
+        return Err(Stop::Bad);
+    };
+    read_step(alloc, plan, steps, key, more)
 }
 
 /// The script with one line more.
@@ -258,21 +240,25 @@ pub fn read_line(alloc: Global, draft: Draft, words: &[&[u8]]) -> Result<Draft, 
         Draft::Blank => read_title(words),
         Draft::Titled => read_rules(alloc, words),
         Draft::Ruled { rules, turns, aus } => read_ruled(alloc, rules, turns, aus, words),
-        Draft::Planned { part, plan, steps } => read_planned(alloc, part, plan, steps, words),
+        Draft::Planned { part, plan } => read_planned(alloc, part, plan, words),
+        Draft::Stepped { plan, steps } => read_stepped(alloc, plan, steps, words),
     }
 }
 
 /// The script, where its end may come here.
 #[tactic(auto, unfolding(crate::specs::Grammar::ended))]
-pub fn into_script(draft: Draft) -> Option<Script>
+pub fn into_script(alloc: Global, draft: Draft) -> Option<Script>
     ensures { result ≡ ended draft }
 {
-    let Draft::Planned { plan, steps, .. } = draft else {
-        return None;
-    };
-    if any_honest(plan.peers.as_slice()) {
-        Some(Script { plan, steps })
-    } else {
-        None
+    match draft {
+        Draft::Blank => None,
+        Draft::Titled => None,
+        Draft::Ruled { .. } => None,
+        Draft::Planned { plan, .. } => {
+            let PlanDraft { plan, .. } = plan;
+            let steps = Seq::from_vec(Vec::new(alloc));
+            Some(Script { plan, steps })
+        }
+        Draft::Stepped { plan, steps } => Some(Script { plan, steps }),
     }
 }

@@ -3,8 +3,6 @@
 
 mod drafts;
 mod faults;
-mod numbers;
-mod plan_lines;
 mod reading;
 mod say_lines;
 mod step_lines;
@@ -12,7 +10,6 @@ mod step_rules;
 mod steps;
 #[cfg(test)]
 mod tests;
-mod words;
 
 pub use faults::ScriptFault;
 pub use reading::read_script;

@@ -4,13 +4,13 @@ ghost use Rattle.std.specs.Prelude.{◌≡◌, ◌==◌, ◌<◌, ◌∷◌, [],
 ghost use Rattle.std.specs.List.{position};
 ghost use Rattle.lks_base.specs.Checking.{plan_fault};
 ghost use Rattle.lks_script.specs.StepRules.{are_steps_of};
-ghost use Rattle.lks_script.specs.Words.{Gives, parts};
+ghost use Rattle.lks_lines.specs.Words.{Gives, parts};
 ghost use Rattle.lks_script.specs.Grammar.{are_ascii, means_nothing, with_line, line_number, end_in, script_of, Answers};
 
 use crate::drafts::{Draft, into_script, read_line};
-use crate::faults::{ScriptFault, Stop};
+use crate::faults::ScriptFault;
 use crate::steps::Script;
-use crate::words::split;
+use lks_lines::{Stop, split};
 use std::alloc::Global;
 
 fn line_end(bytes: &[u8]) -> Option<usize>
@@ -71,13 +71,13 @@ fn bad_line(line: u64) -> ScriptFault
 }
 
 #[tactic(auto, unfolding(crate::specs::Grammar::end_in))]
-fn finish(line: u64, draft: Draft, last: &[u8]) -> Result<Script, ScriptFault>
+fn finish(alloc: Global, line: u64, draft: Draft, last: &[u8]) -> Result<Script, ScriptFault>
     ensures { Answers result (end_in line draft last.now) }
 {
     if last.len() != 0 {
         return Err(bad_line(line));
     }
-    match into_script(draft) {
+    match into_script(alloc, draft) {
         Some(script) => Ok(script),
         None => Err(bad_line(line)),
     }
@@ -101,5 +101,5 @@ pub fn read_script(alloc: Global, bytes: &[u8]) -> Result<Script, ScriptFault>
         line += 1;
         rest = more;
     }
-    finish(line, draft, rest)
+    finish(alloc, line, draft, rest)
 }

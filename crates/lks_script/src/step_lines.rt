@@ -1,15 +1,14 @@
 //! Lines that say a step.
 
 ghost use Rattle.std.specs.Prelude.{◌≡◌, map};
-ghost use Rattle.lks_script.specs.Words.{Gives};
+ghost use Rattle.lks_lines.specs.Words.{Gives};
 ghost use Rattle.lks_script.specs.StepLines.{open_in, own_poll_in, poll_step_in, in_own_poll, check_in, session_in, work_in, expire_in, tune_in, peer_step_in, tick_in, next_in, lose_in, again_in, settle_in, finish_in, forge_in, step_in, steps_with};
 
-use crate::faults::Stop;
 use crate::say_lines::say;
 use crate::step_rules::step_of;
 use crate::steps::Step;
-use crate::words::{bytes, count, id, large, poll};
 use lks_base::{PeerId, PeerStep, Plan, PollName, Seq};
+use lks_lines::{Stop, bytes, count, id, large, poll};
 use std::alloc::Global;
 
 #[tactic(auto, unfolding(crate::specs::StepLines::open_in))]

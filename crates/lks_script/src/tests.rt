@@ -1,7 +1,7 @@
 //! Scripts that read, and the first bad lines of others.
 
 use super::*;
-use lks_base::{PeerStep, Plan, PollName};
+use lks_base::{HashKind, PeerStep, Plan, PollName};
 use std::alloc::Global;
 use std::process::Abort;
 use std::test::*;
@@ -199,7 +199,7 @@ fn first_bad_lines(rt: HostRuntime) -> Result<(), Fail> {
         (&[TITLE, RULES], 3),
         (&[TITLE, RULES, AU], 4),
         (&[TITLE, RULES, AU, PEERS], 0),
-        (&[TITLE, RULES, AU, "peer 2 corrupt 02 01\n"], 5),
+        (&[TITLE, RULES, AU, "peer 2 corrupt 02 01\n"], 0),
         // forms
         (&["lockss 2\n"], 1),
         (&["\n", TITLE], 3),
@@ -220,7 +220,7 @@ fn first_bad_lines(rt: HostRuntime) -> Result<(), Fail> {
             ],
             0,
         ),
-        (&[TITLE, RULES, AU, "peer 2 corrupt 02 01\n# none\n"], 6),
+        (&[TITLE, RULES, AU, "peer 2 corrupt 02 01\n# none\n"], 0),
         (&["lockss 1\r\n"], 1),
         (&["lockss  1\n"], 1),
         (&["lockss 1 \n"], 1),
@@ -298,7 +298,10 @@ fn first_bad_lines_behind_the_peers(rt: HostRuntime) -> Result<(), Fail> {
         // ends
         ("refs 1 2 3 4\ncopy 1 1 41,42", 9),
         // peers
-        ("peer 5 honest 05 01\n", 8),
+        (
+            "peer 5 honest 05 01\nrefs 5 1\nrefs 1 5\ncopy 5 1 41,42\nopen 5 1\n",
+            0,
+        ),
         ("peer 4 corrupt 05 01\n", 8),
         ("peer 5 corrupt - 01\n", 8),
         ("peer 5 corrupt 0 01\n", 8),
@@ -407,6 +410,97 @@ fn first_bad_lines_behind_the_peers(rt: HostRuntime) -> Result<(), Fail> {
         ("check 1 1\n", 8),
     ];
     check_rows(&rt, rt.alloc(), &rows)
+}
+
+#[test]
+fn lines_of_copies_and_hashes(rt: HostRuntime) -> Result<(), Fail> {
+    let rows = [
+        // like
+        ("copy 1 1 like 1\n", 8),
+        ("peer 5 honest 05 01\ncopy 5 1 like 1\n", 9),
+        ("peer 5 honest 05 01\ncopy 1 1 41,42\ncopy 5 1 like 1\n", 0),
+        ("peer 5 honest 05 01\ncopy 1 1 41,42\ncopy 5 1 like 2\n", 10),
+        ("peer 5 honest 05 01\ncopy 1 1 41,42\ncopy 5 1 like 9\n", 10),
+        ("peer 5 honest 05 01\ncopy 1 1 41,42\ncopy 5 2 like 1\n", 10),
+        ("copy 1 1 41,42\ncopy 1 1 like 1\n", 9),
+        ("copy 1 1 like\n", 8),
+        ("copy 1 1 as 1\n", 8),
+        ("copy 1 1 like 1 1\n", 8),
+        ("copy 1 1\n", 8),
+        // damage
+        ("damage 1 1 0 43\n", 8),
+        ("copy 1 1 41,42\ndamage 1 1 1 -\ndamage 1 1 1 5a*16384\n", 0),
+        ("copy 1 1 41,42\ndamage 1 1 2 43\n", 9),
+        ("copy 1 1 41,42\ndamage 1 1 512 43\n", 9),
+        ("copy 1 1 41,42\ndamage 1 2 0 43\n", 9),
+        ("copy 1 1 41,42\ndamage 2 1 0 43\n", 9),
+        ("copy 1 1 41,42\ndamage 1 1 0 5a*16385\n", 9),
+        ("copy 1 1 41,42\ndamage 1 1 0\n", 9),
+        ("copy 1 1 41,42\nopen 1 1\ndamage 1 1 0 43\n", 10),
+        // hash
+        ("hash 1 sha256\nhash 2 sha512-256\n", 0),
+        ("hash 1 sha256\nhash 1 sha256\n", 9),
+        ("hash 1 sha1\n", 8),
+        ("hash 9 sha256\n", 8),
+        ("hash 1\n", 8),
+        ("hash 1 sha256 1\n", 8),
+        ("open 1 1\nhash 1 sha256\n", 9),
+    ];
+    check_rows(&rt, rt.alloc(), &rows)
+}
+
+/// `like` takes the copy as it stands at its line, and `damage` changes one block of one copy.
+#[test]
+fn copies_like_others(rt: HostRuntime) -> Result<(), Fail> {
+    let lines =
+        "peer 5 honest 05 01\npeer 6 honest 06 01\ncopy 1 1 41,42\ncopy 5 1 like 1\ndamage 1 1 0 43\ncopy 6 1 like 1\ndamage 6 1 1 -\nhash 5 sha512-256\n";
+    let bytes = joined(rt.alloc(), &[TITLE, RULES, AU, PEERS, lines])?;
+    let script = read_script(rt.alloc(), &bytes)
+        .ok()
+        .ok_or("the bytes are a script")?;
+    let told = [
+        (0, b"C".as_slice(), b"B".as_slice(), HashKind::Sha256),
+        (4, b"A".as_slice(), b"B".as_slice(), HashKind::Sha512_256),
+        (5, b"C".as_slice(), b"".as_slice(), HashKind::Sha256),
+    ];
+    for (at, first, second, hash) in told {
+        let peer = script.plan.peers.as_slice().get(at).ok_or("six peers")?;
+        let copy = peer.copies.as_slice().first().ok_or("a copy")?;
+        let [one, other] = copy.blocks.as_slice() else {
+            return Err("two blocks".into());
+        };
+        assert_eq!(rt; one.as_slice(), first, "peer {at}");
+        assert_eq!(rt; other.as_slice(), second, "peer {at}");
+        assert_eq!(rt; peer.hash, hash);
+    }
+    Ok(())
+}
+
+/// Sixteen copies of 8 MiB have all bytes that copies may have, so the next one is refused.
+#[test]
+fn at_most_so_many_bytes_of_copies(rt: HostRuntime) -> Result<(), Fail> {
+    let alloc = rt.alloc();
+    let mut bytes = joined(alloc, &[TITLE, RULES, "au 1 512\n"])?;
+    for peer in 1..18u16 {
+        let line = format!(in alloc; "peer {peer} honest 02 -\n")?;
+        bytes.extend_from_slice(line.as_bytes())?;
+    }
+    bytes.extend_from_slice(b"copy 1 1 5a*16384")?;
+    for _ in 1..512u16 {
+        bytes.extend_from_slice(b",5a*16384")?;
+    }
+    bytes.push(b'\n')?;
+    for peer in 2..18u16 {
+        let line = format!(in alloc; "copy {peer} 1 like 1\n")?;
+        bytes.extend_from_slice(line.as_bytes())?;
+    }
+    assert!(rt;
+        matches!(
+            read_script(alloc, &bytes),
+            Err(ScriptFault::BadLine { line: 37 })
+        )
+    );
+    Ok(())
 }
 
 #[test]

@@ -1,0 +1,92 @@
+-- Lines that begin a plan: its rules, its AUs and its peers.
+use Rattle.std.specs.Prelude.{ℕ, ◌==◌, Bool, not, ◌&&◌, nat_le, nat_lt, if◌then◌else◌, List, [], ◌∷◌, ◌++◌, length, codes, Option, Some, None, unwrap_or}
+use Rattle.std.specs.Str.{bytes_eq}
+use Rattle.lks_base.specs.declared.limits.TheConstants.{MOST_AUS, MOST_BLOCKS, MOST_EVENTS, MOST_PEERS}
+use Rattle.lks_base.specs.declared.names.HashKind.TheVariants.{Sha256}
+use Rattle.lks_base.specs.declared.plans.AuPlan.{AuPlan}
+use Rattle.lks_base.specs.declared.plans.PeerPlan.{PeerPlan}
+use Rattle.lks_base.specs.declared.plans.Plan.{Plan}
+use Rattle.lks_base.specs.declared.plans.Rules.{Rules}
+use Rattle.lks_base.specs.Checking.{is_within, are_bounded, are_ordered, has_au, has_peer, is_fit}
+use Rattle.lks_lines.specs.declared.plan_lines.PlanDraft.{PlanDraft}
+use Rattle.lks_lines.specs.Numbers.{◌>>=◌, number_in}
+use Rattle.lks_lines.specs.Words.{id_in, seed_in, proof_in, kind_in}
+
+-- a name, a number of at most so much, and the words behind them
+unfoldable pub named : List ℕ → ℕ → List (List ℕ) → Option (ℕ × List (List ℕ))
+named name most (key ∷ word ∷ rest) = if bytes_eq key name then (number_in most word >>= λ n. Some (n, rest)) else None
+named name most _ = None
+
+-- rules in their bounds and in order
+unfoldable pub are_good : Rules → Bool
+are_good rules = are_bounded rules && are_ordered rules
+
+-- inner N quorum N minority N outer N repairs N pace N refractory N overdue N unknown N debt N churn N
+unfoldable pub numbers_in : List (List ℕ) → Option Rules
+numbers_in words = do
+  inner ← named (codes "inner") 65535 words
+  quorum ← named (codes "quorum") 65535 inner.1
+  minority ← named (codes "minority") 65535 quorum.1
+  outer ← named (codes "outer") 65535 minority.1
+  repairs ← named (codes "repairs") 65535 outer.1
+  pace ← named (codes "pace") 4294967295 repairs.1
+  refractory ← named (codes "refractory") 4294967295 pace.1
+  overdue ← named (codes "overdue") 4294967295 refractory.1
+  unknown ← named (codes "unknown") 255 overdue.1
+  debt ← named (codes "debt") 255 unknown.1
+  churn ← named (codes "churn") 65535 debt.1
+  if length churn.1 == 0
+      then Some (record { inner = inner.0; quorum = quorum.0; minority = minority.0; outer = outer.0; repairs = repairs.0; pace = pace.0; refractory = refractory.0; overdue = overdue.0; unknown_pct = unknown.0; debt_pct = debt.0; churn = churn.0 })
+      else None
+
+-- rules ...: in their bounds and in order
+unfoldable pub rules_in : List (List ℕ) → Option Rules
+rules_in words = do
+  rules ← numbers_in words
+  if are_good rules then Some rules else None
+
+-- au A COUNT
+unfoldable pub au_in : List (List ℕ) → Option AuPlan
+au_in (id ∷ count ∷ []) = do
+  a ← id_in id
+  n ← number_in 65535 count
+  Some (record { id = a; count = n })
+au_in _ = None
+
+-- there is room for one more AU, it has as many blocks as an AU may have, and its number is new
+unfoldable pub may_add_au : List AuPlan → AuPlan → Bool
+may_add_au aus au = nat_lt (length aus) MOST_AUS && is_within 1 MOST_BLOCKS au.count && not (has_au aus au.id)
+
+-- au A COUNT: one AU more
+unfoldable pub aus_with : List AuPlan → List (List ℕ) → Option (List AuPlan)
+aus_with aus words = do
+  au ← au_in words
+  if may_add_au aus au then Some (aus ++ au ∷ []) else None
+
+-- peer P honest SEED PROOF, peer P corrupt SEED PROOF
+unfoldable pub peer_in : List (List ℕ) → Option PeerPlan
+peer_in (id ∷ kind ∷ seed ∷ proof ∷ []) = do
+  p ← id_in id
+  corrupt ← kind_in kind
+  seed ← seed_in seed
+  proof ← proof_in proof
+  Some (record { id = p; corrupt = corrupt; seed = seed; proof = proof; refs = []; friends = []; copies = []; hash = Sha256 })
+peer_in _ = None
+
+-- a plan without peers, whose copies have no bytes
+abbrev pub begun : Rules → Option ℕ → List AuPlan → PlanDraft
+begun rules turns aus = record { plan = record { rules = rules; turns = unwrap_or turns MOST_EVENTS; aus = aus; peers = [] }; bytes = 0; hashed = [] }
+
+-- the draft with other peers, whose copies have so many bytes
+abbrev pub with_peers : PlanDraft → List PeerPlan → ℕ → PlanDraft
+with_peers d peers bytes = record { plan = record { rules = d.plan.rules; turns = d.plan.turns; aus = d.plan.aus; peers = peers }; bytes = bytes; hashed = d.hashed }
+
+-- there is an AU, there is room for one more peer, its number is new, and its proof isn't too long
+unfoldable pub may_add_peer : Plan → PeerPlan → Bool
+may_add_peer plan peer = nat_le 1 (length plan.aus) && nat_lt (length plan.peers) MOST_PEERS && not (has_peer plan.peers peer.id) && is_fit peer
+
+-- one peer more
+unfoldable pub draft_with_peer : PlanDraft → List (List ℕ) → Option PlanDraft
+draft_with_peer d words = do
+  peer ← peer_in words
+  if may_add_peer d.plan peer then Some (with_peers d (d.plan.peers ++ peer ∷ []) d.bytes) else None
