@@ -15,3 +15,4 @@ mod SeatLaws
 mod Sending
 pub mod ServingLaws
 mod StateLaws
+mod Unsafe

@@ -7,4 +7,5 @@ pub mod Held
 pub mod Hosts
 pub mod Seats
 pub mod States
+pub mod Unsafe
 pub mod Worlds

@@ -1,21 +1,26 @@
-//! Laws on what follows a script, and on what disks hold.
+//! Laws on what follows a script, on what disks hold, and on worlds that no history leads to.
 
-ghost use Rattle.std.specs.Prelude.{◌≡◌, ◌≢◌, ◌++◌, ◌∷◌, [], ℕ, true, None, Some, List, slice_get};
+ghost use Rattle.std.specs.Prelude.{◌≡◌, ◌≢◌, ◌++◌, ◌∷◌, [], ℕ, true, None, Some, Ok, List, slice_get};
 ghost use Rattle.lks_base.specs.Checking.{plan_fault};
 ghost use Rattle.lks_base.specs.declared.events.Event.{Event};
+ghost use Rattle.lks_base.specs.declared.messages.Message.TheVariants as message;
 ghost use Rattle.lks_base.specs.declared.plans.Plan.{Plan};
+ghost use Rattle.lks_base.specs.declared.plans.Rules.{Rules};
 ghost use Rattle.lks_base.specs.declared.records.Record.{Record};
 ghost use Rattle.lks_host.specs.Bodies.{bodies_of};
 ghost use Rattle.lks_field.specs.Frames.{HoldsBodies};
 ghost use Rattle.lks_law.specs.Batches.{batches_at};
 ghost use Rattle.lks_law.specs.Histories.{IsHistory};
 ghost use Rattle.lks_law.specs.Questions.{Verdicts};
+ghost use Rattle.lks_law.specs.Snapshots.{HaveSnapshots, HasFewHolders};
+ghost use Rattle.lks_message.specs.Reading.{decode_of};
 ghost use Rattle.lks_script.specs.StepRules.{are_steps_of};
 ghost use Rattle.lks_script.specs.declared.steps.Step.{Step};
 ghost use Rattle.lks_world.specs.Bytes.{GiveBytes};
 ghost use Rattle.lks_world.specs.Disks.{honest_disks};
 ghost use Rattle.lks_world.specs.Follows.{Follows};
 ghost use Rattle.lks_world.specs.Held.{HoldsBatches, HaveBatches, IsFresh};
+ghost use Rattle.lks_world.specs.Unsafe.{with_sent, who_replaced, with_holder};
 
 use lks_disk::CrashDisk;
 
@@ -39,4 +44,12 @@ pub fn disks_may_hold_other_batches<D: CrashDisk>()
         → batches_at place plan other ≡ batches_at place plan history ++ batch ∷ [] → HaveBatches D.face plan history disks → HaveBatches D.face plan other disks → ⊥ }
     ensures fresh { (plan : Plan) (history : List Event) (disks : List D) (place : ℕ) (disk : D) → slice_get (honest_disks plan.peers disks) place ≡ Some disk
         → IsFresh D.face disk → HaveBatches D.face plan history disks → ⊥ }
+{}
+
+/// That a vote is over a version, and that few voters held what is replaced, can be wrong: a vote of one hash isn't over a
+/// version of two blocks, and a block that an honest voter held isn't replaced where a minority is nobody. No history leads to
+/// such a world (`every_history_is_safe` of `lks_law`).
+pub fn worlds_may_be_unsafe()
+    ensures short { (rules : Rules) (first second bytes hash proof : List ℕ) → decode_of bytes ≡ Ok (message.Vote 1 (hash ∷ []) proof) → HaveSnapshots (with_sent rules first second bytes) → ⊥ }
+    ensures held { (rules : Rules) (hashes : List (List ℕ)) (bytes : List ℕ) → HasFewHolders (with_holder rules hashes bytes) (who_replaced rules hashes bytes) → ⊥ }
 {}

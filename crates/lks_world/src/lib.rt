@@ -16,5 +16,7 @@ mod states;
 mod worlds;
 
 pub use faults::WorldFault;
-pub use laws::{disks_may_hold_other_batches, what_follows_a_script_is_a_history};
+pub use laws::{
+    disks_may_hold_other_batches, what_follows_a_script_is_a_history, worlds_may_be_unsafe,
+};
 pub use worlds::{Parts, World};
