@@ -1,8 +1,12 @@
+pub mod Added
 pub mod Circles
 pub mod Counts
+pub mod Deposited
 pub mod Doubts
 pub mod Evidenced
+pub mod Histories
 pub mod Parts
 pub mod Restored
 pub mod Standing
+pub mod Told
 pub mod Versions

@@ -1,3 +1,4 @@
+pub mod Histories
 pub mod Holding
 pub mod Parts
 pub mod Records

@@ -1,13 +1,18 @@
 //! Laws on sets of journals that hold.
 
-ghost use Rattle.std.specs.Prelude.{◌≡◌, ◌≤◌, ℕ, Some, List, length, slice_get};
+ghost use Rattle.std.specs.Prelude.{◌≡◌, ◌≤◌, ℕ, Some, None, List, length, slice_get};
+ghost use Rattle.lks_base.specs.Checking.{plan_fault};
+ghost use Rattle.lks_base.specs.declared.events.Event.{Event};
 ghost use Rattle.lks_base.specs.declared.limits.TheConstants.{MOST_CIRCLE};
 ghost use Rattle.lks_base.specs.declared.plans.Plan.{Plan};
 ghost use Rattle.lks_base.specs.declared.records.Record.{Record};
+ghost use Rattle.lks_law.specs.Histories.{IsHistory};
 ghost use Rattle.lks_law.specs.Polls.{Station, inner_votes};
 ghost use Rattle.lks_law.specs.Safe.{HasEvidence};
+ghost use Rattle.lks_law.specs.World.{world};
 ghost use Rattle.lks_tally.specs.Distinct.{AreDistinct};
 ghost use Rattle.lks_evidence.specs.declared.findings.Shelf.{Shelf};
+ghost use Rattle.lks_evidence.specs.Histories.{AreShelvesOf};
 ghost use Rattle.lks_evidence.specs.Holding.{SetHolds};
 ghost use Rattle.lks_evidence.specs.Parts.{IsPart};
 ghost use Rattle.lks_evidence.specs.Restoring.{journals_of, Restores};
@@ -25,6 +30,12 @@ pub fn every_replacement_has_evidence()
 /// hashes have one hash.
 pub fn every_repair_restores()
     ensures { (plan : Plan) (set : List Shelf) (k : ℕ) (s : Shelf) → SetHolds plan set → slice_get set k ≡ Some s → Restores (journals_of set) plan s.peer s.list.items }
+{}
+
+/// The journals of every history of a plan that breaks no rule hold, with any number of honest peers: so each part of them
+/// does, and no peer that follows the rules is ever doubted for what its own journal says.
+pub fn every_history_holds()
+    ensures { (plan : Plan) (history : List Event) (set : List Shelf) → plan_fault plan ≡ None → IsHistory plan history → AreShelvesOf (world plan history).peers set → SetHolds plan set }
 {}
 
 /// Each part of a set that holds does so.

@@ -34,5 +34,6 @@ mod voters;
 pub use examining::examine;
 pub use findings::{Doubt, Finding, Shelf, Why};
 pub use laws::{
-    every_count_is_told, every_part_holds, every_repair_restores, every_replacement_has_evidence,
+    every_count_is_told, every_history_holds, every_part_holds, every_repair_restores,
+    every_replacement_has_evidence,
 };

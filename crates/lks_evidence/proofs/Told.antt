@@ -1,0 +1,119 @@
+-- What evidence reads off a journal is what the laws on histories read off it.
+use Rattle.std.proofs.Common.{◌≡◌, ◌≤◌, ◌+◌, ◌∙◌, ap, sym, ℕ, Bool, true, false, cond, List, [], ◌∷◌, length, take, drop, refl, arith}
+use Rattle.std.specs.Prelude.{Option, Some, None, is_some, option_map, count_by}
+use Rattle.std.specs.List.{filter_map, cons_option}
+use Rattle.std.proofs.lemmas.List.{length-append, take-append-drop}
+use Rattle.std.proofs.lemmas.List.Elements.{filter_map-append}
+use Rattle.std.proofs.lemmas.List.Sums.{sum_by-cons}
+use Rattle.lks_base.specs.declared.names.PollName.{PollName}
+use Rattle.lks_base.specs.declared.records.Record.{Record}
+use Rattle.lks_base.specs.declared.records.Record.TheVariants.{Joined, Committed, Voted, Served, Ended}
+use Rattle.lks_law.specs.Journal.{Opening, opening_in, opening_of, replacement_in}
+use Rattle.lks_law.specs.Sessions as law
+use Rattle.lks_law.proofs.Growing.{opening_first}
+use Rattle.lks_evidence.specs.Records.{Commitment, is_poll, join_in, commitment_in, openings, version_now, first_in, joins, join_of, commitments, commitment_of}
+
+count_is : {X : Type 0} (has : Record → Option X) (js : List Record) → count_by (λ r. is_some (has r)) js ≡ length (filter_map has js)
+count_is has [] = refl
+count_is {X = X} has (j ∷ js) = sum_by-cons (λ r. cond (is_some (has r)) 1 0) j js ∙ by_option (has j) (count_is has js)
+  where
+    by_option : (o : Option X) → count_by (λ r. is_some (has r)) js ≡ length (filter_map has js) → cond (is_some o) 1 0 + count_by (λ r. is_some (has r)) js ≡ length (cons_option o (filter_map has js))
+    by_option None rest = omega (arith, rest)
+    by_option (Some x) rest = omega (arith, rest)
+
+front_few : {X : Type 0} (has : Record → Option X) (js : List Record) (i : ℕ) → length (filter_map has (take i js)) ≤ length (filter_map has js)
+front_few has js i =
+    let whole = ap (λ rs. length (filter_map has rs)) (sym (take-append-drop i js)) in
+    let all = ap length (filter_map-append has (take i js) (drop i js)) ∙ length-append (filter_map has (take i js)) (filter_map has (drop i js)) in
+    omega (arith, whole, all)
+
+found_some : {X : Type 0} (has : Record → Option X) (js : List Record) (x : X) → law.first_in has js ≡ Some x → 1 ≤ length (filter_map has js)
+found_some has [] x e = absurd cc
+found_some {X = X} has (j ∷ js) x e = by_option (has j) e (found_some has js x)
+  where
+    by_option : (o : Option X) → cond (is_some o) o (law.first_in has js) ≡ Some x → (law.first_in has js ≡ Some x → 1 ≤ length (filter_map has js)) → 1 ≤ length (cons_option o (filter_map has js))
+    by_option None f rest = rest f
+    by_option (Some y) f rest = omega arith
+
+-- one opening, before a place too
+pub opened_once : (n : ℕ) (js : List Record) (i : ℕ) (o : Opening) → length (filter_map (opening_in n) js) ≤ 1 → opening_of n (take i js) ≡ Some o → openings n (take i js) ≡ 1
+unfolding openings
+opened_once n js i o single e =
+    let few = front_few (opening_in n) js i in
+    let some = found_some (opening_in n) (take i js) o (sym (opening_first n (take i js)) ∙ e) in
+    let count = count_is (opening_in n) (take i js) in
+    omega (arith, few, some, count, single)
+
+pub same_version : (au : ℕ) (js : List Record) → version_now au js ≡ law.version_now au js
+unfolding version_now law.version_now
+same_version au js = count_is (replacement_in au) js
+
+-- ---- joins and commitments
+
+module _ {X Y : Type 0} (f : X → Y) (has : Record → Option X) (has' : Record → Option Y) (same : (r : Record) → has' r ≡ option_map f (has r)) where
+  some_same : (o : Option X) → is_some (option_map f o) ≡ is_some o
+  some_same None = refl
+  some_same (Some x) = refl
+
+  first_same : (js : List Record) → first_in has' js ≡ option_map f (law.first_in has js)
+  first_same [] = refl
+  first_same (j ∷ js) = ap (λ o. cond (is_some o) o (first_in has' js)) (same j) ∙ by_option (has j) (first_same js)
+    where
+      by_option : (o : Option X) → first_in has' js ≡ option_map f (law.first_in has js)
+          → cond (is_some (option_map f o)) (option_map f o) (first_in has' js) ≡ option_map f (cond (is_some o) o (law.first_in has js))
+      by_option None rest = rest
+      by_option (Some x) rest = refl
+
+  count_same : (js : List Record) → count_by (λ r. is_some (has' r)) js ≡ count_by (λ r. is_some (has r)) js
+  count_same [] = refl
+  count_same (j ∷ js) =
+      sum_by-cons (λ r. cond (is_some (has' r)) 1 0) j js ∙ ap (λ b. cond b 1 0 + count_by (λ r. is_some (has' r)) js) (ap is_some (same j) ∙ some_same (has j))
+      ∙ ap (λ n. cond (is_some (has j)) 1 0 + n) (count_same js) ∙ sym (sum_by-cons (λ r. cond (is_some (has r)) 1 0) j js)
+
+abbrev au_of : law.Join → ℕ
+au_of j = j.au
+
+abbrev told : law.Commitment → Commitment
+told c = record { nonce = c.nonce; version = c.version; kind = c.kind }
+
+if_told : {X Y : Type 0} (f : X → Y) (b : Bool) (x : X) → cond b (Some (f x)) None ≡ option_map f (cond b (Some x) None)
+if_told f true x = refl
+if_told f false x = refl
+
+abbrev none : {X : Type 0} → Option X
+none = None
+
+none_told : {X Y : Type 0} (f : X → Y) (b : Bool) → none ≡ option_map f (cond b (none {X = X}) none)
+none_told f true = refl
+none_told f false = refl
+
+join_same : (q : PollName) (r : Record) → join_in q r ≡ option_map au_of (law.join_in q r)
+join_same q (Joined p au tick low repairs) = if_told au_of (is_poll p q) (record { au = au; tick = tick; low = low; repairs = repairs })
+join_same q (Committed p nonce version kind) = none_told au_of (is_poll p q)
+join_same q (Voted p hashes) = none_told au_of (is_poll p q)
+join_same q (Served p block) = none_told au_of (is_poll p q)
+join_same q (Ended p) = none_told au_of (is_poll p q)
+join_same q r = refl
+
+commitment_same : (q : PollName) (r : Record) → commitment_in q r ≡ option_map told (law.commitment_in q r)
+commitment_same q (Committed p nonce version kind) = if_told told (is_poll p q) (record { nonce = nonce; version = version; kind = kind })
+commitment_same q (Joined p au tick low repairs) = none_told told (is_poll p q)
+commitment_same q (Voted p hashes) = none_told told (is_poll p q)
+commitment_same q (Served p block) = none_told told (is_poll p q)
+commitment_same q (Ended p) = none_told told (is_poll p q)
+commitment_same q r = refl
+
+pub joined_once : (q : PollName) (js : List Record) (j : law.Join) → length (filter_map (law.join_in q) js) ≤ 1 → law.join_of q js ≡ Some j → (joins q js ≡ 1) × (join_of q js ≡ Some j.au)
+unfolding joins join_of law.join_of
+joined_once q js j single e =
+    let some = found_some (law.join_in q) js j e in
+    let count = count_same au_of (law.join_in q) (join_in q) (join_same q) js ∙ count_is (law.join_in q) js in
+    (omega (arith, some, count, single), first_same au_of (law.join_in q) (join_in q) (join_same q) js ∙ ap (option_map au_of) e)
+
+pub committed_once : (q : PollName) (js : List Record) (c : law.Commitment) → length (filter_map (law.commitment_in q) js) ≤ 1 → law.commitment_of q js ≡ Some c
+    → (commitments q js ≡ 1) × (commitment_of q js ≡ Some (told c))
+unfolding commitments commitment_of law.commitment_of
+committed_once q js c single e =
+    let some = found_some (law.commitment_in q) js c e in
+    let count = count_same told (law.commitment_in q) (commitment_in q) (commitment_same q) js ∙ count_is (law.commitment_in q) js in
+    (omega (arith, some, count, single), first_same told (law.commitment_in q) (commitment_in q) (commitment_same q) js ∙ ap (option_map told) e)
