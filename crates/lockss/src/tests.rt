@@ -2,6 +2,7 @@
 
 mod disks;
 mod lists;
+mod peers;
 mod sessions;
 mod turns;
 

@@ -22,11 +22,13 @@ say 2 request 1 7 1
 next 2
 ";
 
-const SNAPSHOT_REPORT: &str = "\
+const SNAPSHOT_BEGUN: &str = "\
 lockss report 1
 1 forge 2 1 8 | - | 1
 2 deliver 0 2 1 | joined 2 7 1 low | 1
-3 forge 2 1 40 | - | 1
+";
+
+const SNAPSHOT_REPORT: &str = "\
 4 deliver 1 1 2 | - | 0
 5 deliver 2 2 1 accepted | committed 2 7 0 | 1
 6 open 1 1 | opened 1 1 | 3
@@ -163,7 +165,18 @@ end 12
 #[test]
 fn sessions(rt: HostRuntime) -> Result<(), Fail> {
     let rows = [
-        done(&[HEAD, SNAPSHOT], &[SNAPSHOT_REPORT]),
+        done(
+            &[HEAD, SNAPSHOT],
+            &[SNAPSHOT_BEGUN, "3 forge 2 1 40 | - | 1\n", SNAPSHOT_REPORT],
+        ),
+        done(
+            &[HEAD, "hash 2 sha512-256\n", SNAPSHOT],
+            &[SNAPSHOT_BEGUN, "3 forge 2 1 41 | - | 1\n", SNAPSHOT_REPORT],
+        ),
+        done(
+            &[HEAD, "hash 1 sha512-256\n", AGREED],
+            &[VOTED, AGREED_REPORT],
+        ),
         done(&[HEAD_OF_TEN, REFRACTORY], &[REFRACTORY_REPORT]),
         done(&[HEAD_OF_BAD_PROOF, REFUSED], &[REFUSED_REPORT]),
         done(&[HEAD, TUNED], &[TUNED_REPORT]),
