@@ -8,7 +8,7 @@ trap 'rm -f "$script"' EXIT
 # The first call proves and builds the program, where that wasn't done.
 "$top/bin/lockss" replay <"$top/examples/agreed.lockss" >/dev/null || exit 70
 
-for run in "mend 16" "mend 32" "mend 64" "small 15" "small 30" "small 60" "small 115" "hash 2" "hash 4" "hash 8"; do
+for run in "mend 16" "mend 32" "mend 64" "small 15" "small 30" "small 60" "small 115" "hash 2" "hash 4" "hash 8" "wide 1" "wide 2"; do
     # shellcheck disable=SC2086
     python3 "$top/bench/scripts.py" $run >"$script" || exit 70
     python3 - "$top/crates/lockss/out/lockss" "$script" "$run" <<'PYTHON' || exit 1

@@ -4,6 +4,8 @@
 mend N   one poll of three voters on an AU of 512 blocks, of which the first N are bad: N repairs
 small N  N polls of eight voters, one after another, on one block of one byte: 35 events a poll
 hash N   N polls of three voters, one after another, on 128 blocks of 16 KiB
+wide N   32 honest peers with 512 blocks of 128 bytes, one block of each damaged: N rounds in which each of them opens a poll
+         of eight inner voters and everything due is done, as far as 4,096 events go
 """
 
 import sys
@@ -51,7 +53,26 @@ def large(count):
     return polls(count, 3, [f"{block:02x}*16384" for block in range(128)])
 
 
-FAMILIES = {"mend": mend, "small": small, "hash": large}
+def wide(rounds):
+    peers = range(1, 33)
+    yield "lockss 1\n"
+    yield "rules inner 8 quorum 5 minority 2 outer 2 repairs 4 pace 0 refractory 0 overdue 1000000 unknown 100 debt 100 churn 1\n"
+    yield "au 1 512\n"
+    for peer in peers:
+        yield f"peer {peer} honest {peer:02x} 01\n"
+    for peer in peers:
+        yield f"refs {peer} {' '.join(str(other) for other in peers if other != peer)}\n"
+    yield f"copy 1 1 {','.join(f'{block % 256:02x}*128' for block in range(512))}\n"
+    for peer in peers[1:]:
+        yield f"copy {peer} 1 like 1\n"
+    for peer in peers:
+        yield f"damage {peer} 1 {peer * 8} ff*128\n"
+    for _ in range(rounds):
+        for peer in peers:
+            yield f"open {peer} 1\nfinish\n"
+
+
+FAMILIES = {"mend": mend, "small": small, "hash": large, "wide": wide}
 
 if __name__ == "__main__":
     family, size = sys.argv[1:]
