@@ -4,8 +4,8 @@
 mend N   one poll of three voters on an AU of 512 blocks, of which the first N are bad: N repairs
 small N  N polls of eight voters, one after another, on one block of one byte: 35 events a poll
 hash N   N polls of three voters, one after another, on 128 blocks of 16 KiB
-wide N   32 honest peers with 512 blocks of 128 bytes, one block of each damaged: N rounds in which each of them opens a poll
-         of eight inner voters and everything due is done, as far as 4,096 events go
+wide N   32 honest peers with 512 blocks of 128 bytes, one block of two of them damaged: N rounds in which each of them
+         opens a poll of eight inner voters and everything due is done, as far as 4,096 events go
 """
 
 import sys
@@ -65,7 +65,7 @@ def wide(rounds):
     yield f"copy 1 1 {','.join(f'{block % 256:02x}*128' for block in range(512))}\n"
     for peer in peers[1:]:
         yield f"copy {peer} 1 like 1\n"
-    for peer in peers:
+    for peer in peers[15::16]:
         yield f"damage {peer} 1 {peer * 8} ff*128\n"
     for _ in range(rounds):
         for peer in peers:
