@@ -93,6 +93,66 @@ lockss report 1
 end 2
 ";
 
+// Peer 2 commits to its copy in the poll of peer 1, and then its block is replaced by a poll of its own. Its vote and its repair
+// are still those of the copy from before, so peer 1 takes over two bytes for its one.
+const SNAPSHOT: &str = "\
+lockss 1
+rules inner 1 quorum 1 minority 0 outer 0 repairs 1 pace 0 refractory 0 overdue 100 unknown 100 debt 100 churn 0
+au 1 1
+peer 1 honest 01 01
+peer 2 honest 02 01
+peer 3 corrupt 03 01
+refs 1 2
+refs 2 3
+copy 1 1 41
+copy 2 1 4242
+open 1 1
+next 3
+open 2 1
+say 3 vote 2 1 1 of 41
+next 3
+shut 2 1
+tally 2 1
+say 3 repair 2 1 0 41
+next 2
+work 2 1 1
+next
+shut 1 1
+tally 1 1
+next 2
+tally 1 1
+";
+
+const SNAPSHOT_REPORT: &str = "\
+lockss report 1
+1 open 1 1 | opened 1 1 | 1
+2 deliver 0 1 2 | joined 1 1 1 low | 1
+3 deliver 1 2 1 | - | 1
+4 deliver 2 1 2 accepted | committed 1 1 0 | 1
+5 open 2 1 | opened 1 1 | 1
+6 forge 3 2 42 | - | 1
+7 deliver 3 2 1 | nominated 1 2 | 0
+8 deliver 4 2 3 | - | 0
+9 deliver 5 3 2 accepted | vote-in 1 3 | 0
+10 shut 2 1 | shut 1 | 0
+11 tally 2 1 | asked 1 0 3 | 1
+12 forge 3 2 11 | - | 1
+13 deliver 6 2 3 | - | 0
+14 deliver 7 3 2 | replaced 1 1 0 1 | 0
+15 work 2 1 1 | voted 1 1 | 1
+16 deliver 8 2 1 accepted | vote-in 1 2 | 0
+17 shut 1 1 | shut 1 | 0
+18 tally 1 1 | asked 1 0 2 | 1
+19 deliver 9 1 2 | served 1 1 0 | 1
+20 deliver 10 2 1 | replaced 1 1 0 2 | 0
+21 tally 1 1 | closed 1 agreed | 1
+copy 1 1 1
+copy 2 1 1
+poll 1 1 1 1 0 agreed
+poll 2 1 1 1 0 running
+end 21
+";
+
 #[test]
 fn honest_peers(rt: HostRuntime) -> Result<(), Fail> {
     let rows = [
@@ -105,6 +165,7 @@ fn honest_peers(rt: HostRuntime) -> Result<(), Fail> {
             &[VOTES_REPORT, WIDENED_REPORT, REPAIRED, "end 28\n"],
         ),
         done(&[STRANGERS], &[STRANGERS_REPORT]),
+        done(&[SNAPSHOT], &[SNAPSHOT_REPORT]),
     ];
     check_rows(&rt, rt.alloc(), &rows)
 }
