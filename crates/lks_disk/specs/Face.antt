@@ -1,5 +1,5 @@
 -- What contracts say of a disk.
-use Rattle.std.specs.Prelude.{◌≡◌, ◌↔◌, ℕ, Bool, true, false, List, Result}
+use Rattle.std.specs.Prelude.{◌≡◌, ◌↔◌, if◌then◌else◌, ℕ, Bool, true, false, List, Result}
 use Rattle.lks_disk.specs.declared.disks.DiskFail.{DiskFail}
 use Rattle.lks_disk.specs.Device.{Only, Elapses, FuseTold, Fused, SameFuse, LeavesOnly}
 
@@ -14,7 +14,7 @@ pub record Face (D : Type 0) : Type 1 where
   pub fused : D → Bool  -- a fuse is set
   pub burned : D → Bool  -- the fuse that is set has burned
   pub left : D → ℕ  -- how many calls of `write_at` and `sync` the fuse still lets pass
-  pub choice : D → ℕ  -- which of the outcomes of a crash a power cut leaves
+  pub choice : D → ℕ  -- which of the outcomes of a crash a power cut leaves, or the last one left where no fuse is set
 
 -- a call changed nothing of what a read gives and a crash leaves
 pub record Same {D : Type 0} (f : Face D) (old new : D) : Type 0 where
@@ -56,10 +56,12 @@ pub record HasFuse {D : Type 0} (f : Face D) (calls choice : ℕ) (old new : D) 
   pub faults : f.faults new ≡ f.faults old
   pub burns : f.burns new ≡ f.burns old
 
--- the power was cut: what is there is what a crash may have left, nothing is pending, and no fuse is set
+-- the power was cut: what is there is what a crash may have left, by the choice of the fuse, nothing is pending, and no fuse
+-- is set
 pub record HasLost {D : Type 0} (f : Face D) (old new : D) : Type 0 where
   pub left : f.may_leave old (f.seen new)
   pub durable : Only (f.seen new) (f.may_leave new)
+  pub chosen : f.choice new ≡ (if f.fused old then f.choice old else 0)
   pub unfused : f.fused new ≡ false
   pub whole : f.burned new ≡ false
   pub faults : f.faults new ≡ f.faults old

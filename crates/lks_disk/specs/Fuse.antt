@@ -11,41 +11,45 @@ use Rattle.lks_disk.specs.declared.controls.Fate.TheVariants.{Passes, Fails, Bur
 use Rattle.lks_disk.specs.declared.controls.Control.{Control}
 
 abbrev pub is_set : Fuse → Bool
-is_set Unset = false
+is_set (Unset last) = false
 is_set (Set left choice) = true
 is_set (Burned choice) = true
 
 abbrev pub is_burned : Fuse → Bool
-is_burned Unset = false
+is_burned (Unset last) = false
 is_burned (Set left choice) = false
 is_burned (Burned choice) = true
 
 -- how many calls it still lets pass
 abbrev pub lets : Fuse → ℕ
-lets Unset = 0
+lets (Unset last) = 0
 lets (Set left choice) = left
 lets (Burned choice) = 0
 
+-- the choice of the fuse, or without one that of the last power cut
+abbrev pub last_choice : Fuse → ℕ
+last_choice (Unset last) = last
+last_choice (Set left choice) = choice
+last_choice (Burned choice) = choice
+
 -- what is left at a power cut; without a fuse it is choice 0
 abbrev pub choice_of : Fuse → ℕ
-choice_of Unset = 0
-choice_of (Set left choice) = choice
-choice_of (Burned choice) = choice
+choice_of fuse = if is_set fuse then last_choice fuse else 0
 
 -- what is told of it, after so many have burned
 abbrev pub tells_of : Fuse → ℕ → FuseTold
-tells_of fuse burns = record { set = is_set fuse; burned = is_burned fuse; left = lets fuse; choice = choice_of fuse; burns = burns }
+tells_of fuse burns = record { set = is_set fuse; burned = is_burned fuse; left = lets fuse; choice = last_choice fuse; burns = burns }
 
 -- the fuse after a write or a sync
 abbrev pub fuse_after : Fuse → Fuse
-fuse_after Unset = Unset
+fuse_after (Unset last) = Unset last
 fuse_after (Set zero choice) = Burned choice
 fuse_after (Set (suc left) choice) = Set left choice
 fuse_after (Burned choice) = Burned choice
 
 -- what becomes of a write or a sync, by the fuse before it and by whether the call is named to fail
 abbrev pub fate_by : Fuse → Bool → Fate
-fate_by Unset named = if named then Fails else Passes
+fate_by (Unset last) named = if named then Fails else Passes
 fate_by (Set zero choice) named = Burns
 fate_by (Set (suc left) choice) named = if named then Fails else Passes
 fate_by (Burned choice) named = Ends
@@ -86,7 +90,7 @@ pub record Starts (fail fail_reads : List ℕ) (c : Control) : Type 0 where
   pub reads : c.reads ≡ 0
   pub faults : c.faults ≡ 0
   pub burns : c.burns ≡ 0
-  pub fuse : c.fuse ≡ Unset
+  pub fuse : c.fuse ≡ Unset 0
 
 -- how a call that may want memory is answered by its fate
 abbrev pub AnswersBy : Fate → Result (Unit {0}) DiskFail → Type 0

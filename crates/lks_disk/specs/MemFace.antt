@@ -3,7 +3,7 @@ use Rattle.std.specs.Prelude.{ℕ, List, [], ◌∷◌, refl}
 use Rattle.std.proofs.Common.{inl}
 use Rattle.lks_disk.specs.Crash.{may_leave, moment, left_since}
 use Rattle.lks_disk.specs.Face.{Face}
-use Rattle.lks_disk.specs.Fuse.{is_set, is_burned, lets, choice_of}
+use Rattle.lks_disk.specs.Fuse.{is_set, is_burned, lets, last_choice}
 use Rattle.lks_disk.specs.declared.calls.Call.{Call}
 use Rattle.lks_disk.specs.declared.calls.Call.TheVariants.{Written, Synced}
 use Rattle.lks_disk.specs.declared.memory.MemDisk.{MemDisk}
@@ -20,7 +20,7 @@ mem_face = record {
   fused = λ m. is_set m.control.fuse;
   burned = λ m. is_burned m.control.fuse;
   left = λ m. lets m.control.fuse;
-  choice = λ m. choice_of m.control.fuse;
+  choice = λ m. last_choice m.control.fuse;
 }
 
 is_image : (calls : List Call) (x : List ℕ) → may_leave (record { bytes = x; calls = calls }) x

@@ -9,7 +9,8 @@ use crate::disks::DiskFail;
 /// What cuts a disk off.
 #[derive(Clone, Copy, PartialEq, Eq)]
 pub enum Fuse {
-    Unset,
+    /// None is set. The last power cut left the outcome of this choice.
+    Unset { last: u64 },
     Set { left: u32, choice: u64 },
     Burned { choice: u64 },
 }
@@ -20,7 +21,7 @@ impl Fuse {
         ensures { result ≡ fuse_after self }
     {
         match self {
-            Fuse::Unset => Fuse::Unset,
+            Fuse::Unset { last } => Fuse::Unset { last },
             Fuse::Set { left, choice } => {
                 if left == 0 {
                     Fuse::Burned { choice }
@@ -61,7 +62,7 @@ pub struct Control {
 
 impl Control {
     pub fn new(fail: Vec<u32>, fail_reads: Vec<u32>) -> Self
-        ensures { result ≡ record { fail = fail; fail_reads = fail_reads; calls = 0; reads = 0; faults = 0; burns = 0; fuse = Fuse.Unset } }
+        ensures { result ≡ record { fail = fail; fail_reads = fail_reads; calls = 0; reads = 0; faults = 0; burns = 0; fuse = Fuse.Unset 0 } }
     {
         Control {
             fail,
@@ -70,7 +71,7 @@ impl Control {
             reads: 0,
             faults: 0,
             burns: 0,
-            fuse: Fuse::Unset,
+            fuse: Fuse::Unset { last: 0 },
         }
     }
 
@@ -88,7 +89,7 @@ impl Control {
                     by_name(named)
                 }
             }
-            Fuse::Unset => by_name(named),
+            Fuse::Unset { .. } => by_name(named),
         }
     }
 
@@ -127,7 +128,7 @@ impl Control {
         self.reads = self.reads.saturating_add(1);
         match self.fuse {
             Fuse::Burned { .. } => Err(DiskFail::Cut),
-            Fuse::Set { .. } | Fuse::Unset => {
+            Fuse::Set { .. } | Fuse::Unset { .. } => {
                 if named {
                     self.faults = self.faults.saturating_add(1);
                     return Err(DiskFail::Failed);
@@ -142,7 +143,7 @@ impl Control {
         ensures { result ≡ choice_of self.now.fuse }
     {
         match self.fuse {
-            Fuse::Unset => 0,
+            Fuse::Unset { .. } => 0,
             Fuse::Set { choice, .. } | Fuse::Burned { choice } => choice,
         }
     }

@@ -154,10 +154,11 @@ impl CrashDisk for MemDisk {
         ensures lost { HasLost mem_face self.old self.new }
 
         ensures content { self.new.content ≡ record { bytes = left_by (choice_of self.old.control.fuse) self.old.content.calls self.old.content.bytes; calls = [] } }
-        ensures control { self.new.control ≡ record self.old.control { fuse = Fuse.Unset } }
+        ensures control { self.new.control ≡ record self.old.control { fuse = Fuse.Unset (choice_of self.old.control.fuse) } }
     {
-        self.content.cut(self.control.choice());
-        self.control.set_fuse(Fuse::Unset);
+        let choice = self.control.choice();
+        self.content.cut(choice);
+        self.control.set_fuse(Fuse::Unset { last: choice });
     }
 
     ghost tells = { λ _. tt };

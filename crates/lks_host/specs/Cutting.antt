@@ -26,13 +26,13 @@ CutsOff f batches r calls old new (Kept records) =
     (records ≡ r.records) × IsCutShort r calls × (2 ≤ calls) × StandsFor f new (with_batch batches r.records) × Rose (f.burns old.journal.disk) (f.burns new.journal.disk)
 CutsOff f batches r calls old new Lost = IsCutShort r calls × StandsFor f new batches × Rose (f.burns old.journal.disk) (f.burns new.journal.disk)
 
--- It is the same peer, and at `Ok` the host takes steps again and no fuse is set. The count of faults rose where the
--- answer says so, and not at `Ok`, and the answer is never a cut.
-pub record IsBack {D : Type 0} (f : Face D) (old new : Host D) (result : Result Outcome HostFault) : Type 0 where
+-- It is the same peer, no fuse is set, and at `Ok` the host takes steps again. The count of faults rose where the answer
+-- says so, and not at `Ok`, and the answer is never a cut.
+pub record IsBack {D T : Type 0} (f : Face D) (old new : Host D) (result : Result T HostFault) : Type 0 where
   pub whole : OnOk result (new.broken ≡ false)
   pub own : new.peer.own ≡ old.peer.own
   pub pool : new.peer.pool ≡ old.peer.pool
-  pub unfused : OnOk result (f.fused new.journal.disk ≡ false)
+  pub unfused : f.fused new.journal.disk ≡ false
   pub later : f.faults old.journal.disk ≤ f.faults new.journal.disk
   pub failed : IsErrOf result Failed → Rose (f.faults old.journal.disk) (f.faults new.journal.disk)
   pub ok : OnOk result (f.faults new.journal.disk ≡ f.faults old.journal.disk)

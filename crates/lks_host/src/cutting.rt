@@ -1,10 +1,10 @@
 //! A step while the power fails.
 
-ghost use Rattle.std.specs.Prelude.{◌≤◌, ◌+◌, List, IfOk, OnOk};
+ghost use Rattle.std.specs.Prelude.{◌≡◌, ◌≤◌, ◌+◌, List, IfOk, OnOk};
 ghost use Rattle.lks_base.specs.declared.records.Record.{Record as Recorded};
 ghost use Rattle.lks_host.specs.Cutting.{CutsOff, IsBack};
 ghost use Rattle.lks_host.specs.Hosted.{StandsFor, IsMadeBy};
-ghost use Rattle.lks_host.specs.Stepping.{CanStep};
+ghost use Rattle.lks_host.specs.Stepping.{CanStep, IsWritten};
 ghost use Rattle.lks_law.specs.Facts.{IsHeard};
 ghost use Rattle.lks_law.specs.Table.{react_on};
 
@@ -15,6 +15,24 @@ use lks_base::{Input, Plan};
 use lks_blocks::BlockPool;
 use lks_disk::CrashDisk;
 use std::sync::Wait;
+
+/// Cuts the power and recovers.
+pub fn restart<R: Wait, D: CrashDisk>(
+    rt: &R,
+    pool: &BlockPool,
+    host: &mut Host<D>,
+    plan: &Plan,
+) -> Result<(), HostFault>
+    requires pooled { pool.now ≡ host.old.peer.pool }
+    requires made { IsMadeBy plan.now host.old.peer.own }
+    requires stands { (batches : List (List Recorded)) × StandsFor D.face host.old batches }
+    ensures stands { (batches : List (List Recorded)) → StandsFor D.face host.old batches → OnOk result (StandsFor D.face host.new batches) }
+    ensures back { IsBack D.face host.old host.new result }
+{
+    host.power_cut();
+    host.recover(rt, pool, plan)?;
+    Ok(())
+}
 
 /// Does a step on a fuse of so many calls of the disk, cuts the power and recovers.
 pub fn cut_step<R: Wait, D: CrashDisk>(
@@ -33,18 +51,20 @@ pub fn cut_step<R: Wait, D: CrashDisk>(
     ensures cuts { (batches : List (List Recorded)) → StandsFor D.face host.old batches →
         IfOk result (CutsOff D.face batches (react_on host.old.peer.own host.old.peer.state tick input.now) calls host.old host.new) }
     ensures back { IsBack D.face host.old host.new result }
+    ensures chosen { D.face.choice host.new.journal.disk ≡ choice }
     ensures end { OnOk result (host.new.journal.end ≤ host.old.journal.end + 32768) }
+    ensures written { OnOk result (IsWritten host.old.peer.own host.old.peer.state (react_on host.old.peer.own host.old.peer.state tick input.now).records) }
 {
     let before = host.count();
     host.fuse(calls, choice);
-    match host.step(rt, pool, tick, input) {
+    let done = host.step(rt, pool, tick, input);
+    host.power_cut();
+    match done {
         Ok(reaction) => {
-            host.power_cut();
             host.recover(rt, pool, plan)?;
             Ok(Outcome::Whole(reaction))
         }
         Err(HostFault::Cut) => {
-            host.power_cut();
             let found = host.recover(rt, pool, plan)?;
             if found.count > before {
                 Ok(Outcome::Kept(found.last))

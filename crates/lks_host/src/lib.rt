@@ -12,7 +12,7 @@ mod outcomes;
 mod reading;
 mod writing;
 
-pub use cutting::cut_step;
+pub use cutting::{cut_step, restart};
 pub use faults::HostFault;
 pub use hosts::Host;
 pub use outcomes::{Outcome, Recovered};

@@ -3,7 +3,7 @@ use Rattle.std.proofs.Common.{◌≡◌, ℕ, ◌+◌, Bool, true, false, cond, 
 use Rattle.std.specs.Option.{option_map}
 use Rattle.std.specs.Prelude.{codes, nat_le, unwrap_or, IfOk}
 use Rattle.std.specs.Str.{bytes_eq}
-use Rattle.std.proofs.lemmas.Bool.{le-leb}
+use Rattle.std.proofs.lemmas.Bool.{and_parts, le-leb}
 use Rattle.std.proofs.lemmas.List.Folds.{list_all-append}
 use Rattle.lks_base.specs.declared.limits.TheConstants.{MOST_EVENTS}
 use Rattle.lks_base.specs.declared.plans.AuPlan.{AuPlan}
@@ -21,7 +21,7 @@ use Rattle.lks_script.specs.declared.steps.Script.{Script}
 use Rattle.lks_script.specs.declared.steps.Step.{Step}
 use Rattle.lks_lines.specs.Numbers.{number_in}
 use Rattle.lks_lines.specs.Words.{parts}
-use Rattle.lks_script.specs.StepRules.{is_step_of, are_steps_of}
+use Rattle.lks_script.specs.StepRules.{is_step_of, are_steps_of, has_power_for}
 use Rattle.lks_lines.specs.PlanLines.{numbers_in, rules_in, are_good, aus_with, begun, draft_with_peer}
 use Rattle.lks_lines.specs.ListLines.{draft_with_list, draft_with_hash}
 use Rattle.lks_lines.specs.CopyLines.{draft_with_copy, draft_with_damage}
@@ -40,9 +40,10 @@ map_some f None y e = absurd cc
 steps_good : (plan : Plan) (steps longer : List Step) (key : List ℕ) (more : List (List ℕ)) → are_steps_of plan steps ≡ true → steps_with plan steps key more ≡ Some longer → are_steps_of plan longer ≡ true
 unfolding steps_with
 steps_good plan steps longer key more good e =
-    let a = bind_some (step_in key more) (λ step. cond (is_step_of plan step) (Some (steps ++ step ∷ [])) None) longer e in
-    let b = if_some (is_step_of plan a.0) (Some (steps ++ a.0 ∷ [])) longer a.2 in
-    ap (are_steps_of plan) (sym (same_some (steps ++ a.0 ∷ []) longer b.1)) ∙ list_all-append (is_step_of plan) steps (a.0 ∷ []) ∙ rw (good, b.0) refl
+    let a = bind_some (step_in key more) (λ step. cond (is_step_of plan step && has_power_for steps step) (Some (steps ++ step ∷ [])) None) longer e in
+    let b = if_some (is_step_of plan a.0 && has_power_for steps a.0) (Some (steps ++ a.0 ∷ [])) longer a.2 in
+    let legal = (and_parts (is_step_of plan a.0) (has_power_for steps a.0) b.0).0 in
+    ap (are_steps_of plan) (sym (same_some (steps ++ a.0 ∷ []) longer b.1)) ∙ list_all-append (is_step_of plan) steps (a.0 ∷ []) ∙ rw (good, legal) refl
 
 -- ---- the script so far
 

@@ -1,22 +1,24 @@
 -- Lines that say a step.
-use Rattle.std.specs.Prelude.{ℕ, if◌then◌else◌, List, [], ◌∷◌, ◌++◌, codes, Option, Some, None}
+use Rattle.std.specs.Prelude.{ℕ, ◌&&◌, if◌then◌else◌, List, [], ◌∷◌, ◌++◌, codes, Option, Some, None}
 use Rattle.std.specs.Str.{bytes_eq}
 use Rattle.lks_base.specs.declared.events.PeerStep.{PeerStep}
 use Rattle.lks_base.specs.declared.events.PeerStep.TheVariants as peers
 use Rattle.lks_base.specs.declared.names.PollName.{PollName}
 use Rattle.lks_base.specs.declared.plans.Plan.{Plan}
+use Rattle.lks_script.specs.declared.steps.CutStep.{CutStep}
+use Rattle.lks_script.specs.declared.steps.CutStep.TheVariants as cut
 use Rattle.lks_script.specs.declared.steps.Step.{Step}
-use Rattle.lks_script.specs.declared.steps.Step.TheVariants.{Peer, Tick, Next, Lose, Again, Settle, Finish, Forge, SayPoll, SayProof, SayRequest, SayReceipt, SayChallenge, SayNominate, SayVote, SayRepair}
+use Rattle.lks_script.specs.declared.steps.Step.TheVariants.{Peer, Tick, Next, Lose, Again, Settle, Finish, Forge, SayPoll, SayProof, SayRequest, SayReceipt, SayChallenge, SayNominate, SayVote, SayRepair, Crash, Cut}
 use Rattle.lks_lines.specs.Numbers.{◌>>=◌, number_in}
 use Rattle.lks_lines.specs.Words.{each_in, id_in, poll_in, index_in, answer_in, block_in, blocks_in, bytes_in}
-use Rattle.lks_script.specs.StepRules.{is_step_of}
+use Rattle.lks_script.specs.StepRules.{is_step_of, has_power_for}
 
 -- open P A
-unfoldable pub open_in : List (List ℕ) → Option Step
+unfoldable pub open_in : List (List ℕ) → Option PeerStep
 open_in (peer ∷ au ∷ []) = do
   p ← id_in peer
   a ← id_in au
-  Some (Peer (peers.OpenPoll p a))
+  Some (peers.OpenPoll p a)
 open_in _ = None
 
 -- P N: a peer, and the number of a poll of its own
@@ -38,10 +40,10 @@ poll_step_in key p n =
     else None
 
 -- check P
-unfoldable pub check_in : List (List ℕ) → Option Step
+unfoldable pub check_in : List (List ℕ) → Option PeerStep
 check_in (peer ∷ []) = do
   p ← id_in peer
-  Some (Peer (peers.Check p))
+  Some (peers.Check p)
 check_in _ = None
 
 -- V Q N: a peer, and a poll by its poller and its number
@@ -54,43 +56,48 @@ session_in (voter ∷ poller ∷ number ∷ []) = do
 session_in _ = None
 
 -- work V Q N
-unfoldable pub work_in : List (List ℕ) → Option Step
+unfoldable pub work_in : List (List ℕ) → Option PeerStep
 work_in words = do
   named ← session_in words
-  Some (Peer (peers.Work named.0 named.1))
+  Some (peers.Work named.0 named.1)
 
 -- expire V Q N
-unfoldable pub expire_in : List (List ℕ) → Option Step
+unfoldable pub expire_in : List (List ℕ) → Option PeerStep
 expire_in words = do
   named ← session_in words
-  Some (Peer (peers.Expire named.0 named.1))
+  Some (peers.Expire named.0 named.1)
 
 -- tune P Q D R
-unfoldable pub tune_in : List (List ℕ) → Option Step
+unfoldable pub tune_in : List (List ℕ) → Option PeerStep
 tune_in (peer ∷ quorum ∷ minority ∷ repairs ∷ []) = do
   p ← id_in peer
   q ← number_in 65535 quorum
   d ← number_in 65535 minority
   r ← number_in 65535 repairs
-  Some (Peer (peers.Tune p q d r))
+  Some (peers.Tune p q d r)
 tune_in _ = None
 
 -- outer P N, shut P N, tally P N, nudge P N, give-up P N
-unfoldable pub in_own_poll : List ℕ → List (List ℕ) → Option Step
+unfoldable pub in_own_poll : List ℕ → List (List ℕ) → Option PeerStep
 in_own_poll key more = do
   named ← own_poll_in more
-  step ← poll_step_in key named.0 named.1
-  Some (Peer step)
+  poll_step_in key named.0 named.1
 
 -- a step of a peer's own
-unfoldable pub peer_step_in : List ℕ → List (List ℕ) → Option Step
-peer_step_in key more =
+unfoldable pub own_step_in : List ℕ → List (List ℕ) → Option PeerStep
+own_step_in key more =
     if bytes_eq key (codes "open") then open_in more
     else if bytes_eq key (codes "check") then check_in more
     else if bytes_eq key (codes "work") then work_in more
     else if bytes_eq key (codes "expire") then expire_in more
     else if bytes_eq key (codes "tune") then tune_in more
     else in_own_poll key more
+
+-- the same as a step of the script
+unfoldable pub peer_step_in : List ℕ → List (List ℕ) → Option Step
+peer_step_in key more = do
+  step ← own_step_in key more
+  Some (Peer step)
 
 -- tick N
 unfoldable pub tick_in : List (List ℕ) → Option Step
@@ -128,6 +135,48 @@ settle_in _ = None
 unfoldable pub finish_in : List (List ℕ) → Option Step
 finish_in [] = Some Finish
 finish_in _ = None
+
+-- crash P
+unfoldable pub crash_in : List (List ℕ) → Option Step
+crash_in (peer ∷ []) = do
+  p ← id_in peer
+  Some (Crash p)
+crash_in _ = None
+
+-- What a line cuts off, by the word that names it and those behind it.
+
+-- next
+unfoldable pub cut_next_in : List (List ℕ) → Option CutStep
+cut_next_in [] = Some cut.Next
+cut_next_in _ = None
+
+-- again I
+unfoldable pub cut_again_in : List (List ℕ) → Option CutStep
+cut_again_in (envelope ∷ []) = do
+  i ← number_in 4294967295 envelope
+  Some (cut.Again i)
+cut_again_in _ = None
+
+-- a step of a peer's own
+unfoldable pub cut_own_in : List ℕ → List (List ℕ) → Option CutStep
+cut_own_in key more = do
+  step ← own_step_in key more
+  Some (cut.Peer step)
+
+unfoldable pub cut_step_in : List ℕ → List (List ℕ) → Option CutStep
+cut_step_in key more =
+    if bytes_eq key (codes "next") then cut_next_in more
+    else if bytes_eq key (codes "again") then cut_again_in more
+    else cut_own_in key more
+
+-- cut K C STEP
+unfoldable pub cut_in : List (List ℕ) → Option Step
+cut_in (calls ∷ choice ∷ key ∷ more) = do
+  k ← number_in 255 calls
+  c ← number_in 255 choice
+  step ← cut_step_in key more
+  Some (Cut k c step)
+cut_in _ = None
 
 -- forge F T HEX
 unfoldable pub forge_in : List (List ℕ) → Option Step
@@ -226,10 +275,12 @@ step_in key more =
     else if bytes_eq key (codes "finish") then finish_in more
     else if bytes_eq key (codes "forge") then forge_in more
     else if bytes_eq key (codes "say") then say_in more
+    else if bytes_eq key (codes "crash") then crash_in more
+    else if bytes_eq key (codes "cut") then cut_in more
     else peer_step_in key more
 
 -- the steps with one more
 unfoldable pub steps_with : Plan → List Step → List ℕ → List (List ℕ) → Option (List Step)
 steps_with plan steps key more = do
   step ← step_in key more
-  if is_step_of plan step then Some (steps ++ step ∷ []) else None
+  if is_step_of plan step && has_power_for steps step then Some (steps ++ step ∷ []) else None

@@ -1,5 +1,5 @@
 -- Which steps a script with a plan can have.
-use Rattle.std.specs.Prelude.{ℕ, Bool, true, false, ◌&&◌, nat_le, List, length}
+use Rattle.std.specs.Prelude.{ℕ, Bool, true, false, not, ◌&&◌, ◌||◌, nat_le, nat_lt, List, length, filter}
 use Rattle.std.specs.List.{list_all}
 use Rattle.lks_base.specs.declared.limits.TheConstants.{LAST_BLOCK, MOST_BLOCKS, MOST_BLOCK_BYTES, MOST_EVENTS, MOST_FORGED_BYTES, MOST_NOMINEES, MOST_REPAIRS, MOST_TICKS}
 use Rattle.lks_base.specs.declared.events.PeerStep.{PeerStep}
@@ -8,6 +8,9 @@ use Rattle.lks_base.specs.declared.names.PollName.{PollName}
 use Rattle.lks_base.specs.declared.plans.Plan.{Plan}
 use Rattle.lks_base.specs.Checking.{is_within, has_au, has_peer, has_corrupt, has_honest, are_short}
 use Rattle.lks_base.specs.Quorums.{obeys_quorum_rule}
+use Rattle.lks_script.specs.declared.steps.CutStep.{CutStep}
+use Rattle.lks_script.specs.declared.steps.CutStep.TheVariants as cut
+use Rattle.lks_script.specs.declared.steps.TheConstants.{MOST_CUT_CALLS, MOST_POWER_FAILURES}
 use Rattle.lks_script.specs.declared.steps.Step.{Step}
 use Rattle.lks_script.specs.declared.steps.Step.TheVariants.{Peer, Tick, Next, Lose, Again, Settle, Finish, Forge, SayPoll, SayProof, SayRequest, SayReceipt, SayChallenge, SayNominate, SayVote, SayRepair, Crash, Cut}
 
@@ -63,6 +66,16 @@ is_repair plan from to block bytes = is_said plan from to && nat_le block LAST_B
 unfoldable pub is_nomination : Plan → ℕ → ℕ → List ℕ → Bool
 is_nomination plan from to nominees = is_said plan from to && nat_le (length nominees) MOST_NOMINEES
 
+-- what a line can cut off
+unfoldable pub is_cut_step : Plan → CutStep → Bool
+is_cut_step plan cut.Next = true
+is_cut_step plan (cut.Again envelope) = true
+is_cut_step plan (cut.Peer step) = is_own_step plan step
+
+-- with so many calls of the disk before
+unfoldable pub is_cut : Plan → ℕ → CutStep → Bool
+is_cut plan calls step = nat_le calls MOST_CUT_CALLS && is_cut_step plan step
+
 -- a step that a script with the plan can have
 unfoldable pub is_step_of : Plan → Step → Bool
 is_step_of plan (Peer step) = is_own_step plan step
@@ -81,9 +94,34 @@ is_step_of plan (SayChallenge from to number agrees) = is_said plan from to
 is_step_of plan (SayNominate from to number nominees) = is_nomination plan from to nominees
 is_step_of plan (SayRepair from to number block bytes) = is_repair plan from to block bytes
 is_step_of plan (SayVote from to number au blocks) = is_said_vote plan from to au blocks
-is_step_of plan (Crash peer) = false
-is_step_of plan (Cut calls choice step) = false
+is_step_of plan (Crash peer) = has_honest plan.peers peer
+is_step_of plan (Cut calls choice step) = is_cut plan calls step
 
 -- every step is one that a script with the plan can have
 abbrev pub are_steps_of : Plan → List Step → Bool
 are_steps_of plan steps = list_all (is_step_of plan) steps
+
+-- the power of a peer fails in the step
+unfoldable pub fails_power : Step → Bool
+fails_power (Peer step) = false
+fails_power (Tick by) = false
+fails_power (Next times) = false
+fails_power Lose = false
+fails_power (Again envelope) = false
+fails_power Settle = false
+fails_power Finish = false
+fails_power (Forge from to bytes) = false
+fails_power (SayPoll from to number au) = false
+fails_power (SayProof from to number) = false
+fails_power (SayRequest from to number block) = false
+fails_power (SayReceipt from to number) = false
+fails_power (SayChallenge from to number agrees) = false
+fails_power (SayNominate from to number nominees) = false
+fails_power (SayRepair from to number block bytes) = false
+fails_power (SayVote from to number au blocks) = false
+fails_power (Crash peer) = true
+fails_power (Cut calls choice step) = true
+
+-- behind these steps the power can fail in one more, if it does
+unfoldable pub has_power_for : List Step → Step → Bool
+has_power_for steps step = not (fails_power step) || nat_lt (length (filter fails_power steps)) MOST_POWER_FAILURES

@@ -13,4 +13,4 @@ mod tests;
 
 pub use faults::ScriptFault;
 pub use reading::read_script;
-pub use steps::{CutStep, Script, Step};
+pub use steps::{CutStep, MOST_CUT_CALLS, MOST_POWER_FAILURES, Script, Step};

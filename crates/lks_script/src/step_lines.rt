@@ -1,18 +1,19 @@
 //! Lines that say a step.
 
 ghost use Rattle.std.specs.Prelude.{◌≡◌, map};
+ghost use Rattle.lks_lines.specs.Numbers.{number_in};
 ghost use Rattle.lks_lines.specs.Words.{Gives};
-ghost use Rattle.lks_script.specs.StepLines.{open_in, own_poll_in, poll_step_in, in_own_poll, check_in, session_in, work_in, expire_in, tune_in, peer_step_in, tick_in, next_in, lose_in, again_in, settle_in, finish_in, forge_in, step_in, steps_with};
+ghost use Rattle.lks_script.specs.StepLines.{open_in, own_poll_in, poll_step_in, in_own_poll, check_in, session_in, work_in, expire_in, tune_in, own_step_in, peer_step_in, tick_in, next_in, lose_in, again_in, settle_in, finish_in, forge_in, crash_in, cut_next_in, cut_again_in, cut_own_in, cut_step_in, cut_in, step_in, steps_with};
 
 use crate::say_lines::say;
-use crate::step_rules::step_of;
-use crate::steps::Step;
+use crate::step_rules::{power_for, step_of};
+use crate::steps::{CutStep, Step};
 use lks_base::{PeerId, PeerStep, Plan, PollName, Seq};
-use lks_lines::{Stop, bytes, count, id, large, poll};
+use lks_lines::{Stop, bytes, count, id, large, number, poll};
 use std::alloc::Global;
 
 #[tactic(auto, unfolding(crate::specs::StepLines::open_in))]
-fn open(words: &[&[u8]]) -> Result<Step, Stop>
+fn open(words: &[&[u8]]) -> Result<PeerStep, Stop>
     ensures { Gives result (open_in (map (λ w. w.now) words.now)) }
 {
     let [peer, au] = words else {
@@ -20,7 +21,7 @@ fn open(words: &[&[u8]]) -> Result<Step, Stop>
     };
     let peer = id(peer)?;
     let au = id(au)?;
-    Ok(Step::Peer(PeerStep::OpenPoll { peer, au }))
+    Ok(PeerStep::OpenPoll { peer, au })
 }
 
 /// A peer, and the number of a poll of its own.
@@ -57,23 +58,22 @@ fn poll_step(key: &[u8], peer: u16, number: u32) -> Result<PeerStep, Stop>
 }
 
 #[tactic(auto, unfolding(crate::specs::StepLines::in_own_poll))]
-fn step_in_own_poll(key: &[u8], more: &[&[u8]]) -> Result<Step, Stop>
+fn step_in_own_poll(key: &[u8], more: &[&[u8]]) -> Result<PeerStep, Stop>
     ensures { Gives result (in_own_poll key.now (map (λ w. w.now) more.now)) }
 {
     let (peer, number) = own_poll(more)?;
-    let step = poll_step(key, peer, number)?;
-    Ok(Step::Peer(step))
+    poll_step(key, peer, number)
 }
 
 #[tactic(auto, unfolding(crate::specs::StepLines::check_in))]
-fn check(words: &[&[u8]]) -> Result<Step, Stop>
+fn check(words: &[&[u8]]) -> Result<PeerStep, Stop>
     ensures { Gives result (check_in (map (λ w. w.now) words.now)) }
 {
     let [peer] = words else {
         return Err(Stop::Bad);
     };
     let peer = id(peer)?;
-    Ok(Step::Peer(PeerStep::Check { peer }))
+    Ok(PeerStep::Check { peer })
 }
 
 /// A peer, and a poll by its poller and its number.
@@ -91,23 +91,23 @@ fn session(words: &[&[u8]]) -> Result<(PeerId, PollName), Stop>
 }
 
 #[tactic(auto, unfolding(crate::specs::StepLines::work_in))]
-fn work(words: &[&[u8]]) -> Result<Step, Stop>
+fn work(words: &[&[u8]]) -> Result<PeerStep, Stop>
     ensures { Gives result (work_in (map (λ w. w.now) words.now)) }
 {
     let (peer, poll) = session(words)?;
-    Ok(Step::Peer(PeerStep::Work { peer, poll }))
+    Ok(PeerStep::Work { peer, poll })
 }
 
 #[tactic(auto, unfolding(crate::specs::StepLines::expire_in))]
-fn expire(words: &[&[u8]]) -> Result<Step, Stop>
+fn expire(words: &[&[u8]]) -> Result<PeerStep, Stop>
     ensures { Gives result (expire_in (map (λ w. w.now) words.now)) }
 {
     let (peer, poll) = session(words)?;
-    Ok(Step::Peer(PeerStep::Expire { peer, poll }))
+    Ok(PeerStep::Expire { peer, poll })
 }
 
 #[tactic(auto, unfolding(crate::specs::StepLines::tune_in))]
-fn tune(words: &[&[u8]]) -> Result<Step, Stop>
+fn tune(words: &[&[u8]]) -> Result<PeerStep, Stop>
     ensures { Gives result (tune_in (map (λ w. w.now) words.now)) }
 {
     let [peer, quorum, minority, repairs] = words else {
@@ -117,18 +117,18 @@ fn tune(words: &[&[u8]]) -> Result<Step, Stop>
     let quorum = count(quorum)?;
     let minority = count(minority)?;
     let repairs = count(repairs)?;
-    Ok(Step::Peer(PeerStep::Tune {
+    Ok(PeerStep::Tune {
         peer,
         quorum,
         minority,
         repairs,
-    }))
+    })
 }
 
 /// A step of a peer's own.
-#[tactic(auto, unfolding(crate::specs::StepLines::peer_step_in))]
-fn peer_step(key: &[u8], more: &[&[u8]]) -> Result<Step, Stop>
-    ensures { Gives result (peer_step_in key.now (map (λ w. w.now) more.now)) }
+#[tactic(auto, unfolding(crate::specs::StepLines::own_step_in))]
+fn own_step(key: &[u8], more: &[&[u8]]) -> Result<PeerStep, Stop>
+    ensures { Gives result (own_step_in key.now (map (λ w. w.now) more.now)) }
 {
     if key == b"open".as_slice() {
         open(more)
@@ -143,6 +143,15 @@ fn peer_step(key: &[u8], more: &[&[u8]]) -> Result<Step, Stop>
     } else {
         step_in_own_poll(key, more)
     }
+}
+
+/// The same as a step of the script.
+#[tactic(auto, unfolding(crate::specs::StepLines::peer_step_in))]
+fn peer_step(key: &[u8], more: &[&[u8]]) -> Result<Step, Stop>
+    ensures { Gives result (peer_step_in key.now (map (λ w. w.now) more.now)) }
+{
+    let step = own_step(key, more)?;
+    Ok(Step::Peer(step))
 }
 
 #[tactic(auto, unfolding(crate::specs::StepLines::tick_in))]
@@ -224,6 +233,86 @@ fn forge(alloc: Global, words: &[&[u8]]) -> Result<Step, Stop>
     Ok(Step::Forge { from, to, bytes })
 }
 
+#[tactic(auto, unfolding(crate::specs::StepLines::crash_in))]
+fn crash(words: &[&[u8]]) -> Result<Step, Stop>
+    ensures { Gives result (crash_in (map (λ w. w.now) words.now)) }
+{
+    let [peer] = words else {
+        return Err(Stop::Bad);
+    };
+    let peer = id(peer)?;
+    Ok(Step::Crash { peer })
+}
+
+#[tactic(auto, unfolding(crate::specs::StepLines::cut_next_in))]
+fn cut_next(words: &[&[u8]]) -> Result<CutStep, Stop>
+    ensures { Gives result (cut_next_in (map (λ w. w.now) words.now)) }
+{
+    match words {
+        [] => Ok(CutStep::Next),
+        _ => Err(Stop::Bad),
+    }
+}
+
+#[tactic(auto, unfolding(crate::specs::StepLines::cut_again_in))]
+fn cut_again(words: &[&[u8]]) -> Result<CutStep, Stop>
+    ensures { Gives result (cut_again_in (map (λ w. w.now) words.now)) }
+{
+    let [envelope] = words else {
+        return Err(Stop::Bad);
+    };
+    let envelope = large(envelope)?;
+    Ok(CutStep::Again { envelope })
+}
+
+#[tactic(auto, unfolding(crate::specs::StepLines::cut_own_in))]
+fn cut_own(key: &[u8], more: &[&[u8]]) -> Result<CutStep, Stop>
+    ensures { Gives result (cut_own_in key.now (map (λ w. w.now) more.now)) }
+{
+    let step = own_step(key, more)?;
+    Ok(CutStep::Peer(step))
+}
+
+/// What a line cuts off.
+#[tactic(auto, unfolding(crate::specs::StepLines::cut_step_in))]
+fn cut_step(key: &[u8], more: &[&[u8]]) -> Result<CutStep, Stop>
+    ensures { Gives result (cut_step_in key.now (map (λ w. w.now) more.now)) }
+{
+    if key == b"next".as_slice() {
+        cut_next(more)
+    } else if key == b"again".as_slice() {
+        cut_again(more)
+    } else {
+        cut_own(key, more)
+    }
+}
+
+fn small(word: &[u8]) -> Result<u8, Stop>
+    ensures { Gives result (number_in 255 word.now) }
+{
+    match number(255, word) {
+        Some(n) => Ok(n as u8),
+        None => Err(Stop::Bad),
+    }
+}
+
+#[tactic(auto, unfolding(crate::specs::StepLines::cut_in))]
+fn cut(words: &[&[u8]]) -> Result<Step, Stop>
+    ensures { Gives result (cut_in (map (λ w. w.now) words.now)) }
+{
+    let [calls, choice, key, more @ ..] = words else {
+        return Err(Stop::Bad);
+    };
+    let calls = small(calls)?;
+    let choice = small(choice)?;
+    let step = cut_step(key, more)?;
+    Ok(Step::Cut {
+        calls,
+        choice,
+        step,
+    })
+}
+
 /// The step that a word and those behind it say.
 #[tactic(auto, unfolding(crate::specs::StepLines::step_in))]
 fn step(alloc: Global, key: &[u8], more: &[&[u8]]) -> Result<Step, Stop>
@@ -245,6 +334,10 @@ fn step(alloc: Global, key: &[u8], more: &[&[u8]]) -> Result<Step, Stop>
         forge(alloc, more)
     } else if key == b"say".as_slice() {
         say(alloc, more)
+    } else if key == b"crash".as_slice() {
+        crash(more)
+    } else if key == b"cut".as_slice() {
+        cut(more)
     } else {
         peer_step(key, more)
     }
@@ -262,7 +355,7 @@ pub fn add_step(
     ensures { Gives result (steps_with plan.now steps key.now (map (λ w. w.now) more.now)) }
 {
     let step = step(alloc, key, more)?;
-    if !step_of(plan, &step) {
+    if !step_of(plan, &step) || !power_for(steps.as_slice(), &step) {
         return Err(Stop::Bad);
     }
     let mut steps = steps.into_vec();

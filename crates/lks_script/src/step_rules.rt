@@ -1,9 +1,9 @@
 //! Which steps a script with a plan can have.
 
-ghost use Rattle.std.specs.Prelude.{◌≡◌};
-ghost use Rattle.lks_script.specs.StepRules.{is_session, is_tuning, is_own_step, is_said_vote, is_said, is_forgery, is_invitation, is_request, is_repair, is_nomination, is_step_of};
+ghost use Rattle.std.specs.Prelude.{◌≡◌, filter, length};
+ghost use Rattle.lks_script.specs.StepRules.{is_session, is_tuning, is_own_step, is_said_vote, is_said, is_forgery, is_invitation, is_request, is_repair, is_nomination, is_cut_step, is_cut, is_step_of, fails_power, has_power_for};
 
-use crate::steps::Step;
+use crate::steps::{CutStep, MOST_CUT_CALLS, MOST_POWER_FAILURES, Step};
 use lks_base::{
     Bytes, LAST_BLOCK, MOST_BLOCK_BYTES, MOST_BLOCKS, MOST_EVENTS, MOST_FORGED_BYTES,
     MOST_NOMINEES, MOST_REPAIRS, MOST_TICKS, PeerStep, Plan, PollName, are_short, has_au,
@@ -108,6 +108,24 @@ fn nomination(plan: &Plan, from: u16, to: u16, nominees: &[u16]) -> bool
     said(plan, from, to) && nominees.len() <= MOST_NOMINEES as usize
 }
 
+/// What a line can cut off.
+#[tactic(auto, unfolding(crate::specs::StepRules::is_cut_step))]
+fn cut_step(plan: &Plan, step: &CutStep) -> bool
+    ensures { result ≡ is_cut_step plan.now step.now }
+{
+    match step {
+        CutStep::Next | CutStep::Again { .. } => true,
+        CutStep::Peer(own) => own_step(plan, own),
+    }
+}
+
+#[tactic(auto, unfolding(crate::specs::StepRules::is_cut))]
+fn cut(plan: &Plan, calls: u8, step: &CutStep) -> bool
+    ensures { result ≡ is_cut plan.now calls step.now }
+{
+    calls <= MOST_CUT_CALLS && cut_step(plan, step)
+}
+
 /// Whether a script with this plan can have the step.
 #[tactic(auto, unfolding(crate::specs::StepRules::is_step_of))]
 pub fn step_of(plan: &Plan, step: &Step) -> bool
@@ -149,6 +167,47 @@ pub fn step_of(plan: &Plan, step: &Step) -> bool
             blocks,
             ..
         } => said_vote(plan, *from, *to, *au, blocks.as_slice()),
-        Step::Crash { .. } | Step::Cut { .. } => false,
+        Step::Crash { peer } => has_honest(plan.peers.as_slice(), *peer),
+        Step::Cut { calls, step, .. } => cut(plan, *calls, step),
     }
+}
+
+/// The power of a peer fails in the step.
+#[tactic(auto, unfolding(crate::specs::StepRules::fails_power))]
+fn fails_power(step: &Step) -> bool
+    ensures { result ≡ fails_power step.now }
+{
+    match step {
+        Step::Crash { .. } | Step::Cut { .. } => true,
+        Step::Peer(_)
+        | Step::Tick { .. }
+        | Step::Next { .. }
+        | Step::Lose
+        | Step::Again { .. }
+        | Step::Settle
+        | Step::Finish
+        | Step::Forge { .. }
+        | Step::SayPoll { .. }
+        | Step::SayProof { .. }
+        | Step::SayRequest { .. }
+        | Step::SayReceipt { .. }
+        | Step::SayChallenge { .. }
+        | Step::SayNominate { .. }
+        | Step::SayRepair { .. }
+        | Step::SayVote { .. } => false,
+    }
+}
+
+fn power_failures(steps: &[Step]) -> usize
+    ensures { result ≡ length (filter fails_power steps.now) }
+{
+    steps.iter().filter(|step| fails_power(step)).count()
+}
+
+/// Whether the power can fail behind these steps in one more, if it does.
+#[tactic(auto, unfolding(crate::specs::StepRules::has_power_for))]
+pub fn power_for(steps: &[Step], step: &Step) -> bool
+    ensures { result ≡ has_power_for steps.now step.now }
+{
+    !fails_power(step) || power_failures(steps) < MOST_POWER_FAILURES
 }

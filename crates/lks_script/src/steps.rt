@@ -2,6 +2,12 @@
 
 use lks_base::{AuId, Blocks, Bytes, Ids, PeerId, PeerStep, Plan, Seq};
 
+/// Calls of a disk before a `cut` line cuts it off.
+pub const MOST_CUT_CALLS: u8 = 8;
+
+/// Lines of a script in which the power of a peer fails.
+pub const MOST_POWER_FAILURES: usize = 16;
+
 /// What a `cut` line does while the power fails. A peer's step here is never a delivery.
 #[derive(Clone, Copy)]
 pub enum CutStep {

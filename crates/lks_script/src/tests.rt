@@ -568,6 +568,61 @@ fn lines_of_operators(rt: HostRuntime) -> Result<(), Fail> {
 }
 
 #[test]
+fn lines_of_failing_power(rt: HostRuntime) -> Result<(), Fail> {
+    let rows = [
+        ("crash 1\n", 0),
+        ("crash 2\n", 8),
+        ("crash 9\n", 8),
+        ("crash\n", 8),
+        ("crash 1 1\n", 8),
+        ("cut 0 0 next\ncut 8 255 again 4294967295\n", 0),
+        ("cut 1 2 check 1\ncut 3 1 open 1 1\ncut 0 0 outer 1 1\n", 0),
+        (
+            "cut 0 0 shut 1 1\ncut 0 0 tally 1 1\ncut 0 0 nudge 1 1\n",
+            0,
+        ),
+        (
+            "cut 0 0 give-up 1 1\ncut 0 0 work 1 2 1\ncut 0 0 expire 1 2 1\n",
+            0,
+        ),
+        ("cut 4 165 tune 1 4 1 512\n", 0),
+        ("cut 9 0 next\n", 8),
+        ("cut 256 0 next\n", 8),
+        ("cut 0 256 next\n", 8),
+        ("cut 0 00 next\n", 8),
+        ("cut 0 0 next 1\n", 8),
+        ("cut 0 0 again\n", 8),
+        ("cut 0 0\n", 8),
+        ("cut 0 0 lose\n", 8),
+        ("cut 0 0 settle\n", 8),
+        ("cut 0 0 crash 1\n", 8),
+        ("cut 0 0 cut 0 0 next\n", 8),
+        ("cut 0 0 say 2 receipt 1 1\n", 8),
+        ("cut 0 0 open 2 1\n", 8),
+        ("cut 0 0 tune 1 5 1 2\n", 8),
+    ];
+    check_rows(&rt, rt.alloc(), &rows)
+}
+
+const FOUR_FAILURES: &str = "crash 1\ncut 0 0 next\ncut 8 255 again 7\nlose\ncrash 1\n";
+
+#[test]
+fn at_most_so_many_failures(rt: HostRuntime) -> Result<(), Fail> {
+    let four = FOUR_FAILURES;
+    let rows = [
+        ("", 0),
+        ("lose\n", 0),
+        ("crash 1\n", 28),
+        ("lose\ncut 0 0 next\n", 29),
+    ];
+    for (text, line) in rows {
+        let pieces = [TITLE, RULES, AU, PEERS, four, four, four, four, text];
+        assert_eq!(rt; line_of(rt.alloc(), &pieces)?, line, "{text}");
+    }
+    Ok(())
+}
+
+#[test]
 fn steps_of_voters_and_operators(rt: HostRuntime) -> Result<(), Fail> {
     let bytes = joined(rt.alloc(), &[TITLE, RULES, AU, PEERS, VOTER_MOVES])?;
     let script = read_script(rt.alloc(), &bytes)

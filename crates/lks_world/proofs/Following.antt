@@ -1,31 +1,38 @@
 -- What follows a script is a history.
-use Rattle.std.proofs.Common.{◌≡◌, ◌≤◌, ◌+◌, ◌-◌, sym, subst, ℕ, zero, suc, Bool, true, false, cond, List, [], ◌∷◌, ◌++◌, length, refl, arith}
+use Rattle.std.proofs.Common.{◌≡◌, ◌≤◌, ◌<◌, ◌⊎◌, inl, inr, ◌+◌, ◌-◌, sym, subst, ℕ, zero, suc, Bool, true, false, cond, List, [], ◌∷◌, ◌++◌, length, refl, arith}
 use Rattle.std.specs.Prelude.{Option, Some, None, IfSome, All, min, nat_lt, option_map}
 use Rattle.std.specs.List.{AllByRecursion}
 use Rattle.std.specs.Option.{option_map_or}
-use Rattle.std.proofs.lemmas.Bool.{and_parts, ltb-true}
+use Rattle.std.proofs.lemmas.Bool.{and_parts, cases_lt, ltb-true}
 use Rattle.std.proofs.lemmas.List.{length-append}
 use Rattle.std.proofs.lemmas.List.Elements.{recursion_from_All}
 use Rattle.lks_base.specs.Checking.{plan_fault}
 use Rattle.lks_base.specs.declared.events.Due.{Due}
 use Rattle.lks_base.specs.declared.events.Event.{Event}
 use Rattle.lks_base.specs.declared.events.Event.TheVariants as events
+use Rattle.lks_base.specs.declared.events.PeerStep.{PeerStep}
 use Rattle.lks_base.specs.declared.limits.TheConstants.{MOST_EVENTS}
 use Rattle.lks_base.specs.declared.plans.PeerPlan.{PeerPlan}
 use Rattle.lks_base.specs.declared.plans.Plan.{Plan}
 use Rattle.lks_law.proofs.Happening.{history_more, delivery_may, deliver_may, settle_may, finish_may, lose_may}
 use Rattle.lks_law.specs.Due.{next_to_settle, next_to_deliver, next_to_lose, next_to_finish}
-use Rattle.lks_law.specs.Histories.{MayHappen, IsHistory}
+use Rattle.lks_host.proofs.Cuts.{none_or_some}
+use Rattle.lks_law.specs.Histories.{MayStep, MayHappen, IsHistory, added_by}
 use Rattle.lks_law.specs.Questions.{Verdicts, delivery_of, event_of}
-use Rattle.lks_law.specs.World.{world}
+use Rattle.lks_law.specs.World.{Standing, world, peer_at}
 use Rattle.lks_message.specs.Spelling.{spelling}
 use Rattle.lks_script.specs.StepRules.{is_step_of, are_steps_of}
 use Rattle.lks_script.specs.declared.steps.Step.{Step}
 use Rattle.lks_script.specs.declared.steps.Step.TheVariants as step
-use Rattle.lks_world.proofs.OwnSteps.{step_may, ticks_within, forgery_may, said_may}
-use Rattle.lks_world.proofs.Sayings.{IsSayable, says_bytes}
-use Rattle.lks_world.specs.Bytes.{AreBytes, GivesBytes, GiveBytes}
-use Rattle.lks_world.specs.Follows.{kept, next_event, done_within, done, lost, delivered_again, Saying, MayBeSaid, said_by, spoken, Performs, Follows}
+use Rattle.lks_world.proofs.CutLaws.{cut_may, honest_at, some_length}
+use Rattle.lks_world.proofs.OwnSteps.{step_may, ticks_within, forgery_may, crash_may, cut_legal}
+use Rattle.lks_world.specs.Cuts.{taker_of, step_cut, IsCutOff, Cuts, CutsOff}
+use Rattle.lks_saying.proofs.Ends.{said_may}
+use Rattle.lks_saying.proofs.Sayable.{IsSayable, says_bytes}
+use Rattle.lks_saying.specs.Bytes.{AreBytes, GivesBytes, GiveBytes}
+use Rattle.lks_saying.specs.Sayings.{Saying, MayBeSaid, said_by}
+use Rattle.lks_world.specs.Follows.{next_event, done_within, done, lost, delivered_again, spoken, Performs, Follows}
+use Rattle.lks_world.specs.Kept.{kept}
 
 -- ---- one event more, or a few
 
@@ -86,6 +93,33 @@ module _ (plan : Plan) where
   spoken_history history (Some x) may sayable is =
       kept_history history (events.Forge x.from x.to (spelling x.message)) is (record { corrupt = may.0; known = may.1; few = sayable.few; are = sayable.are })
 
+  -- a step that is cut off, or is done before the power fails
+
+  done_then_crashed : (history : List Event) (p : PeerStep) (id : ℕ) (s : Standing) → MayStep plan (world plan history) p → peer_at id (world plan history).peers ≡ Some s → IsHistory plan history → IsHistory plan (kept (kept history (events.Step p)) (events.Crash id))
+  done_then_crashed history p id s may there is =
+      kept_history (kept history (events.Step p)) (events.Crash id) (kept_history history (events.Step p) is may) (honest_at plan history id s there)
+
+  cut_off_history : (history after : List Event) (calls : ℕ) (p : PeerStep) → MayStep plan (world plan history) p → (added_by (world plan history) p ≡ [] → ⊥) → IsCutOff history calls p after → IsHistory plan history → IsHistory plan after
+  cut_off_history history after calls p may adds cut is =
+      subst (IsHistory plan) (sym cut.more) (kept_history history (events.Cut p cut.is_kept) is (may, some_length (added_by (world plan history) p) adds))
+
+  cuts_history : (history after : List Event) (calls : ℕ) (p : PeerStep) → MayStep plan (world plan history) p → Cuts plan history calls p after → IsHistory plan history → IsHistory plan after
+  cuts_history history after calls p may cuts is = by_peer (peer_at (taker_of (world plan history).bag p) (world plan history).peers) refl
+    where
+      by_calls : (s : Standing) → peer_at (taker_of (world plan history).bag p) (world plan history).peers ≡ Some s → (added_by (world plan history) p ≡ []) ⊎ (added_by (world plan history) p ≡ [] → ⊥)
+          → (calls < 4) ⊎ (4 ≤ calls) → IsHistory plan after
+      by_calls s there (inl none) calls_are = subst (IsHistory plan) (sym (cuts.whole s there (inl none))) (done_then_crashed history p (taker_of (world plan history).bag p) s may there is)
+      by_calls s there (inr some) (inl few) = cut_off_history history after calls p may some (cuts.short (record { peer = s; honest = there; adds = some; few = few })) is
+      by_calls s there (inr some) (inr four) = subst (IsHistory plan) (sym (cuts.whole s there (inr four))) (done_then_crashed history p (taker_of (world plan history).bag p) s may there is)
+
+      by_peer : (o : Option Standing) → peer_at (taker_of (world plan history).bag p) (world plan history).peers ≡ o → IsHistory plan after
+      by_peer None alone = subst (IsHistory plan) (sym (cuts.alone alone)) (kept_history history (events.Step p) is may)
+      by_peer (Some s) there = by_calls s there (none_or_some (added_by (world plan history) p)) (cases_lt calls 4)
+
+  cut_history : (history after : List Event) (calls : ℕ) (o : Option PeerStep) → IsHistory plan history → ((p : PeerStep) → o ≡ Some p → MayStep plan (world plan history) p) → CutsOff plan history calls o after → IsHistory plan after
+  cut_history history after calls None is may made = subst (IsHistory plan) (sym made) is
+  cut_history history after calls (Some p) is may made = cuts_history history after calls p (may p refl) made is
+
 -- ---- a step, and all steps
 
 module _ (verdict : Verdicts) (plan : Plan) (good : plan_fault plan ≡ None) (proofs : All (λ (p : PeerPlan). AreBytes p.proof) plan.peers) where
@@ -118,8 +152,10 @@ module _ (verdict : Verdicts) (plan : Plan) (good : plan_fault plan ≡ None) (p
   performed_history history after (step.SayNominate from to number nominees) is legal are made = said_history history after (step.SayNominate from to number nominees) is legal are made
   performed_history history after (step.SayVote from to number au blocks) is legal are made = said_history history after (step.SayVote from to number au blocks) is legal are made
   performed_history history after (step.SayRepair from to number block bytes) is legal are made = said_history history after (step.SayRepair from to number block bytes) is legal are made
-  performed_history history after (step.Crash peer) is legal are made = absurd made
-  performed_history history after (step.Cut calls choice s) is legal are made = absurd made
+  performed_history history after (step.Crash peer) is legal are made =
+      subst (IsHistory plan) (sym made) (kept_history plan history (events.Crash peer) is (crash_may plan (step.Crash peer) peer refl legal))
+  performed_history history after (step.Cut calls choice s) is legal are made =
+      cut_history plan history after calls (step_cut verdict plan history s) is (cut_may verdict plan history s (cut_legal plan (step.Cut calls choice s) calls choice s refl legal)) made
 
   steps_history : (history after : List Event) (steps : List Step) → IsHistory plan history → are_steps_of plan steps ≡ true → AllByRecursion GivesBytes steps → Follows verdict plan history steps after → IsHistory plan after
   steps_history history after [] is legal are followed = subst (IsHistory plan) (sym followed) is

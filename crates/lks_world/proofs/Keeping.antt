@@ -23,15 +23,16 @@ use Rattle.lks_law.specs.World.{Standing, World, world, start, standing_of, is_h
 use Rattle.lks_world.proofs.HostLaws.{journal_there}
 use Rattle.lks_world.specs.Begun.{HaveBegun}
 use Rattle.lks_world.specs.Hosts.{peer_in, peers_of, AreReady, IsHostAt}
-use Rattle.lks_world.specs.Follows.{kept, done_within, done}
+use Rattle.lks_world.specs.Follows.{done_within, done}
+use Rattle.lks_world.specs.Kept.{kept}
 use Rattle.lks_world.specs.declared.states.State.{State}
 use Rattle.lks_world.specs.Seats.{hosts_of}
 use Rattle.lks_world.specs.States.{events_of, events_in, IsStateOf, Becomes, Extends}
 
-kept_room : (history : List Event) (e : Event) → length history < MOST_EVENTS → kept history e ≡ history ++ e ∷ []
+pub kept_room : (history : List Event) (e : Event) → length history < MOST_EVENTS → kept history e ≡ history ++ e ∷ []
 kept_room history e room = rw (lt-ltb (length history) MOST_EVENTS room) refl
 
-kept_full : (history : List Event) (e : Event) → MOST_EVENTS ≤ length history → kept history e ≡ history
+pub kept_full : (history : List Event) (e : Event) → MOST_EVENTS ≤ length history → kept history e ≡ history
 kept_full history e full = rw (le-ltb (length history) MOST_EVENTS full) refl
 
 begun_world : (plan : Plan) (peers : List Standing) → peers ≡ map (standing_of plan) (filter is_honest plan.peers) → record { peers = peers; bag = []; tick = 0 } ≡ world plan []

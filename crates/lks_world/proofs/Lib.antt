@@ -1,16 +1,18 @@
 mod Acting
 mod BeginLaws
 pub mod CountLaws
+mod CutActs
+mod CutLaws
+mod Ending
 mod Following
 mod FuseLaws
-mod Hashed
 mod HeldOnce
 mod HostLaws
 mod Keeping
 mod NextLaws
 mod OwnSteps
 mod ReadyLaws
-mod Sayings
+mod SeatEnds
 mod SeatLaws
 mod Sending
 pub mod ServingLaws

@@ -17,7 +17,8 @@ use Rattle.lks_law.specs.Due.{ready, turns, first_due, first_own, first_waiting,
 use Rattle.lks_law.specs.Histories.{MayStep, MayHappen, WasSent}
 use Rattle.lks_law.specs.Questions.{Verdicts, judged, question_at, questions, delivery_of, event_of}
 use Rattle.lks_law.specs.World.{World, world}
-use Rattle.lks_world.specs.Follows.{kept, next_event, lost, delivered_again}
+use Rattle.lks_world.specs.Follows.{next_event, lost, delivered_again}
+use Rattle.lks_world.specs.Kept.{kept}
 use Rattle.lks_world.specs.Hosts.{peers_of}
 use Rattle.lks_world.specs.declared.settling.Course.{Course}
 use Rattle.lks_world.specs.declared.settling.Course.TheVariants.{Settling, Delivering, Finishing}

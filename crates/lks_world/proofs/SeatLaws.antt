@@ -17,11 +17,11 @@ use Rattle.lks_world.proofs.CountLaws.{some_is, untouched, counted_behind, count
 use Rattle.lks_world.proofs.HostLaws.{one_went_on}
 use Rattle.lks_world.proofs.ServingLaws.{serves_none, serves_then, serves_unblamed}
 use Rattle.lks_world.specs.Begun.{IsServed}
-use Rattle.lks_world.specs.Counts.{fault_in, honest_ids, ServesHonest}
+use Rattle.lks_world.specs.Counts.{fault_in, honest_ids, HasBurned, ServesHonest}
 use Rattle.lks_world.specs.Disks.{honest_disks, corrupt_disks}
 use Rattle.lks_world.specs.Held.{HoldsBatches, HaveBatches}
 use Rattle.lks_world.specs.Hosts.{peer_in, peers_of, disk_in, disks_of, with_added, GoesOn, HaveGoneOn, HasActed, IsAbsent}
-use Rattle.lks_world.specs.Seats.{hosts_of, disk_at, disks_at, id_at, ids_at, is_seat_of, id_for, AreSeats, Counted, StandsAt}
+use Rattle.lks_world.specs.Seats.{hosts_of, disk_at, disks_at, id_at, ids_at, is_seat_of, id_for, AreSeats, BurnsAt, Counted, StandsAt}
 use Rattle.lks_world.specs.States.{events_in, IsStateOf}
 use Rattle.lks_world.specs.declared.faults.WorldFault.{WorldFault}
 use Rattle.lks_world.specs.declared.faults.WorldFault.TheVariants.{Disk}
@@ -290,6 +290,61 @@ module _ {D : Type 0} (f : Face D) where
     set-fuses [] place at = refl
     set-fuses (s ∷ ss) zero at = let first : seat.Host h ≡ s = cc in ap (λ b. b ∷ map f.fused (disks_at ss)) (fuse ∙ ap (λ (y : Seat D). f.fused (disk_at y)) first)
     set-fuses (s ∷ ss) (suc place) at = ap (λ bs. f.fused (disk_at s) ∷ bs) (set-fuses ss place at)
+
+  burned_behind : (choice : ℕ) (p : PeerPlan) (ps : List PeerPlan) (x : D) (xs ys : List D) (id : ℕ) → HasBurned f (honest_ids ps) choice (honest_disks ps xs) (honest_disks ps ys) id
+      → HasBurned f (honest_ids (p ∷ ps)) choice (honest_disks (p ∷ ps) (x ∷ xs)) (honest_disks (p ∷ ps) (x ∷ ys)) id
+  burned_behind choice p ps x xs ys id burned =
+      elim (cases_Bool p.corrupt) [
+        | inl bad ↦ record {
+          place = burned.place;
+          disk = burned.disk;
+          now = burned.now;
+          named = rw bad burned.named;
+          there = rw bad burned.there;
+          stays = rw bad burned.stays;
+          rose = burned.rose;
+          chosen = burned.chosen;
+        }
+        | inr good ↦ record {
+          place = suc burned.place;
+          disk = burned.disk;
+          now = burned.now;
+          named = rw good burned.named;
+          there = rw good burned.there;
+          stays = rw good burned.stays;
+          rose = burned.rose;
+          chosen = burned.chosen;
+        }
+      ]
+
+  -- a fuse burned on the disk of one host
+  module _ (h k : Host D) (choice : ℕ) (rose : Rose (f.burns (disk_in h)) (f.burns (disk_in k))) (chosen : f.choice (disk_in k) ≡ choice) where
+    burned_at : (peers : List PeerPlan) (seats : List (Seat D)) (place : ℕ) (rest : List D) → AreSeats peers seats → slice_get seats place ≡ Some (seat.Host h)
+        → HasBurned f (honest_ids peers) choice (honest_disks peers (disks_at seats ++ rest)) (honest_disks peers (disks_at (slice_set seats place (seat.Host k)) ++ rest)) h.peer.own.id
+    burned_at peers [] place rest are at = absurd cc
+    burned_at [] (s ∷ ss) place rest are at = absurd cc
+    burned_at (p ∷ ps) (seat.Idle d ∷ ss) zero rest are at = absurd cc
+    burned_at (p ∷ ps) (seat.Host x ∷ ss) zero rest are at =
+        let same : h ≡ x = cc in
+        let first : Some x.peer.own.id ≡ id_for p = cc in
+        let is = honest_seat p h.peer.own.id (ap (λ (y : Host D). Some y.peer.own.id) same ∙ first) in
+        record {
+          place = 0;
+          disk = disk_in h;
+          now = disk_in k;
+          named = rw is.good (ap Some is.named);
+          there = rw is.good (ap (λ (y : Host D). Some (disk_in y)) (sym same));
+          stays = rw is.good refl;
+          rose = rose;
+          chosen = chosen;
+        }
+    burned_at (p ∷ ps) (s ∷ ss) (suc place) rest are at =
+        let others : ids_at ss ≡ map id_for ps = cc in
+        burned_behind choice p ps (disk_at s) (disks_at ss ++ rest) (disks_at (slice_set ss place (seat.Host k)) ++ rest) h.peer.own.id (burned_at ps ss place rest others at)
+
+    pub burns_one : (id : ℕ) (seats : List (Seat D)) (place : ℕ) → slice_get seats place ≡ Some (seat.Host h) → h.peer.own.id ≡ id → BurnsAt f choice id seats (slice_set seats place (seat.Host k))
+    burns_one id seats place at same peers rest are =
+        subst (HasBurned f (honest_ids peers) choice (honest_disks peers (disks_at seats ++ rest)) (honest_disks peers (disks_at (slice_set seats place (seat.Host k)) ++ rest))) same (burned_at peers seats place rest are at)
 
   blames : {T : Type 0} (id : ℕ) (result : Result T WorldFault) → fault_in result ≡ Some (Disk id) → IsErrOf result (Disk id)
   blames id (Ok x) is = absurd cc

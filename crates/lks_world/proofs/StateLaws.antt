@@ -1,5 +1,5 @@
 -- The state is that of the kept events after each event.
-use Rattle.std.proofs.Common.{◌≡◌, ◌+◌, ◌≤◌, ◌<◌, ◌==◌, ◌∙◌, ap, sym, subst, ℕ, true, false, List, [], ◌∷◌, ◌++◌, length, drop, refl, arith, length-append}
+use Rattle.std.proofs.Common.{◌≡◌, ◌+◌, ◌≤◌, ◌<◌, ◌==◌, ◌∙◌, ap, sym, subst, ℕ, Bool, true, false, List, [], ◌∷◌, ◌++◌, length, drop, refl, arith, length-append}
 use Rattle.std.specs.Prelude.{Some, slice_get, not, filter, map}
 use Rattle.lks_world.proofs.HostLaws.{stayed, journal_there}
 use Rattle.lks_world.specs.Hosts.{HaveGoneOn, IsHostAt}
@@ -9,7 +9,7 @@ use Rattle.std.proofs.lemmas.List.{length-map, map-append, append-nil}
 use Rattle.lks_disk.specs.Face.{Face}
 use Rattle.lks_base.specs.declared.entries.Entry.{Entry}
 use Rattle.lks_base.specs.declared.events.Event.{Event}
-use Rattle.lks_base.specs.declared.events.Event.TheVariants.{Step, Tick, Lose, Forge}
+use Rattle.lks_base.specs.declared.events.Event.TheVariants.{Step, Cut, Tick, Lose, Forge, Crash}
 use Rattle.lks_base.specs.declared.events.PeerStep.{PeerStep}
 use Rattle.lks_base.specs.declared.events.PeerStep.TheVariants.{Deliver}
 use Rattle.lks_base.specs.declared.limits.TheConstants.{MOST_EVENTS, MOST_TICKS}
@@ -23,7 +23,7 @@ use Rattle.lks_law.specs.Batches.{with_batch, journal_at, batches_at}
 use Rattle.lks_law.specs.Due.{takes_out, is_pending, pending}
 use Rattle.lks_law.specs.Entries.{entry_of, entries}
 use Rattle.lks_law.proofs.Happening.{history_more}
-use Rattle.lks_law.specs.Histories.{IsHistory, MayStep, MayForge, MayHappen}
+use Rattle.lks_law.specs.Histories.{IsHistory, IsHonest, MayStep, MayForge, MayHappen}
 use Rattle.lks_law.specs.World.{World, world, happens, after_step, sent, effect_of, deed_of, sent_by, actor_of}
 use Rattle.lks_world.specs.declared.seats.Seat.{Seat}
 use Rattle.lks_world.specs.declared.states.State.{State}
@@ -70,6 +70,20 @@ same_bag w by = refl
 unchanged : (w : World) (envelope : ℕ) → happens w (Lose envelope) ≡ w
 unfolding happens
 unchanged w envelope = refl
+
+pub crashed : (w : World) (peer : ℕ) → happens w (Crash peer) ≡ w
+unfolding happens
+crashed w peer = refl
+
+quiet_bag : (w : World) (p : PeerStep) (is_kept : Bool) → length (happens w (Cut p is_kept)).bag ≡ length w.bag
+unfolding happens after_step
+quiet_bag w p true = refl
+quiet_bag w p false = refl
+
+quiet_tick : (w : World) (p : PeerStep) (is_kept : Bool) → (happens w (Cut p is_kept)).tick ≡ w.tick
+unfolding happens after_step
+quiet_tick w p true = refl
+quiet_tick w p false = refl
 
 module _ {D : Type 0} (f : Face D) where
   -- an event that put k envelopes into the bag
@@ -142,7 +156,7 @@ module _ {D : Type 0} (f : Face D) where
   became : (plan : Plan) (s t : State D) (e : Event) (k : ℕ) → IsStateOf f plan s → length (events_in s) < MOST_EVENTS → MayHappen plan (world_in f s) e → Happened s t e k → Becomes f plan (events_in s ++ e ∷ []) t
   became plan s t e k is room may h = record { state = kept plan s t e k is room may h; events = more_events s t e h.history }
 
-  same_hosts : (s t : State D) → t.seats.items ≡ s.seats.items → HaveGoneOn f (hosts_of s.seats.items) (hosts_of t.seats.items)
+  pub same_hosts : (s t : State D) → t.seats.items ≡ s.seats.items → HaveGoneOn f (hosts_of s.seats.items) (hosts_of t.seats.items)
   same_hosts s t seats = subst (λ (ss : List (Seat D)). HaveGoneOn f (hosts_of s.seats.items) (hosts_of ss)) (sym seats) (stayed f (hosts_of s.seats.items))
 
   pub became_step : (plan : Plan) (s t : State D) (p : PeerStep) → IsStateOf f plan s → length (events_in s) < MOST_EVENTS → MayStep plan (world_in f s) p → world_in f t ≡ happens (world_in f s) (Step p) → t.history.items ≡ s.history.items ++ entry_of (world_in f s) (Step p) ∷ [] → t.pending.items ≡ left_after p s.pending.items ++ range_with_len (length s.bag.items) (sends_in (world_in f s) p) → HaveGoneOn f (hosts_of s.seats.items) (hosts_of t.seats.items) → t.pool.now ≡ s.pool.now → Becomes f plan (events_in s ++ Step p ∷ []) t
@@ -182,6 +196,32 @@ module _ {D : Type 0} (f : Face D) where
         clock = let later = ap (λ (w : World). w.tick) world ∙ ticked (world_in f s) by in omega (arith, later, few);
         pool = pool;
         on = same_hosts s t hosts;
+      })
+
+  pub became_crash : (plan : Plan) (s t : State D) (peer : ℕ) → IsStateOf f plan s → length (events_in s) < MOST_EVENTS → IsHonest plan peer → world_in f t ≡ world_in f s → t.history.items ≡ s.history.items ++ entry_of (world_in f s) (Crash peer) ∷ [] → t.pending.items ≡ s.pending.items → HaveGoneOn f (hosts_of s.seats.items) (hosts_of t.seats.items) → t.pool.now ≡ s.pool.now → Becomes f plan (events_in s ++ Crash peer ∷ []) t
+  became_crash plan s t peer is room honest same history pending on pool =
+      became plan s t (Crash peer) 0 is room honest (record {
+        world = same ∙ sym (crashed (world_in f s) peer);
+        history = history;
+        pending = pending ∙ sym (pass_true s.pending.items) ∙ sym (append-nil (filter (λ i. true) s.pending.items));
+        grown = let size = ap (λ (w : World). length w.bag) same in omega (arith, size);
+        untouched = λ i le. refl;
+        clock = let tick = ap (λ (w : World). w.tick) same in omega (arith, tick);
+        pool = pool;
+        on = on;
+      })
+
+  pub became_cut : (plan : Plan) (s t : State D) (p : PeerStep) (is_kept : Bool) → IsStateOf f plan s → length (events_in s) < MOST_EVENTS → MayHappen plan (world_in f s) (Cut p is_kept) → world_in f t ≡ happens (world_in f s) (Cut p is_kept) → t.history.items ≡ s.history.items ++ entry_of (world_in f s) (Cut p is_kept) ∷ [] → t.pending.items ≡ left_after p s.pending.items → HaveGoneOn f (hosts_of s.seats.items) (hosts_of t.seats.items) → t.pool.now ≡ s.pool.now → Becomes f plan (events_in s ++ Cut p is_kept ∷ []) t
+  became_cut plan s t p is_kept is room may world history pending on pool =
+      became plan s t (Cut p is_kept) 0 is room may (record {
+        world = world;
+        history = history;
+        pending = pending ∙ left_by p s.pending.items ∙ sym (append-nil (filter (λ i. not (takes_out i (Step p))) s.pending.items));
+        grown = let size = ap (λ (w : World). length w.bag) world ∙ quiet_bag (world_in f s) p is_kept in omega (arith, size);
+        untouched = untouched_by plan (world_in f s) p may.0;
+        clock = let tick = ap (λ (w : World). w.tick) world ∙ quiet_tick (world_in f s) p is_kept in omega (arith, tick);
+        pool = pool;
+        on = on;
       })
 
   pub became_lose : (plan : Plan) (s t : State D) (envelope : ℕ) → IsStateOf f plan s → length (events_in s) < MOST_EVENTS → envelope < length s.bag.items → world_in f t ≡ happens (world_in f s) (Lose envelope) → t.history.items ≡ s.history.items ++ entry_of (world_in f s) (Lose envelope) ∷ [] → t.pending.items ≡ filter (λ i. not (i == envelope)) s.pending.items → t.seats.items ≡ s.seats.items → t.pool.now ≡ s.pool.now → Becomes f plan (events_in s ++ Lose envelope ∷ []) t

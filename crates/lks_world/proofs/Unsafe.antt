@@ -1,5 +1,5 @@
 -- Votes need not be over a version, and what an honest voter held can be replaced: in no world of a history, but in others.
-use Rattle.std.proofs.Common.{◌≡◌, ◌≤◌, ◌∙◌, sym, ap, ℕ, true, List, [], ◌∷◌, length, take, refl, arith}
+use Rattle.std.proofs.Common.{◌≡◌, ◌≤◌, ◌∙◌, sym, ap, ℕ, true, List, [], ◌∷◌, refl, arith}
 use Rattle.std.specs.Prelude.{Some, None, Ok}
 use Rattle.lks_base.specs.Checking.{has_member}
 use Rattle.lks_base.specs.declared.messages.Message.TheVariants as message

@@ -1,10 +1,12 @@
 pub mod Begun
-pub mod Bytes
 pub mod Counts
+pub mod Cuts
 pub mod Disks
+pub mod Endings
 pub mod Follows
 pub mod Held
 pub mod Hosts
+pub mod Kept
 pub mod Seats
 pub mod States
 pub mod Unsafe

@@ -2,11 +2,17 @@
 use Rattle.std.specs.Prelude.{◌≡◌, ◌<◌, ◌==◌, ◌++◌, ℕ, Bool, false, if◌then◌else◌, Option, Some, None, List, length, map, slice_get, slice_set, Result}
 use Rattle.std.specs.List.{filter_map}
 use Rattle.lks_disk.specs.Face.{Face}
+use Rattle.lks_base.specs.declared.events.Event.{Event}
+use Rattle.lks_base.specs.declared.events.PeerStep.{PeerStep}
+use Rattle.lks_base.specs.declared.limits.TheConstants.{MOST_EVENTS}
 use Rattle.lks_base.specs.declared.plans.PeerPlan.{PeerPlan}
+use Rattle.lks_base.specs.declared.plans.Plan.{Plan}
 use Rattle.lks_base.specs.declared.records.Record.{Record}
 use Rattle.lks_host.specs.declared.hosts.Host.{Host}
-use Rattle.lks_law.specs.World.{peer_at, with_records}
-use Rattle.lks_world.specs.Counts.{fault_in, ServesHonest}
+use Rattle.lks_law.specs.World.{peer_at, with_records, world}
+use Rattle.lks_world.specs.Counts.{fault_in, honest_ids, HasBurned, ServesHonest}
+use Rattle.lks_world.specs.Cuts.{taker_of, FallsShort}
+use Rattle.lks_world.specs.Disks.{honest_disks}
 use Rattle.lks_world.specs.Hosts.{peer_in, peers_of, with_added}
 use Rattle.lks_world.specs.declared.faults.WorldFault.{WorldFault}
 use Rattle.lks_world.specs.declared.seats.Seat.{Seat}
@@ -66,3 +72,13 @@ pub record StandsAt {D : Type 0} (f : Face D) (id : ℕ) (seats : List (Seat D))
   pub found : peer_at id (peers_of f (hosts_of seats)) ≡ Some (peer_in f host)
   pub sets : (k : Host D) → hosts_of (slice_set seats place (seat.Host k)) ≡ slice_set (hosts_of seats) rank k
   pub added : (added : List Record) (k : Host D) → peer_in f k ≡ with_added (peer_in f host) added → peers_of f (hosts_of (slice_set seats place (seat.Host k))) ≡ with_records id added (peers_of f (hosts_of seats))
+
+-- a fuse of this choice burned on the disk of this peer
+abbrev pub BurnsAt : {D : Type 0} → Face D → ℕ → ℕ → List (Seat D) → List (Seat D) → Type 0
+BurnsAt {D} f choice id before after = (peers : List PeerPlan) (rest : List D) → AreSeats peers before
+    → HasBurned f (honest_ids peers) choice (honest_disks peers (disks_at before ++ rest)) (honest_disks peers (disks_at after ++ rest)) id
+
+-- it did so where the power of the peer falls short in a step, and the step is an event
+abbrev pub SeatsBurn : {D : Type 0} → Face D → Plan → List Event → ℕ → ℕ → List (Seat D) → List (Seat D) → PeerStep → Type 0
+SeatsBurn f plan history calls choice before after s =
+    FallsShort plan history calls s → length history < MOST_EVENTS → BurnsAt f choice (taker_of (world plan history).bag s) before after

@@ -1,6 +1,5 @@
 -- Worlds that aren't safe, each in one way.
 use Rattle.std.specs.Prelude.{ℕ, true, Some, None, List, [], ◌∷◌}
-use Rattle.lks_base.specs.declared.events.Envelope.{Envelope}
 use Rattle.lks_base.specs.declared.names.HashKind.TheVariants.{Sha256}
 use Rattle.lks_base.specs.declared.plans.Rules.{Rules}
 use Rattle.lks_base.specs.declared.records.Record.{Record}

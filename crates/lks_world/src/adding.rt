@@ -5,13 +5,13 @@ ghost use Rattle.lks_base.specs.Checking.{has_corrupt, has_peer};
 ghost use Rattle.lks_base.specs.declared.events.Event.TheVariants as events;
 ghost use Rattle.lks_base.specs.declared.limits.TheConstants.{MOST_FORGED_BYTES, MOST_TICKS};
 ghost use Rattle.lks_base.specs.declared.plans.Plan.{Plan};
-ghost use Rattle.lks_law.specs.Histories.{MayStep, WasSent};
-ghost use Rattle.lks_world.specs.Follows.{kept};
+ghost use Rattle.lks_law.specs.Histories.{IsHonest, MayStep, WasSent};
+ghost use Rattle.lks_world.specs.Kept.{kept};
 ghost use Rattle.lks_world.specs.Seats.{Counted};
 ghost use Rattle.lks_world.specs.States.{IsStateOf, Becomes, Extends, events_in, world_in};
 
 use crate::faults::WorldFault;
-use crate::other_events::{forge, lose, tick};
+use crate::other_events::{crash, forge, lose, tick};
 use crate::states::{State, step};
 use lks_base::{Bytes, MOST_EVENTS, OutOfMemory, PeerId, PeerStep};
 use lks_disk::CrashDisk;
@@ -96,6 +96,19 @@ pub fn add_loss<D: CrashDisk>(state: &mut State<'_, D>, envelope: u32) -> Result
 {
     if room(state) > 0 {
         lose(state, envelope)?;
+    }
+    Ok(())
+}
+
+/// The crash of a peer that was reopened.
+pub fn add_crash<D: CrashDisk>(state: &mut State<'_, D>, peer: PeerId) -> Result<(), OutOfMemory>
+    ensures becomes { (plan : Plan) → IsStateOf D.face plan state.old → IsHonest plan peer →
+        OnOk result (Becomes D.face plan (kept (events_in state.old) (events.Crash peer)) state.new) }
+    ensures extends { (plan : Plan) → IsStateOf D.face plan state.old → IsHonest plan peer → Extends plan state.old.history.items state.new.history.items }
+    ensures seats { state.new.seats.items ≡ state.old.seats.items }
+{
+    if room(state) > 0 {
+        crash(state, peer)?;
     }
     Ok(())
 }

@@ -6,6 +6,7 @@ ghost use Rattle.lks_law.specs.Entries.{carried, sender_of, receiver_of};
 ghost use Rattle.lks_law.specs.Facts.{IsHeard};
 ghost use Rattle.lks_law.specs.World.{message_in, delivered, own_deed_of, deed_of};
 ghost use Rattle.lks_message.specs.Spelling.{IsWithin};
+ghost use Rattle.lks_world.specs.Cuts.{taker_of};
 
 use lks_base::{Envelope, Input, Judged, Message, OutOfMemory, PeerId, PeerStep};
 use lks_message::{MsgFault, decode};
@@ -136,5 +137,33 @@ pub fn ends_of(bag: &[Envelope], s: PeerStep) -> (PeerId, PeerId)
     match carried(bag, s) {
         Some(e) => (e.from, e.to),
         None => (0, 0),
+    }
+}
+
+fn receiver(bag: &[Envelope], envelope: u32) -> PeerId
+    ensures { result ≡ receiver_of (slice_get bag.now envelope) }
+{
+    match bag.get(envelope as usize) {
+        Some(e) => e.to,
+        None => 0,
+    }
+}
+
+/// Who takes a step: of a delivery the receiver.
+pub fn taker(bag: &[Envelope], s: PeerStep) -> PeerId
+    ensures { result ≡ taker_of bag.now s }
+{
+    match s {
+        PeerStep::Deliver { envelope, .. } => receiver(bag, envelope),
+        PeerStep::OpenPoll { peer, .. }
+        | PeerStep::Widen { peer, .. }
+        | PeerStep::Shut { peer, .. }
+        | PeerStep::Tally { peer, .. }
+        | PeerStep::Nudge { peer, .. }
+        | PeerStep::GiveUp { peer, .. }
+        | PeerStep::Work { peer, .. }
+        | PeerStep::Expire { peer, .. }
+        | PeerStep::Check { peer }
+        | PeerStep::Tune { peer, .. } => peer,
     }
 }

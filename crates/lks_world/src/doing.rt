@@ -1,23 +1,27 @@
 //! What a step of a script does to the state of a world.
 
-ghost use Rattle.std.specs.Prelude.{◌≡◌, true, None, Some, OnOk, IfSome, length, nat_lt};
+ghost use Rattle.std.specs.Prelude.{◌≡◌, ℕ, true, None, OnOk, IfSome};
 ghost use Rattle.lks_base.specs.Checking.{plan_fault};
 ghost use Rattle.lks_base.specs.declared.plans.Plan.{Plan as Planned};
 ghost use Rattle.lks_effort.specs.Verdicts.{first_byte};
 ghost use Rattle.lks_message.specs.Spelling.{IsWithin};
 ghost use Rattle.lks_script.specs.StepRules.{is_step_of};
-ghost use Rattle.lks_world.specs.Follows.{done, lost, delivered_again, next_event, spoken, IsSaying, MayBeSaid, Performs};
-ghost use Rattle.lks_world.specs.Seats.{Counted};
+ghost use Rattle.lks_saying.specs.Sayings.{IsSaying, MayBeSaid};
+ghost use Rattle.lks_world.specs.Follows.{done, lost, delivered_again, next_event, spoken, Performs};
+ghost use Rattle.lks_script.specs.declared.steps.CutStep.{CutStep};
+ghost use Rattle.lks_world.specs.Cuts.{step_cut};
+ghost use Rattle.lks_world.specs.Seats.{Counted, SeatsBurn};
 ghost use Rattle.lks_world.specs.States.{IsStateOf, Becomes, Extends, events_in, next_of};
 
 use crate::adding::{add_forgery, add_loss, add_step, add_ticks, room};
+use crate::cutting::{Power, crash, cut};
 use crate::faults::WorldFault;
-use crate::forging::{Saying, what_is_said};
-use crate::settling::{Course, delivery, first_waiting, next, step_of};
+use crate::settling::{Course, delivery, first_waiting, next, step_of, was_sent};
 use crate::states::{State, step};
 use lks_base::{MOST_EVENTS, OutOfMemory, Plan, Seq};
 use lks_disk::CrashDisk;
 use lks_message::encode;
+use lks_saying::{Saying, what_is_said};
 use lks_script::Step;
 use std::alloc::Global;
 use std::sync::Wait;
@@ -59,12 +63,6 @@ fn lose_first<D: CrashDisk>(state: &mut State<'_, D>) -> Result<(), OutOfMemory>
         Some(envelope) => add_loss(state, envelope),
         None => Ok(()),
     }
-}
-
-fn was_sent<D: CrashDisk>(state: &State<'_, D>, envelope: u32) -> bool
-    ensures { result ≡ nat_lt envelope (length state.now.bag.items) }
-{
-    (envelope as usize) < state.bag.as_slice().len()
 }
 
 /// Delivers an envelope that was sent, whether it waits or not.
@@ -142,6 +140,8 @@ pub fn do_step<R: Wait, D: CrashDisk>(
     ensures performs { OnOk result (Performs first_byte plan.now (events_in state.old) step.now (events_in state.new)) }
     ensures extends { Extends plan.now state.old.history.items state.new.history.items }
     ensures counted { Counted D.face state.old.seats.items state.new.seats.items result }
+    ensures burns { (calls choice : ℕ) (given : CutStep) → step.now ≡ Step.Cut calls choice given →
+        OnOk result (IfSome (step_cut first_byte plan.now (events_in state.old) given) (SeatsBurn D.face plan.now (events_in state.old) calls choice state.old.seats.items state.new.seats.items)) }
 {
     match step {
         Step::Peer(s) => add_step(alloc, rt, state, *s),
@@ -163,6 +163,17 @@ pub fn do_step<R: Wait, D: CrashDisk>(
         | Step::SayNominate { .. }
         | Step::SayVote { .. }
         | Step::SayRepair { .. } => Ok(say(alloc, plan, state, step)?),
-        Step::Crash { .. } | Step::Cut { .. } => unreachable!(),
+        Step::Crash { peer } => crash(rt, plan, state, *peer),
+        Step::Cut {
+            calls,
+            choice,
+            step,
+        } => {
+            let power = Power {
+                calls: *calls,
+                choice: *choice,
+            };
+            cut(alloc, rt, plan, state, *step, power)
+        }
     }
 }

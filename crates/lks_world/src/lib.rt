@@ -3,10 +3,10 @@
 
 mod adding;
 mod beginning;
+mod cutting;
 mod deeds;
 mod doing;
 mod faults;
-mod forging;
 mod laws;
 mod notes;
 mod other_events;

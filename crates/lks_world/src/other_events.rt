@@ -79,3 +79,16 @@ pub fn lose<D: CrashDisk>(state: &mut State<'_, D>, envelope: u32) -> Result<(),
     forget(&mut state.pending, envelope);
     note_down(&mut state.history, Event::Lose { envelope }, 0)
 }
+
+/// A peer was reopened after its power failed.
+#[tactic(auto, unfolding(lks_law::specs::World::happens, lks_law::specs::Entries::entry_of))]
+pub fn crash<D: CrashDisk>(state: &mut State<'_, D>, peer: PeerId) -> Result<(), OutOfMemory>
+    ensures seats { state.new.seats.items ≡ state.old.seats.items }
+    ensures pool { state.new.pool.now ≡ state.old.pool.now }
+    ensures world { OnOk result (world_in D.face state.new ≡ happens (world_in D.face state.old) (events.Crash peer)) }
+    ensures history { OnOk result (state.new.history.items ≡ state.old.history.items ++ entry_of (world_in D.face state.old) (events.Crash peer) ∷ []) }
+    ensures err { OnErr result (state.new.history.items ≡ state.old.history.items) }
+    ensures pending { OnOk result (state.new.pending.items ≡ state.old.pending.items) }
+{
+    note_down(&mut state.history, Event::Crash { peer }, 0)
+}

@@ -1,6 +1,6 @@
 //! What is due next, and how it is judged.
 
-ghost use Rattle.std.specs.Prelude.{◌≡◌, List, IfOk, option_map, slice_get};
+ghost use Rattle.std.specs.Prelude.{◌≡◌, List, IfOk, length, nat_lt, option_map, slice_get};
 ghost use Rattle.std.specs.List.{flat_map};
 ghost use Rattle.lks_base.specs.declared.events.Due.TheVariants as dues;
 ghost use Rattle.lks_base.specs.declared.events.Event.TheVariants as events;
@@ -158,6 +158,13 @@ pub fn first_waiting<D: CrashDisk>(state: &State<'_, D>) -> Option<u32>
     ensures { result ≡ slice_get state.now.pending.items 0 }
 {
     state.pending.as_slice().first().copied()
+}
+
+/// Whether the envelope was sent.
+pub fn was_sent<D: CrashDisk>(state: &State<'_, D>, envelope: u32) -> bool
+    ensures { result ≡ nat_lt envelope (length state.now.bag.items) }
+{
+    (envelope as usize) < state.bag.as_slice().len()
 }
 
 /// How it is chosen what comes next.

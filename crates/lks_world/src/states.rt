@@ -3,7 +3,7 @@
 ghost use Rattle.std.specs.Prelude.{◌≡◌, ◌++◌, ◌∷◌, [], Some, IfOk, IfSome, OnOk, OnErr, ◌==◌, length, filter, map, not};
 ghost use Rattle.std.specs.List.{range_with_len};
 ghost use Rattle.lks_base.specs.declared.events.Event.TheVariants as events;
-ghost use Rattle.lks_law.specs.Entries.{notes_at, notes_of, entry_of};
+ghost use Rattle.lks_law.specs.Entries.{carried, entry_for, notes_at, notes_of, entry_of};
 ghost use Rattle.lks_law.specs.World.{Standing, reaction_at, with_records, peer_at, sent_by, actor_of, effect_of, peers_after, happens};
 ghost use Rattle.lks_law.specs.Facts.{IsHeard};
 ghost use Rattle.lks_world.specs.Hosts.{peer_in, peers_of, IsReady, AreReady, GoesOn, HaveGoneOn, HasActed, with_added};
@@ -37,12 +37,12 @@ pub struct State<'a, D: CrashDisk> {
 
 /// What a deed did: the notes of the records that it added, and what it sends.
 #[derive(Drop)]
-struct Done {
-    notes: Seq<Note>,
-    sends: Seq<Outgoing>,
+pub struct Done {
+    pub notes: Seq<Note>,
+    pub sends: Seq<Outgoing>,
 }
 
-fn nothing_done(alloc: Global) -> Done
+pub fn nothing_done(alloc: Global) -> Done
     ensures notes { result.notes ≡ [] }
     ensures sends { result.sends ≡ [] }
 {
@@ -187,13 +187,47 @@ fn do_deed<R: Wait, D: CrashDisk>(
     }
 }
 
-fn actor(deed: &Option<Deed>) -> PeerId
+pub fn actor(deed: &Option<Deed>) -> PeerId
     ensures { result ≡ actor_of deed.now }
 {
     match deed {
         Some(deed) => deed.peer,
         None => 0,
     }
+}
+
+/// Notes down what a step did. What it sends goes into the bag, and an envelope that it delivers doesn't wait any more.
+pub fn note_step<D: CrashDisk>(
+    state: &mut State<'_, D>,
+    s: PeerStep,
+    event: Event,
+    actor: PeerId,
+    done: Done,
+) -> Result<(), OutOfMemory>
+    ensures seats { state.new.seats.items ≡ state.old.seats.items }
+    ensures pool { state.new.pool.now ≡ state.old.pool.now }
+    ensures tick { state.new.tick ≡ state.old.tick }
+    ensures bag { OnOk result (state.new.bag.items ≡ state.old.bag.items ++ map (sent_by actor) done.sends) }
+    ensures pending { OnOk result (state.new.pending.items ≡ left_after s state.old.pending.items ++ range_with_len (length state.old.bag.items) (length done.sends)) }
+    ensures history { OnOk result (state.new.history.items ≡ state.old.history.items ++ entry_for event (carried state.old.bag.items s) done.notes (length done.sends) ∷ []) }
+    ensures err { OnErr result (state.new.history.items ≡ state.old.history.items) }
+{
+    let (from, to) = ends_of(&state.bag, s);
+    let Done { notes, sends } = done;
+    let count = sends.as_slice().len();
+    if count > u32::MAX as usize {
+        return Err(OutOfMemory);
+    }
+    take_out(&mut state.pending, s);
+    send(&mut state.bag, &mut state.pending, actor, sends.as_slice())?;
+    state.history.push(Entry {
+        event,
+        from,
+        to,
+        notes,
+        sends: count as u32,
+    })?;
+    Ok(())
 }
 
 /// One step of a peer: its records are in its journal before its messages go into the bag. After want of
@@ -214,33 +248,7 @@ pub fn step<R: Wait, D: CrashDisk>(
     ensures counted { Counted D.face state.old.seats.items state.new.seats.items result }
     ensures pool { state.new.pool.now ≡ state.old.pool.now }
 {
-    let (from, to) = ends_of(&state.bag, s);
     let deed = make_deed(alloc, &state.bag, s)?;
-    let Done { notes, sends } = do_deed(
-        alloc,
-        rt,
-        state.pool,
-        &mut state.seats,
-        state.tick,
-        &deed,
-    )?;
-    let count = sends.as_slice().len();
-    if count > u32::MAX as usize {
-        return Err(WorldFault::Memory);
-    }
-    take_out(&mut state.pending, s);
-    send(
-        &mut state.bag,
-        &mut state.pending,
-        actor(&deed),
-        sends.as_slice(),
-    )?;
-    state.history.push(Entry {
-        event: Event::Step(s),
-        from,
-        to,
-        notes,
-        sends: count as u32,
-    })?;
-    Ok(())
+    let done = do_deed(alloc, rt, state.pool, &mut state.seats, state.tick, &deed)?;
+    Ok(note_step(state, s, Event::Step(s), actor(&deed), done)?)
 }

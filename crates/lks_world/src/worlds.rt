@@ -1,13 +1,15 @@
 //! A world as its callers see it: a plan, and the history of the events that it kept.
 
-ghost use Rattle.std.specs.Prelude.{◌≡◌, ◌≤◌, ◌++◌, [], true, None, Some, IfOk, IfErr, OnOk, List, length};
+ghost use Rattle.std.specs.Prelude.{◌≡◌, ◌≤◌, ◌++◌, [], ℕ, true, None, Some, IfOk, IfErr, IfSome, OnOk, List, length};
 ghost use Rattle.lks_base.specs.Checking.{plan_fault};
 ghost use Rattle.lks_base.specs.declared.events.Event.{Event};
 ghost use Rattle.lks_effort.specs.Verdicts.{first_byte};
 ghost use Rattle.lks_law.specs.Entries.{entries};
 ghost use Rattle.lks_law.specs.Histories.{IsHistory};
 ghost use Rattle.lks_script.specs.StepRules.{is_step_of};
-ghost use Rattle.lks_world.specs.Counts.{fault_in, ServesHonest};
+ghost use Rattle.lks_script.specs.declared.steps.CutStep.{CutStep};
+ghost use Rattle.lks_world.specs.Counts.{fault_in, BurnsInStep, ServesHonest};
+ghost use Rattle.lks_world.specs.Cuts.{step_cut};
 ghost use Rattle.lks_world.specs.Follows.{Performs};
 ghost use Rattle.lks_world.specs.Held.{AreFresh, AreUnfused, HaveBatches};
 
@@ -100,6 +102,9 @@ impl<'a, D: CrashDisk + Drop> World<'a, D> {
         ensures front { (more : List Event) × (self.new.history ≡ self.old.history ++ more) }
         ensures stopped { self.new.stopped ≡ fault_in result }
         ensures disks { ServesHonest D.face self.old.plan.peers self.old.disks self.new.disks (fault_in result) }
+        // Where a step is cut off, a fuse of its choice burned on the peer's disk.
+        ensures burns { (calls choice : ℕ) (given : CutStep) → step.now ≡ Step.Cut calls choice given →
+            OnOk result (IfSome (step_cut first_byte self.old.plan self.old.history given) (BurnsInStep D.face self.old.plan self.old.history calls choice self.old.disks self.new.disks)) }
     {
         match do_step(self.alloc, rt, &self.plan, &mut self.state, step) {
             Ok(()) => Ok(()),

@@ -1,5 +1,6 @@
 //! Whole runs: a script goes in, and a status and a report come out.
 
+mod crashes;
 mod disks;
 mod lists;
 mod peers;

@@ -1,10 +1,11 @@
 //! What runs leave on disks, and disks that fail.
 
 ghost use Rattle.std.specs.Prelude.{◌≤◌, length, IfOk};
-ghost use Rattle.lks_world.specs.Held.{AreFresh};
+ghost use Rattle.lks_world.specs.Held.{AreFresh, IsFresh};
 
+use super::crashes::ASKED;
 use super::*;
-use crate::fresh::{fresh_disk, fresh_disks};
+use crate::fresh::fresh_disks;
 use lks_base::Bytes;
 use lks_disk::{Disk, MemDisk};
 use lks_journal::Journal;
@@ -13,13 +14,20 @@ use lks_journal::Journal;
 const DEPOSIT: &[u8] =
     b"\xa5\x00\x00\x00\x0e\x00\x01\x01\x01\x00\x01\x00\x02\x00\x01\x41\x00\x01\x42\x00";
 
+/// An empty disk of which these writes and syncs fail, and these reads and questions for its length.
+fn faulty_disk(alloc: Global, fail: Vec<u32>, fail_reads: Vec<u32>) -> MemDisk
+    ensures { IsFresh ⟦<MemDisk as Disk>⟧.face result }
+{
+    MemDisk::faulty(alloc, fail, fail_reads)
+}
+
 /// Disks of which the first fails at these calls.
-fn failing_disks(alloc: Global, fail: &[u32]) -> Result<Vec<MemDisk>, Fail>
+fn failing_disks(alloc: Global, fail: &[u32], fail_reads: &[u32]) -> Result<Vec<MemDisk>, Fail>
     ensures enough { IfOk result (λ disks. 32 ≤ length disks.items) }
     ensures fresh { IfOk result (λ disks. AreFresh ⟦<MemDisk as Disk>⟧.face disks.items) }
 {
     let mut disks = Vec::new(alloc);
-    disks.push(fresh_disk(alloc, fail.to_vec(alloc)?))?;
+    disks.push(faulty_disk(alloc, fail.to_vec(alloc)?, fail_reads.to_vec(alloc)?))?;
     let mut others = fresh_disks(alloc)?;
     disks.append(&mut others)?;
     Ok(disks)
@@ -31,11 +39,12 @@ fn replay_on<R: Wait>(
     rt: &R,
     script: &[&str],
     fail: &[u32],
+    fail_reads: &[u32],
 ) -> Result<(Status, Option<MemDisk>), Fail> {
     let words = words_of(alloc, REPLAY)?;
     let mut source = MemSource::new(alloc, joined(alloc, script)?, [].to_vec(alloc)?);
     let mut sink = MemSink::new(alloc, [].to_vec(alloc)?);
-    let mut disks = failing_disks(alloc, fail)?;
+    let mut disks = failing_disks(alloc, fail, fail_reads)?;
     let status = run(alloc, rt, &words, &mut source, &mut sink, &mut disks);
     disks.truncate(1);
     Ok((status, disks.pop()))
@@ -55,7 +64,7 @@ fn batches_on(alloc: Global, disk: Option<MemDisk>) -> Result<Vec<Bytes>, Fail> 
 #[test]
 fn deposits_first(rt: HostRuntime) -> Result<(), Fail> {
     let alloc = rt.alloc();
-    let (status, disk) = replay_on(alloc, &rt, &[HEAD], &[])?;
+    let (status, disk) = replay_on(alloc, &rt, &[HEAD], &[], &[])?;
     assert_eq!(rt; status, Status::Done);
     let Some(disk) = disk else {
         return Err("a disk".into());
@@ -69,13 +78,13 @@ fn deposits_first(rt: HostRuntime) -> Result<(), Fail> {
 #[test]
 fn each_call_fails(rt: HostRuntime) -> Result<(), Fail> {
     let alloc = rt.alloc();
-    let (status, _disk) = replay_on(alloc, &rt, &[HEAD, AGREED], &[31])?;
+    let (status, _disk) = replay_on(alloc, &rt, &[HEAD, AGREED], &[31], &[])?;
     assert_eq!(rt; status, Status::Done);
-    let (_status, disk) = replay_on(alloc, &rt, &[HEAD, AGREED], &[])?;
+    let (_status, disk) = replay_on(alloc, &rt, &[HEAD, AGREED], &[], &[])?;
     let whole = batches_on(alloc, disk)?;
     assert_eq!(rt; whole.len(), 7);
     for call in 1..31u32 {
-        let (status, disk) = replay_on(alloc, &rt, &[HEAD, AGREED], &[call])?;
+        let (status, disk) = replay_on(alloc, &rt, &[HEAD, AGREED], &[call], &[])?;
         assert_eq!(rt; status, Status::DiskFault { peer: 1 }, "call {call}");
         if call < 3 {
             continue;
@@ -88,5 +97,15 @@ fn each_call_fails(rt: HostRuntime) -> Result<(), Fail> {
             assert_eq!(rt; batch.as_slice(), wanted.as_slice(), "call {call}");
         }
     }
+    Ok(())
+}
+
+// The peer is cut off, and the first read of its disk fails when it is reopened.
+#[test]
+fn a_read_fails_at_the_reopening(rt: HostRuntime) -> Result<(), Fail> {
+    let alloc = rt.alloc();
+    let script = [HEAD, ASKED, "cut 0 0 next\nagain 7\nsettle\n"];
+    let (status, _disk) = replay_on(alloc, &rt, &script, &[], &[1])?;
+    assert_eq!(rt; status, Status::DiskFault { peer: 1 });
     Ok(())
 }

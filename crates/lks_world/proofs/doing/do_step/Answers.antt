@@ -1,8 +1,8 @@
-use Rattle.std.proofs.Common.{◌∙◌, inl, inr, sym, ap, subst}
+use Rattle.std.proofs.Common.{◌∙◌, sym, ap, subst}
 use Rattle.lks_effort.specs.Verdicts.{first_byte}
 use Rattle.lks_script.specs.declared.steps.Step.TheVariants as step
 use Rattle.lks_world.proofs.HostLaws.{ok_then}
-use Rattle.lks_world.proofs.OwnSteps.{step_may, ticks_within, forgery_may, no_crash, no_cut}
+use Rattle.lks_world.proofs.OwnSteps.{step_may, ticks_within, forgery_may, crash_may, cut_legal}
 use Rattle.lks_world.specs.Follows.{Performs}
 use Rattle.lks_world.specs.States.{events_in, world_in}
 use Rattle.lks_world.proofs.doing.do_step.Goals as goal
@@ -13,11 +13,11 @@ add_ticks-requires-clause-some g c = λ κs within. (ticks_within c.args.plan.no
 pub add_ticks-requires-clause-few : goal.add_ticks-requires-clause-few
 add_ticks-requires-clause-few g c = λ κs within. (ticks_within c.args.plan.now c.args.step.now c.in-Tick.by c.in-Tick.is c.requires.legal).1
 
-pub unreachable-requires : goal.unreachable-requires
-unreachable-requires g c = elim c.in-Crash.is [
-  | inl crash ↦ no_crash c.args.plan.now c.args.step.now crash.0 crash.1 c.requires.legal
-  | inr cut ↦ no_cut c.args.plan.now c.args.step.now cut.0 cut.1 cut.2 cut.3 c.requires.legal
-]
+pub crash-requires-clause-honest : goal.crash-requires-clause-honest
+crash-requires-clause-honest g c κs within = crash_may c.args.plan.now c.args.step.now c.in-Crash.peer c.in-Crash.is c.requires.legal
+
+pub cut-requires-clause-legal : goal.cut-requires-clause-legal
+cut-requires-clause-legal g c κs within = cut_legal c.args.plan.now c.args.step.now c.in-Cut.calls c.in-Cut.choice c.in-Cut.step c.in-Cut.is c.requires.legal
 
 pub returns-in-Peer-clause-state : goal.returns-in-Peer-clause-state
 returns-in-Peer-clause-state g c =

@@ -1,7 +1,8 @@
 use Rattle.std.proofs.Common.{◌≡◌, subst}
 use Rattle.lks_effort.specs.Verdicts.{first_byte}
 use Rattle.lks_world.proofs.HostLaws.{ok_then}
-use Rattle.lks_world.proofs.OwnSteps.{said_may, says}
+use Rattle.lks_saying.proofs.Ends.{said_may}
+use Rattle.lks_world.proofs.OwnSteps.{says}
 use Rattle.lks_world.specs.Follows.{spoken}
 use Rattle.lks_world.specs.States.{events_in}
 use Rattle.lks_world.proofs.doing.say.Goals as goal

@@ -1,9 +1,13 @@
 use Rattle.std.proofs.Common.{◌∙◌, ◌++◌, ap, arith, length, subst}
-use Rattle.std.specs.Prelude.{Some, None, reverse}
+use Rattle.std.specs.Prelude.{Some, None, IfSome, reverse}
 use Rattle.std.proofs.lemmas.List.{length-map}
+use Rattle.lks_effort.specs.Verdicts.{first_byte}
+use Rattle.lks_world.proofs.CutLaws.{if_some}
 use Rattle.lks_world.proofs.FuseLaws.{same_fuses}
 use Rattle.lks_world.proofs.SeatLaws.{fuses_joined}
-use Rattle.lks_world.specs.Counts.{ServesHonest}
+use Rattle.lks_world.specs.Counts.{BurnsInStep, ServesHonest}
+use Rattle.lks_world.specs.Cuts.{step_cut}
+use Rattle.lks_world.specs.States.{events_in}
 use Rattle.lks_world.specs.Seats.{disks_at, id_at}
 use Rattle.lks_world.specs.Worlds.{Seen}
 use Rattle.lks_world.proofs.worlds.World.perform.Goals as goal
@@ -19,6 +23,15 @@ returns-in-Err-clause-disks g c =
     let a = c.self.inside in
     subst (λ (v : Seen g.row.D.Denot). ServesHonest g.D.Disk.face v.plan.peers v.disks (disks_at c.do_step.new.state.seats.items ++ reverse a.rest.items) (Some c.in-Err.fault)) c.self.view_is
     (c.in-Err.ensures.counted.serves a.plan.peers (reverse a.rest.items) c.self.invariant.seats)
+
+pub returns-in-Ok-clause-burns : goal.returns-in-Ok-clause-burns
+returns-in-Ok-clause-burns g c = λ calls choice given is.
+    let f = g.D.Disk.face in
+    let a = c.self.inside in
+    let disks = disks_at c.do_step.new.state.seats.items ++ reverse a.rest.items in
+    subst (λ (v : Seen g.row.D.Denot). IfSome (step_cut first_byte v.plan v.history given) (BurnsInStep f v.plan v.history calls choice v.disks disks)) c.self.view_is
+    (if_some (step_cut first_byte a.plan (events_in a.state) given) (λ s burns short room. burns short room a.plan.peers (reverse a.rest.items) c.self.invariant.seats)
+    (c.in-Ok.ensures.burns calls choice given is))
 
 pub invariant_of-self : goal.invariant_of-self
 invariant_of-self g c =

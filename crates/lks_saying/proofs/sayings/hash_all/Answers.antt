@@ -1,7 +1,7 @@
 use Rattle.std.proofs.Common.{arith}
 use Rattle.std.proofs.lemmas.Grind.{common_steps}
 use Rattle.lks_hash.proofs.RunningLaws.{hashes_more, running_more}
-use Rattle.lks_world.proofs.forging.hash_all.Goals as goal
+use Rattle.lks_saying.proofs.sayings.hash_all.Goals as goal
 
 pub loop-block-preserved : goal.loop-block-preserved
 loop-block-preserved g c =

@@ -25,9 +25,9 @@ use Rattle.lks_message.proofs.Lengths.{short_spelling, length-spelling_vote, len
 use Rattle.lks_script.specs.StepRules.{is_said, is_said_vote, is_repair, is_nomination, is_step_of}
 use Rattle.lks_script.specs.declared.steps.Step.{Step}
 use Rattle.lks_script.specs.declared.steps.Step.TheVariants as step
-use Rattle.lks_world.proofs.Hashed.{no_bytes, cons_bytes, append_bytes, joined_bytes, number_bytes, IsHash, is_hash}
-use Rattle.lks_world.specs.Bytes.{AreBytes, GivesBytes}
-use Rattle.lks_world.specs.Follows.{planned, proof_by, count_for, vote_by, said_by}
+use Rattle.lks_saying.proofs.Hashed.{no_bytes, cons_bytes, append_bytes, joined_bytes, number_bytes, IsHash, is_hash}
+use Rattle.lks_saying.specs.Bytes.{AreBytes, GivesBytes}
+use Rattle.lks_saying.specs.Sayings.{planned, proof_by, count_for, vote_by, said_by}
 
 -- ---- messages
 

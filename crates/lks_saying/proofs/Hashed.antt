@@ -9,7 +9,7 @@ use Rattle.sha2.proofs.Facts512.{length-sha512_256}
 use Rattle.sha2.specs.Sha256.{sha256, initial_hash_256, digest_bytes as digest_256, final_hash as final_256}
 use Rattle.sha2.specs.Sha512.{sha512_256, initial_hash_512_256, digest_bytes as digest_512, final_hash as final_512}
 use Rattle.lks_hash.specs.Hashes.{hash_of}
-use Rattle.lks_world.specs.Bytes.{AreBytes}
+use Rattle.lks_saying.specs.Bytes.{AreBytes}
 
 -- ---- lists of bytes
 

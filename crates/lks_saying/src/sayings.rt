@@ -9,7 +9,7 @@ ghost use Rattle.lks_hash.specs.Running.{hashes_of};
 ghost use Rattle.lks_message.specs.Spelling.{IsWithin};
 ghost use Rattle.lks_base.specs.declared.limits.TheConstants.{LAST_BLOCK, MOST_BLOCKS, MOST_BLOCK_BYTES, MOST_NOMINEES, MOST_PROOF_BYTES};
 ghost use Rattle.lks_script.specs.StepRules.{is_step_of};
-ghost use Rattle.lks_world.specs.Follows.{saying, planned, proof_by, count_for, vote_over, vote_by, said_by};
+ghost use Rattle.lks_saying.specs.Sayings.{saying, planned, proof_by, count_for, vote_over, vote_by, said_by};
 
 use lks_base::{
     AuId, AuPlan, Bytes, Hashes, Ids, Message, OutOfMemory, PeerId, PeerPlan, Plan, Seq,
@@ -92,7 +92,7 @@ pub struct Saying {
 }
 
 impl Model for Saying {
-    ghost use Rattle.lks_world.specs.Follows.{Saying as Said};
+    ghost use Rattle.lks_saying.specs.Sayings.{Saying as Said};
 
     ghost Value = { Said };
 
@@ -238,7 +238,7 @@ fn say_repair(
 }
 
 /// What a corrupt peer says in a step, if it says something.
-#[tactic(auto, unfolding(crate::specs::Follows::said_by, lks_script::specs::StepRules::is_step_of, lks_script::specs::StepRules::is_request, lks_script::specs::StepRules::is_said_vote, lks_script::specs::StepRules::is_nomination, lks_script::specs::StepRules::is_repair))]
+#[tactic(auto, unfolding(crate::specs::Sayings::said_by, lks_script::specs::StepRules::is_step_of, lks_script::specs::StepRules::is_request, lks_script::specs::StepRules::is_said_vote, lks_script::specs::StepRules::is_nomination, lks_script::specs::StepRules::is_repair))]
 pub fn what_is_said(alloc: Global, plan: &Plan, step: &Step) -> Result<Option<Saying>, OutOfMemory>
     requires good { plan_fault plan.now ≡ None }
     requires legal { is_step_of plan.now step.now ≡ true }

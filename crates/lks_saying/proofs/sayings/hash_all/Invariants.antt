@@ -1,6 +1,6 @@
 use Rattle.std.proofs.Common.{◌≡◌, take}
 use Rattle.lks_hash.specs.Running.{running, hashes_of}
-use Rattle.lks_world.proofs.forging.hash_all.Given as goal
+use Rattle.lks_saying.proofs.sayings.hash_all.Given as goal
 
 abbrev pub invariant-loop-block : goal.invariant-loop-block
 invariant-loop-block g l = record {

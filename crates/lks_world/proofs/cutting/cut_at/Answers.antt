@@ -1,0 +1,52 @@
+use Rattle.lks_world.proofs.SeatEnds.{peers_end, seats_burn}
+use Rattle.lks_world.proofs.HostLaws.{ok_then}
+use Rattle.lks_world.proofs.SeatLaws.{acts_at, acts_there, acts_ranked, acts_on, counted_one}
+use Rattle.lks_world.proofs.cutting.cut_at.Goals as goal
+
+pub cut_as-requires-clause-ready : goal.cut_as-requires-clause-ready
+cut_as-requires-clause-ready g c = λ κs lives.
+    let f = g.D.Disk.face in
+    let seats = c.args.seats.now.items in
+    let h = c.in-Host.host in
+    let acts = acts_at f c.args.id c.deref.result.now seats c.in-Some.place c.index_mut.result.now c.deref.ensures.value c.in-Some.ensures c.index_mut.ensures.value h c.in-Host.is in
+    c.requires.ready acts.stands.rank h (acts_ranked f c.args.id seats c.in-Some.place h acts)
+
+pub cut_as-requires-clause-made : goal.cut_as-requires-clause-made
+cut_as-requires-clause-made g c = λ κs lives.
+    let f = g.D.Disk.face in
+    let seats = c.args.seats.now.items in
+    let h = c.in-Host.host in
+    let acts = acts_at f c.args.id c.deref.result.now seats c.in-Some.place c.index_mut.result.now c.deref.ensures.value c.in-Some.ensures c.index_mut.ensures.value h c.in-Host.is in
+    c.requires.made acts.stands.rank h (acts_ranked f c.args.id seats c.in-Some.place h acts)
+
+pub returns-clause-ends : goal.returns-clause-ends
+returns-clause-ends g c =
+    let f = g.D.Disk.face in
+    let seats = c.args.seats.now.items in
+    let h = c.in-Host.host in
+    let acts = acts_at f c.args.id c.deref.result.now seats c.in-Some.place c.index_mut.result.now c.deref.ensures.value c.in-Some.ensures c.index_mut.ensures.value h c.in-Host.is in
+    peers_end f c.args.id seats c.in-Some.place h acts c.cut_as.new.host c.args.tick c.args.deed.now c.args.power.calls c.cut_as.result c.requires.whose c.cut_as.ensures.ends
+
+pub returns-clause-on : goal.returns-clause-on
+returns-clause-on g c =
+    let f = g.D.Disk.face in
+    let seats = c.args.seats.now.items in
+    let h = c.in-Host.host in
+    let acts = acts_at f c.args.id c.deref.result.now seats c.in-Some.place c.index_mut.result.now c.deref.ensures.value c.in-Some.ensures c.index_mut.ensures.value h c.in-Host.is in
+    ok_then c.cut_as.result (acts_on f c.args.id seats c.in-Some.place h acts c.cut_as.new.host) c.cut_as.ensures.on
+
+pub returns-clause-counted : goal.returns-clause-counted
+returns-clause-counted g c =
+    let f = g.D.Disk.face in
+    let seats = c.args.seats.now.items in
+    let h = c.in-Host.host in
+    let acts = acts_at f c.args.id c.deref.result.now seats c.in-Some.place c.index_mut.result.now c.deref.ensures.value c.in-Some.ensures c.index_mut.ensures.value h c.in-Host.is in
+    counted_one f seats c.in-Some.place h c.cut_as.new.host c.cut_as.result (acts_there f c.args.id seats c.in-Some.place h acts) c.cut_as.ensures.acted
+
+pub returns-clause-burns : goal.returns-clause-burns
+returns-clause-burns g c =
+    let f = g.D.Disk.face in
+    let seats = c.args.seats.now.items in
+    let h = c.in-Host.host in
+    let acts = acts_at f c.args.id c.deref.result.now seats c.in-Some.place c.index_mut.result.now c.deref.ensures.value c.in-Some.ensures c.index_mut.ensures.value h c.in-Host.is in
+    seats_burn f c.args.id seats c.in-Some.place h acts c.cut_as.new.host c.args.power.choice c.cut_as.result c.cut_as.ensures.burns

@@ -1,0 +1,145 @@
+use Rattle.std.proofs.Common.{◌≡◌, ◌-◌, ◌<◌, ◌∙◌, ap, sym, subst, ℕ, [], ◌∷◌, List, length, arith}
+use Rattle.std.specs.Prelude.{IsSome, None, Ok, Err}
+use Rattle.std.proofs.lemmas.Result.{err_from_is_err_and}
+use Rattle.lks_base.specs.declared.events.Envelope.{Envelope}
+use Rattle.lks_base.specs.declared.events.Event.TheVariants as events
+use Rattle.lks_base.specs.declared.limits.TheConstants.{MOST_EVENTS}
+use Rattle.lks_law.specs.Histories.{IsHonest}
+use Rattle.lks_law.specs.World.{peer_at}
+use Rattle.lks_world.proofs.Ending.{counted_as, counted_still, cuts_short, cuts_whole, no_short, nobody_there, not_short, on_ok, somebody_there, taker_honest}
+use Rattle.lks_world.proofs.Keeping.{extends_by, extends_then, room_left}
+use Rattle.lks_world.specs.Cuts.{taker_of}
+use Rattle.lks_world.specs.Endings.{HasEnded}
+use Rattle.lks_world.specs.Hosts.{peers_of}
+use Rattle.lks_world.specs.Kept.{kept}
+use Rattle.lks_world.specs.Seats.{hosts_of}
+use Rattle.lks_world.specs.States.{events_in, Becomes}
+use Rattle.lks_world.specs.declared.faults.WorldFault.TheVariants.{Memory}
+use Rattle.lks_world.specs.declared.seats.Seat.{Seat}
+use Rattle.lks_world.proofs.cutting.cut_off.Goals as goal
+
+pub returns-then-is_none-clause-burns : goal.returns-then-is_none-clause-burns
+returns-then-is_none-clause-burns g c =
+    let f = g.D.Disk.face in
+    let plan = c.args.plan.now in
+    let s = c.args.state.now in
+    let p = c.args.s in
+    let is = c.requires.state in
+    let id : c.taker-id.result ≡ taker_of s.bag.items p = c.taker-id.ensures ∙ ap (λ (b : List Envelope). taker_of b p) c.deref.ensures.value in
+    let none : peer_at (taker_of s.bag.items p) (peers_of f (hosts_of s.seats.items)) ≡ None =
+    subst (λ (n : ℕ). peer_at n (peers_of f (hosts_of s.seats.items)) ≡ None) id
+    (subst (λ (ss : List (Seat g.row.D.Denot)). peer_at c.taker-id.result (peers_of f (hosts_of ss)) ≡ None) c.deref-2.ensures.value
+    (nobody_there f c.taker-id.result c.deref-2.result.now c.place_of.result c.if-is_none.ensures c.place_of.ensures)) in
+    on_ok c.add_step.result (λ short room. absurd (no_short f plan s p c.args.power.calls is none short))
+
+pub returns-in_err-cut_there-clause-counted : goal.returns-in_err-cut_there-clause-counted
+returns-in_err-cut_there-clause-counted g c =
+    let p = err_from_is_err_and c.from_residual.result c.from_residual.ensures.1 in
+    rw (p.1, p.2) (counted_as g.D.Disk.face c.args.state.now.seats.items c.cut_there.new.state.seats.items c.in_err-cut_there.field-0.0 c.in_err-cut_there.ensures.counted)
+
+pub returns-in_err-add_crash-clause-extends : goal.returns-in_err-add_crash-clause-extends
+returns-in_err-add_crash-clause-extends g c =
+    let f = g.D.Disk.face in
+    let plan = c.args.plan.now in
+    let s = c.args.state.now in
+    let p = c.args.s in
+    let is = c.requires.state in
+    let id : c.taker-id.result ≡ taker_of s.bag.items p = c.taker-id.ensures ∙ ap (λ (b : List Envelope). taker_of b p) c.deref.ensures.value in
+    let there : IsSome (peer_at (taker_of s.bag.items p) (peers_of f (hosts_of s.seats.items))) =
+    subst (λ (n : ℕ). IsSome (peer_at n (peers_of f (hosts_of s.seats.items)))) id
+    (subst (λ (ss : List (Seat g.row.D.Denot)). IsSome (peer_at c.taker-id.result (peers_of f (hosts_of ss)))) c.deref-2.ensures.value
+    (somebody_there f c.taker-id.result c.deref-2.result.now c.place_of.result c.if-is_none.ensures c.place_of.ensures)) in
+    let m = c.cut_there.new.state in
+    let end = subst (HasEnded f plan c.args.power.calls s p m) c.if-branch.true c.in_ok-cut_there.ensures.ended in
+    let honest = subst (IsHonest plan) (sym id) (taker_honest f plan s p c.args.power.calls is there) in
+    extends_then plan s.history.items m.history.items c.add_crash.new.state.history.items (extends_by f plan s m (events.Step p ∷ []) end.0.state end.0.events)
+    (c.in_err-add_crash.ensures.extends plan end.0.state honest)
+
+pub returns-in_err-add_crash-clause-counted : goal.returns-in_err-add_crash-clause-counted
+returns-in_err-add_crash-clause-counted g c =
+    let p = err_from_is_err_and c.from_residual-in_err-add_crash.result c.from_residual-in_err-add_crash.ensures.1 in
+    rw (p.1, p.2)
+    (counted_still {T = Unit {0}} g.D.Disk.face c.args.state.now.seats.items c.cut_there.new.state.seats.items c.add_crash.new.state.seats.items (Ok c.in_ok-cut_there.field-0) (Err Memory)
+    c.in_ok-cut_there.ensures.counted c.in_err-add_crash.ensures.seats (λ id is. absurd cc))
+
+pub returns-in_ok-add_crash-clause-state : goal.returns-in_ok-add_crash-clause-state
+returns-in_ok-add_crash-clause-state g c =
+    let f = g.D.Disk.face in
+    let plan = c.args.plan.now in
+    let s = c.args.state.now in
+    let p = c.args.s in
+    let is = c.requires.state in
+    let id : c.taker-id.result ≡ taker_of s.bag.items p = c.taker-id.ensures ∙ ap (λ (b : List Envelope). taker_of b p) c.deref.ensures.value in
+    let there : IsSome (peer_at (taker_of s.bag.items p) (peers_of f (hosts_of s.seats.items))) =
+    subst (λ (n : ℕ). IsSome (peer_at n (peers_of f (hosts_of s.seats.items)))) id
+    (subst (λ (ss : List (Seat g.row.D.Denot)). IsSome (peer_at c.taker-id.result (peers_of f (hosts_of ss)))) c.deref-2.ensures.value
+    (somebody_there f c.taker-id.result c.deref-2.result.now c.place_of.result c.if-is_none.ensures c.place_of.ensures)) in
+    let m = c.cut_there.new.state in
+    let end = subst (HasEnded f plan c.args.power.calls s p m) c.if-branch.true c.in_ok-cut_there.ensures.ended in
+    let honest = subst (IsHonest plan) (sym id) (taker_honest f plan s p c.args.power.calls is there) in
+    (c.in_ok-add_crash.ensures.becomes plan end.0.state honest).state
+
+pub returns-in_ok-add_crash-clause-cuts : goal.returns-in_ok-add_crash-clause-cuts
+returns-in_ok-add_crash-clause-cuts g c =
+    let f = g.D.Disk.face in
+    let plan = c.args.plan.now in
+    let s = c.args.state.now in
+    let p = c.args.s in
+    let is = c.requires.state in
+    let id : c.taker-id.result ≡ taker_of s.bag.items p = c.taker-id.ensures ∙ ap (λ (b : List Envelope). taker_of b p) c.deref.ensures.value in
+    let there : IsSome (peer_at (taker_of s.bag.items p) (peers_of f (hosts_of s.seats.items))) =
+    subst (λ (n : ℕ). IsSome (peer_at n (peers_of f (hosts_of s.seats.items)))) id
+    (subst (λ (ss : List (Seat g.row.D.Denot)). IsSome (peer_at c.taker-id.result (peers_of f (hosts_of ss)))) c.deref-2.ensures.value
+    (somebody_there f c.taker-id.result c.deref-2.result.now c.place_of.result c.if-is_none.ensures c.place_of.ensures)) in
+    let m = c.cut_there.new.state in
+    let end = subst (HasEnded f plan c.args.power.calls s p m) c.if-branch.true c.in_ok-cut_there.ensures.ended in
+    let honest = subst (IsHonest plan) (sym id) (taker_honest f plan s p c.args.power.calls is there) in
+    let room : 0 < MOST_EVENTS - length s.history.items = omega (arith, c.room.ensures, c.if-room-eq0.false) in
+    cuts_whole f plan s p c.args.power.calls is m c.add_crash.new.state (room_left f s room) there end
+    (subst (λ (n : ℕ). Becomes f plan (kept (events_in m) (events.Crash n)) c.add_crash.new.state) id (c.in_ok-add_crash.ensures.becomes plan end.0.state honest))
+
+pub returns-in_ok-add_crash-clause-extends : goal.returns-in_ok-add_crash-clause-extends
+returns-in_ok-add_crash-clause-extends g c =
+    let f = g.D.Disk.face in
+    let plan = c.args.plan.now in
+    let s = c.args.state.now in
+    let p = c.args.s in
+    let is = c.requires.state in
+    let id : c.taker-id.result ≡ taker_of s.bag.items p = c.taker-id.ensures ∙ ap (λ (b : List Envelope). taker_of b p) c.deref.ensures.value in
+    let there : IsSome (peer_at (taker_of s.bag.items p) (peers_of f (hosts_of s.seats.items))) =
+    subst (λ (n : ℕ). IsSome (peer_at n (peers_of f (hosts_of s.seats.items)))) id
+    (subst (λ (ss : List (Seat g.row.D.Denot)). IsSome (peer_at c.taker-id.result (peers_of f (hosts_of ss)))) c.deref-2.ensures.value
+    (somebody_there f c.taker-id.result c.deref-2.result.now c.place_of.result c.if-is_none.ensures c.place_of.ensures)) in
+    let m = c.cut_there.new.state in
+    let end = subst (HasEnded f plan c.args.power.calls s p m) c.if-branch.true c.in_ok-cut_there.ensures.ended in
+    let honest = subst (IsHonest plan) (sym id) (taker_honest f plan s p c.args.power.calls is there) in
+    extends_then plan s.history.items m.history.items c.add_crash.new.state.history.items (extends_by f plan s m (events.Step p ∷ []) end.0.state end.0.events)
+    (c.in_ok-add_crash.ensures.extends plan end.0.state honest)
+
+pub returns-in_ok-add_crash-clause-counted : goal.returns-in_ok-add_crash-clause-counted
+returns-in_ok-add_crash-clause-counted g c =
+    counted_still {T = Unit {0}} g.D.Disk.face c.args.state.now.seats.items c.cut_there.new.state.seats.items c.add_crash.new.state.seats.items (Ok c.in_ok-cut_there.field-0) (Ok tt)
+    c.in_ok-cut_there.ensures.counted c.in_ok-add_crash.ensures.seats (λ id is. absurd cc)
+
+pub returns-in_ok-add_crash-clause-burns : goal.returns-in_ok-add_crash-clause-burns
+returns-in_ok-add_crash-clause-burns g c = λ short room.
+    let f = g.D.Disk.face in
+    let end = subst (HasEnded f c.args.plan.now c.args.power.calls c.args.state.now c.args.s c.cut_there.new.state) c.if-branch.true c.in_ok-cut_there.ensures.ended in
+    absurd (not_short f c.args.plan.now c.args.state.now c.args.s c.args.power.calls c.requires.state c.cut_there.new.state end short)
+
+pub returns-else-branch-clause-cuts : goal.returns-else-branch-clause-cuts
+returns-else-branch-clause-cuts g c =
+    let f = g.D.Disk.face in
+    let plan = c.args.plan.now in
+    let s = c.args.state.now in
+    let p = c.args.s in
+    let is = c.requires.state in
+    let id : c.taker-id.result ≡ taker_of s.bag.items p = c.taker-id.ensures ∙ ap (λ (b : List Envelope). taker_of b p) c.deref.ensures.value in
+    let there : IsSome (peer_at (taker_of s.bag.items p) (peers_of f (hosts_of s.seats.items))) =
+    subst (λ (n : ℕ). IsSome (peer_at n (peers_of f (hosts_of s.seats.items)))) id
+    (subst (λ (ss : List (Seat g.row.D.Denot)). IsSome (peer_at c.taker-id.result (peers_of f (hosts_of ss)))) c.deref-2.ensures.value
+    (somebody_there f c.taker-id.result c.deref-2.result.now c.place_of.result c.if-is_none.ensures c.place_of.ensures)) in
+    let m = c.cut_there.new.state in
+    let end = subst (HasEnded f plan c.args.power.calls s p m) c.if-branch.false c.in_ok-cut_there.ensures.ended in
+    let room : 0 < MOST_EVENTS - length s.history.items = omega (arith, c.room.ensures, c.if-room-eq0.false) in
+    cuts_short f plan s p c.args.power.calls is m (room_left f s room) there end

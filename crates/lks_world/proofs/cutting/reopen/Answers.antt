@@ -1,0 +1,57 @@
+use Rattle.std.proofs.Common.{◌≡◌, ◌∙◌, sym, []}
+use Rattle.lks_world.proofs.Ending.{nothing_added, with_nothing}
+use Rattle.lks_world.proofs.HostLaws.{ok_then, stayed}
+use Rattle.lks_world.proofs.SeatLaws.{acts_at, never_idle, acts_there, acts_ranked, acts_added, acts_on, counted_one}
+use Rattle.lks_world.specs.Hosts.{peer_in, peers_of}
+use Rattle.lks_world.specs.Seats.{hosts_of}
+use Rattle.lks_world.proofs.cutting.reopen.Goals as goal
+
+pub returns-in_default-clause-on : goal.returns-in_default-clause-on
+returns-in_default-clause-on g c = stayed g.D.Disk.face (hosts_of c.args.seats.now.items)
+
+pub unreachable-requires : goal.unreachable-requires
+unreachable-requires g c =
+    never_idle g.D.Disk.face c.args.id c.deref.result.now c.args.seats.now.items c.in-Some.place c.index_mut.result.now c.deref.ensures.value c.in-Some.ensures c.index_mut.ensures.value c.in-Idle.field-0 c.in-Idle.is
+
+pub restart_as-requires-clause-ready : goal.restart_as-requires-clause-ready
+restart_as-requires-clause-ready g c = λ κs lives.
+    let f = g.D.Disk.face in
+    let seats = c.args.seats.now.items in
+    let h = c.in-Host.host in
+    let acts = acts_at f c.args.id c.deref.result.now seats c.in-Some.place c.index_mut.result.now c.deref.ensures.value c.in-Some.ensures c.index_mut.ensures.value h c.in-Host.is in
+    c.requires.ready acts.stands.rank h (acts_ranked f c.args.id seats c.in-Some.place h acts)
+
+pub restart_as-requires-clause-made : goal.restart_as-requires-clause-made
+restart_as-requires-clause-made g c = λ κs lives.
+    let f = g.D.Disk.face in
+    let seats = c.args.seats.now.items in
+    let h = c.in-Host.host in
+    let acts = acts_at f c.args.id c.deref.result.now seats c.in-Some.place c.index_mut.result.now c.deref.ensures.value c.in-Some.ensures c.index_mut.ensures.value h c.in-Host.is in
+    c.requires.made acts.stands.rank h (acts_ranked f c.args.id seats c.in-Some.place h acts)
+
+pub returns-clause-peers : goal.returns-clause-peers
+returns-clause-peers g c =
+    let f = g.D.Disk.face in
+    let seats = c.args.seats.now.items in
+    let h = c.in-Host.host in
+    let acts = acts_at f c.args.id c.deref.result.now seats c.in-Some.place c.index_mut.result.now c.deref.ensures.value c.in-Some.ensures c.index_mut.ensures.value h c.in-Host.is in
+    let k = c.restart_as.new.host in
+    ok_then c.restart_as.result
+    (λ (same : peer_in f k ≡ peer_in f h). acts_added f c.args.id seats c.in-Some.place h acts [] k (same ∙ sym (with_nothing (peer_in f h))) ∙ nothing_added c.args.id (peers_of f (hosts_of seats)))
+    c.restart_as.ensures.peer
+
+pub returns-clause-on : goal.returns-clause-on
+returns-clause-on g c =
+    let f = g.D.Disk.face in
+    let seats = c.args.seats.now.items in
+    let h = c.in-Host.host in
+    let acts = acts_at f c.args.id c.deref.result.now seats c.in-Some.place c.index_mut.result.now c.deref.ensures.value c.in-Some.ensures c.index_mut.ensures.value h c.in-Host.is in
+    ok_then c.restart_as.result (acts_on f c.args.id seats c.in-Some.place h acts c.restart_as.new.host) c.restart_as.ensures.on
+
+pub returns-clause-counted : goal.returns-clause-counted
+returns-clause-counted g c =
+    let f = g.D.Disk.face in
+    let seats = c.args.seats.now.items in
+    let h = c.in-Host.host in
+    let acts = acts_at f c.args.id c.deref.result.now seats c.in-Some.place c.index_mut.result.now c.deref.ensures.value c.in-Some.ensures c.index_mut.ensures.value h c.in-Host.is in
+    counted_one f seats c.in-Some.place h c.restart_as.new.host c.restart_as.result (acts_there f c.args.id seats c.in-Some.place h acts) c.restart_as.ensures.acted

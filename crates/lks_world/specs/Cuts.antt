@@ -1,0 +1,68 @@
+-- Steps that are cut off: which ones, and what becomes of them.
+use Rattle.std.specs.Prelude.{◌≡◌, ◌≤◌, ◌<◌, ◌⊎◌, ℕ, Bool, false, nat_lt, if◌then◌else◌, Option, Some, None, List, [], length, slice_get, option_map}
+use Rattle.lks_base.specs.declared.events.Envelope.{Envelope}
+use Rattle.lks_base.specs.declared.events.Event.{Event}
+use Rattle.lks_base.specs.declared.events.Event.TheVariants as events
+use Rattle.lks_base.specs.declared.events.PeerStep.{PeerStep}
+use Rattle.lks_base.specs.declared.events.PeerStep.TheVariants.{OpenPoll, Widen, Shut, Tally, Nudge, GiveUp, Work, Expire, Check, Tune, Deliver}
+use Rattle.lks_base.specs.declared.plans.Plan.{Plan}
+use Rattle.lks_law.specs.Due.{pending}
+use Rattle.lks_law.specs.Entries.{receiver_of}
+use Rattle.lks_law.specs.Histories.{added_by}
+use Rattle.lks_law.specs.Questions.{Verdicts, judged, question_at, questions}
+use Rattle.lks_law.specs.World.{Standing, peer_at, world}
+use Rattle.lks_script.specs.declared.steps.CutStep.{CutStep}
+use Rattle.lks_script.specs.declared.steps.CutStep.TheVariants as cut
+use Rattle.lks_world.specs.Kept.{kept}
+
+-- who takes a step: of a delivery the receiver
+abbrev pub taker_of : List Envelope → PeerStep → ℕ
+taker_of bag (OpenPoll peer au) = peer
+taker_of bag (Widen peer number) = peer
+taker_of bag (Shut peer number) = peer
+taker_of bag (Tally peer number) = peer
+taker_of bag (Nudge peer number) = peer
+taker_of bag (GiveUp peer number) = peer
+taker_of bag (Work peer poll) = peer
+taker_of bag (Expire peer poll) = peer
+taker_of bag (Check peer) = peer
+taker_of bag (Tune peer quorum minority repairs) = peer
+taker_of bag (Deliver envelope judged) = receiver_of (slice_get bag envelope)
+
+-- the delivery of envelope i, with what the judge says
+abbrev pub delivery_now : Verdicts → Plan → List Event → ℕ → PeerStep
+delivery_now verdict plan history i = Deliver i (judged verdict (questions plan history) (question_at (world plan history) i))
+
+-- The step that a line cuts off. There is none where no envelope waits, or where the one that is named wasn't sent.
+unfoldable pub step_cut : Verdicts → Plan → List Event → CutStep → Option PeerStep
+step_cut verdict plan history cut.Next = option_map (delivery_now verdict plan history) (slice_get (pending plan history) 0)
+step_cut verdict plan history (cut.Again i) = if nat_lt i (length (world plan history).bag) then Some (delivery_now verdict plan history i) else None
+step_cut verdict plan history (cut.Peer s) = Some s
+
+-- The step is cut off. It is kept or lost as a whole, and lost where fewer than two calls of the disk were made.
+pub record IsCutOff (history : List Event) (calls : ℕ) (s : PeerStep) (after : List Event) : Type 0 where
+  pub is_kept : Bool
+  pub early : calls < 2 → is_kept ≡ false
+  pub more : after ≡ kept history (events.Cut s is_kept)
+
+-- an honest peer takes the step, which adds records, and fewer calls are made than the four that write them
+pub record FallsShort (plan : Plan) (history : List Event) (calls : ℕ) (s : PeerStep) : Type 0 where
+  pub peer : Standing
+  pub honest : peer_at (taker_of (world plan history).bag s) (world plan history).peers ≡ Some peer
+  pub adds : added_by (world plan history) s ≡ [] → ⊥
+  pub few : calls < 4
+
+-- What becomes of a step where the power of its peer fails after so many calls of the disk.
+pub record Cuts (plan : Plan) (history : List Event) (calls : ℕ) (s : PeerStep) (after : List Event) : Type 0 where
+  -- where no honest peer takes it, it is done
+  pub alone : peer_at (taker_of (world plan history).bag s) (world plan history).peers ≡ None → after ≡ kept history (events.Step s)
+  -- where its power falls short, it is cut off
+  pub short : FallsShort plan history calls s → IsCutOff history calls s after
+  -- else it is done, and then the power fails
+  pub whole : (p : Standing) → peer_at (taker_of (world plan history).bag s) (world plan history).peers ≡ Some p
+      → (added_by (world plan history) s ≡ []) ⊎ (4 ≤ calls) → after ≡ kept (kept history (events.Step s)) (events.Crash (taker_of (world plan history).bag s))
+
+-- the same of what a line cuts off: nothing happens where it is no step
+abbrev pub CutsOff : Plan → List Event → ℕ → Option PeerStep → List Event → Type 0
+CutsOff plan history calls None after = after ≡ history
+CutsOff plan history calls (Some s) after = Cuts plan history calls s after

@@ -1,0 +1,373 @@
+//! Peers whose power fails, at a call of the disk in a step or between two events.
+
+ghost use Rattle.std.specs.Prelude.{◌≡◌, ◌<◌, ◌-◌, true, None, IfOk, IfSome, IsSome, OnOk, OnErr, length};
+ghost use Rattle.lks_base.specs.Checking.{plan_fault};
+ghost use Rattle.lks_base.specs.declared.events.Event.TheVariants as events;
+ghost use Rattle.lks_base.specs.declared.limits.TheConstants.{MOST_EVENTS};
+ghost use Rattle.lks_base.specs.declared.plans.Plan.{Plan as Planned};
+ghost use Rattle.lks_effort.specs.Verdicts.{first_byte};
+ghost use Rattle.lks_host.specs.Hosted.{IsMadeBy};
+ghost use Rattle.lks_host.specs.Journals.{journal_on};
+ghost use Rattle.lks_law.specs.Facts.{IsHeard};
+ghost use Rattle.lks_law.specs.Histories.{IsHonest, MayStep};
+ghost use Rattle.lks_law.specs.Table.{reaction};
+ghost use Rattle.lks_law.specs.Turning.{has_inner_in};
+ghost use Rattle.lks_law.specs.World.{peer_at};
+ghost use Rattle.lks_script.specs.StepRules.{is_cut_step};
+ghost use Rattle.lks_world.specs.Cuts.{taker_of, step_cut, Cuts, CutsOff};
+ghost use Rattle.lks_world.specs.Endings.{answer_to, AreMade, BurnsFor, BurnsUnless, HasEnded, HostEnds, PeersEnd, SeatsBurnFor, ending_of, event_for, is_whole, notes_for, sends_for};
+ghost use Rattle.lks_world.specs.Hosts.{peer_in, peers_of, IsReady, AreReady, GoesOn, HaveGoneOn, HasActed};
+ghost use Rattle.lks_world.specs.Kept.{kept};
+ghost use Rattle.lks_world.specs.Seats.{hosts_of, Counted, SeatsBurn};
+ghost use Rattle.lks_world.specs.States.{events_in, world_in, IsStateOf, Becomes, Extends};
+
+use crate::adding::{add_crash, add_step, room};
+use crate::deeds::{Deed, make_deed, taker};
+use crate::faults::{WorldFault, blame};
+use crate::notes::notes;
+use crate::other_events;
+use crate::seats::{Seat, place_of};
+use crate::settling::{delivery, first_waiting, was_sent};
+use crate::states::{Done, State, actor, note_step, nothing_done};
+use lks_base::{Event, Input, Note, OutOfMemory, PeerId, PeerStep, Plan, Reaction, Seq};
+use lks_blocks::BlockPool;
+use lks_disk::{CrashDisk, Disk};
+use lks_host::{Host, Outcome, cut_step, restart};
+use lks_script::CutStep;
+use std::alloc::Global;
+use std::sync::Wait;
+
+/// How long the power lasts: so many calls of the disk. The choice says what the last of them leaves.
+#[derive(Clone, Copy)]
+pub struct Power {
+    pub calls: u8,
+    pub choice: u8,
+}
+
+/// What became of a step while the power failed.
+#[derive(Drop)]
+pub enum Ending {
+    /// It was done before.
+    Whole(Done),
+    /// Its records are in the journal, with these notes, and nothing was sent.
+    Kept(Seq<Note>),
+    /// Nothing of it is there.
+    Lost,
+}
+
+impl Ending {
+    fn whole(&self) -> bool
+        ensures { result ≡ is_whole self.now }
+    {
+        matches!(self, Ending::Whole(_))
+    }
+}
+
+/// The peer loses its power, and its journal is read again.
+fn restart_as<R: Wait, D: CrashDisk>(
+    rt: &R,
+    pool: &BlockPool,
+    plan: &Plan,
+    host: &mut Host<D>,
+) -> Result<(), WorldFault>
+    requires ready { IsReady D.face pool.now host.old }
+    requires made { IsMadeBy plan.now host.old.peer.own }
+    ensures peer { OnOk result (peer_in D.face host.new ≡ peer_in D.face host.old) }
+    ensures on { OnOk result (GoesOn D.face host.old host.new) }
+    ensures acted { HasActed D.face host.old host.new result }
+{
+    match restart(rt, pool, host, plan) {
+        Ok(()) => Ok(()),
+        Err(fault) => Err(blame(host.id(), fault)),
+    }
+}
+
+/// What is noted of an outcome.
+fn note_outcome<D: Disk>(
+    alloc: Global,
+    host: &Host<D>,
+    outcome: Outcome,
+) -> Result<Ending, OutOfMemory>
+    ensures { IfOk result (λ e. e ≡ ending_of (has_inner_in host.now.peer.state) outcome) }
+{
+    match outcome {
+        Outcome::Whole(Reaction { records, sends }) => {
+            let notes = notes(alloc, host, records.as_slice())?;
+            Ok(Ending::Whole(Done { notes, sends }))
+        }
+        Outcome::Kept(records) => Ok(Ending::Kept(notes(alloc, host, records.as_slice())?)),
+        Outcome::Lost => Ok(Ending::Lost),
+    }
+}
+
+/// The peer takes a step while its power fails.
+fn cut_input<R: Wait, D: CrashDisk>(
+    alloc: Global,
+    rt: &R,
+    pool: &BlockPool,
+    plan: &Plan,
+    host: &mut Host<D>,
+    tick: u32,
+    input: &Input,
+    power: Power,
+) -> Result<Ending, WorldFault>
+    requires ready { IsReady D.face pool.now host.old }
+    requires made { IsMadeBy plan.now host.old.peer.own }
+    requires heard { IsHeard input.now }
+    ensures ends { IfOk result (HostEnds D.face (reaction host.old.peer.own (journal_on D.face host.old.journal.disk) tick input.now) power.calls host.old host.new) }
+    ensures on { OnOk result (GoesOn D.face host.old host.new) }
+    ensures acted { HasActed D.face host.old host.new result }
+    ensures burns { IfOk result (λ e. BurnsFor D.face power.choice e host.old.journal.disk host.new.journal.disk) }
+{
+    let (calls, choice) = (u32::from(power.calls), u64::from(power.choice));
+    match cut_step(rt, pool, host, plan, tick, input, calls, choice) {
+        Ok(outcome) => Ok(note_outcome(alloc, host, outcome)?),
+        Err(fault) => Err(blame(host.id(), fault)),
+    }
+}
+
+/// The same where it is told something, or nothing.
+fn cut_as<R: Wait, D: CrashDisk>(
+    alloc: Global,
+    rt: &R,
+    pool: &BlockPool,
+    plan: &Plan,
+    host: &mut Host<D>,
+    tick: u32,
+    deed: &Option<Deed>,
+    power: Power,
+) -> Result<Ending, WorldFault>
+    requires ready { IsReady D.face pool.now host.old }
+    requires made { IsMadeBy plan.now host.old.peer.own }
+    requires heard { IfSome deed.now (λ d. IsHeard d.input) }
+    ensures ends { IfOk result (HostEnds D.face (answer_to tick (peer_in D.face host.old) deed.now) power.calls host.old host.new) }
+    ensures on { OnOk result (GoesOn D.face host.old host.new) }
+    ensures acted { HasActed D.face host.old host.new result }
+    ensures burns { IfOk result (λ e. BurnsFor D.face power.choice e host.old.journal.disk host.new.journal.disk) }
+{
+    match deed {
+        Some(deed) => cut_input(alloc, rt, pool, plan, host, tick, &deed.input, power),
+        None => {
+            restart_as(rt, pool, plan, host)?;
+            Ok(Ending::Whole(nothing_done(alloc)))
+        }
+    }
+}
+
+/// An honest peer takes a step on its seat while its power fails.
+fn cut_at<R: Wait, D: CrashDisk>(
+    alloc: Global,
+    rt: &R,
+    pool: &BlockPool,
+    plan: &Plan,
+    seats: &mut Vec<Seat<D>>,
+    tick: u32,
+    id: PeerId,
+    deed: &Option<Deed>,
+    power: Power,
+) -> Result<Ending, WorldFault>
+    requires ready { AreReady D.face pool.now (hosts_of seats.old.items) }
+    requires made { AreMade plan.now (hosts_of seats.old.items) }
+    requires there { IsSome (peer_at id (peers_of D.face (hosts_of seats.old.items))) }
+    requires heard { IfSome deed.now (λ d. IsHeard d.input) }
+    requires whose { IfSome deed.now (λ d. d.peer ≡ id) }
+    ensures ends { IfOk result (PeersEnd tick deed.now power.calls (peers_of D.face (hosts_of seats.old.items)) (peers_of D.face (hosts_of seats.new.items))) }
+    ensures on { OnOk result (HaveGoneOn D.face (hosts_of seats.old.items) (hosts_of seats.new.items)) }
+    ensures counted { Counted D.face seats.old.items seats.new.items result }
+    ensures burns { IfOk result (SeatsBurnFor D.face power.choice id seats.old.items seats.new.items) }
+{
+    let Some(place) = place_of(seats, id) else {
+        unreachable!()
+    };
+    match &mut seats[place] {
+        Seat::Host(host) => cut_as(alloc, rt, pool, plan, host, tick, deed, power),
+        Seat::Idle(_) => unreachable!(),
+    }
+}
+
+/// What is told of an ending.
+fn told(alloc: Global, s: PeerStep, ending: Ending) -> (Event, Done)
+    ensures event { result.0 ≡ event_for s ending }
+    ensures notes { result.1.notes ≡ notes_for ending }
+    ensures sends { result.1.sends ≡ sends_for ending }
+{
+    match ending {
+        Ending::Whole(done) => (Event::Step(s), done),
+        Ending::Kept(notes) => {
+            let sends = Seq::from_vec(Vec::new(alloc));
+            let event = Event::Cut {
+                step: s,
+                kept: true,
+            };
+            (event, Done { notes, sends })
+        }
+        Ending::Lost => {
+            let event = Event::Cut {
+                step: s,
+                kept: false,
+            };
+            (event, nothing_done(alloc))
+        }
+    }
+}
+
+/// Does a step of an honest peer while its power fails: whether it was done before.
+fn cut_there<R: Wait, D: CrashDisk>(
+    alloc: Global,
+    rt: &R,
+    plan: &Plan,
+    state: &mut State<'_, D>,
+    s: PeerStep,
+    power: Power,
+) -> Result<bool, WorldFault>
+    requires good { plan_fault plan.now ≡ None }
+    requires state { IsStateOf D.face plan.now state.old }
+    requires room { 0 < MOST_EVENTS - length state.old.history.items }
+    requires may { MayStep plan.now (world_in D.face state.old) s }
+    requires there { IsSome (peer_at (taker_of state.old.bag.items s) (peers_of D.face (hosts_of state.old.seats.items))) }
+    ensures ended { IfOk result (HasEnded D.face plan.now power.calls state.old s state.new) }
+    ensures err { OnErr result (state.new.history.items ≡ state.old.history.items) }
+    ensures counted { Counted D.face state.old.seats.items state.new.seats.items result }
+    ensures burns { IfOk result (BurnsUnless D.face power.choice (taker_of state.old.bag.items s) state.old.seats.items state.new.seats.items) }
+{
+    let id = taker(&state.bag, s);
+    let deed = make_deed(alloc, &state.bag, s)?;
+    let ending = cut_at(
+        alloc,
+        rt,
+        state.pool,
+        plan,
+        &mut state.seats,
+        state.tick,
+        id,
+        &deed,
+        power,
+    )?;
+    let whole = ending.whole();
+    let (event, done) = told(alloc, s, ending);
+    note_step(state, s, event, actor(&deed), done)?;
+    Ok(whole)
+}
+
+/// Does a step while the power of its peer fails.
+fn cut_off<R: Wait, D: CrashDisk>(
+    alloc: Global,
+    rt: &R,
+    plan: &Plan,
+    state: &mut State<'_, D>,
+    s: PeerStep,
+    power: Power,
+) -> Result<(), WorldFault>
+    requires good { plan_fault plan.now ≡ None }
+    requires state { IsStateOf D.face plan.now state.old }
+    requires may { MayStep plan.now (world_in D.face state.old) s }
+    ensures state { OnOk result (IsStateOf D.face plan.now state.new) }
+    ensures cuts { OnOk result (Cuts plan.now (events_in state.old) power.calls s (events_in state.new)) }
+    ensures extends { Extends plan.now state.old.history.items state.new.history.items }
+    ensures counted { Counted D.face state.old.seats.items state.new.seats.items result }
+    ensures burns { OnOk result (SeatsBurn D.face plan.now (events_in state.old) power.calls power.choice state.old.seats.items state.new.seats.items s) }
+{
+    let id = taker(&state.bag, s);
+    if place_of(&state.seats, id).is_none() {
+        return add_step(alloc, rt, state, s);
+    }
+    if room(state) == 0 {
+        return Ok(());
+    }
+    if cut_there(alloc, rt, plan, state, s, power)? {
+        add_crash(state, id)?;
+    }
+    Ok(())
+}
+
+/// The step that a line cuts off, if there is one.
+#[tactic(auto, unfolding(crate::specs::Cuts::step_cut))]
+fn find_step<D: CrashDisk>(
+    alloc: Global,
+    state: &State<'_, D>,
+    step: CutStep,
+) -> Result<Option<PeerStep>, OutOfMemory>
+    ensures { (plan : Planned) → IsStateOf D.face plan state.now → IfOk result (λ o. o ≡ step_cut first_byte plan (events_in state.now) step) }
+{
+    match step {
+        CutStep::Next => match first_waiting(state) {
+            Some(envelope) => Ok(Some(delivery(alloc, state, envelope)?)),
+            None => Ok(None),
+        },
+        CutStep::Again { envelope } => {
+            if !was_sent(state, envelope) {
+                return Ok(None);
+            }
+            Ok(Some(delivery(alloc, state, envelope)?))
+        }
+        CutStep::Peer(s) => Ok(Some(s)),
+    }
+}
+
+/// Does what a line cuts off, while the power of the peer fails that takes the step.
+pub fn cut<R: Wait, D: CrashDisk>(
+    alloc: Global,
+    rt: &R,
+    plan: &Plan,
+    state: &mut State<'_, D>,
+    step: CutStep,
+    power: Power,
+) -> Result<(), WorldFault>
+    requires good { plan_fault plan.now ≡ None }
+    requires legal { is_cut_step plan.now step ≡ true }
+    requires state { IsStateOf D.face plan.now state.old }
+    ensures state { OnOk result (IsStateOf D.face plan.now state.new) }
+    ensures cuts { OnOk result (CutsOff plan.now (events_in state.old) power.calls (step_cut first_byte plan.now (events_in state.old) step) (events_in state.new)) }
+    ensures extends { Extends plan.now state.old.history.items state.new.history.items }
+    ensures counted { Counted D.face state.old.seats.items state.new.seats.items result }
+    ensures burns { OnOk result (IfSome (step_cut first_byte plan.now (events_in state.old) step) (SeatsBurn D.face plan.now (events_in state.old) power.calls power.choice state.old.seats.items state.new.seats.items)) }
+{
+    match find_step(alloc, state, step)? {
+        Some(s) => cut_off(alloc, rt, plan, state, s, power),
+        None => Ok(()),
+    }
+}
+
+/// The peer of this number loses its power, if it is honest.
+fn reopen<R: Wait, D: CrashDisk>(
+    rt: &R,
+    pool: &BlockPool,
+    plan: &Plan,
+    seats: &mut Vec<Seat<D>>,
+    id: PeerId,
+) -> Result<(), WorldFault>
+    requires ready { AreReady D.face pool.now (hosts_of seats.old.items) }
+    requires made { AreMade plan.now (hosts_of seats.old.items) }
+    ensures peers { OnOk result (peers_of D.face (hosts_of seats.new.items) ≡ peers_of D.face (hosts_of seats.old.items)) }
+    ensures on { OnOk result (HaveGoneOn D.face (hosts_of seats.old.items) (hosts_of seats.new.items)) }
+    ensures counted { Counted D.face seats.old.items seats.new.items result }
+{
+    let Some(place) = place_of(seats, id) else {
+        return Ok(());
+    };
+    match &mut seats[place] {
+        Seat::Host(host) => restart_as(rt, pool, plan, host),
+        Seat::Idle(_) => unreachable!(),
+    }
+}
+
+/// The power of a peer fails between two events.
+pub fn crash<R: Wait, D: CrashDisk>(
+    rt: &R,
+    plan: &Plan,
+    state: &mut State<'_, D>,
+    peer: PeerId,
+) -> Result<(), WorldFault>
+    requires good { plan_fault plan.now ≡ None }
+    requires honest { IsHonest plan.now peer }
+    requires state { IsStateOf D.face plan.now state.old }
+    ensures becomes { OnOk result (Becomes D.face plan.now (kept (events_in state.old) (events.Crash peer)) state.new) }
+    ensures extends { Extends plan.now state.old.history.items state.new.history.items }
+    ensures counted { Counted D.face state.old.seats.items state.new.seats.items result }
+{
+    if room(state) == 0 {
+        return Ok(());
+    }
+    reopen(rt, state.pool, plan, &mut state.seats, peer)?;
+    Ok(other_events::crash(state, peer)?)
+}
