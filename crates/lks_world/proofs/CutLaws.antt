@@ -93,3 +93,7 @@ cut_may verdict plan history (cut.Peer p) legal s is = subst (MayStep plan (worl
 pub if_some : {X : Type 0} {P Q : X → Type 0} (o : Option X) → ((x : X) → P x → Q x) → IfSome o P → IfSome o Q
 if_some None f p = tt
 if_some (Some x) f p = f x p
+
+pub if_both : {X : Type 0} (P Q : X → Type 0) (o : Option X) → IfSome o P → IfSome o Q → IfSome o (λ x. P x × Q x)
+if_both P Q None p q = tt
+if_both P Q (Some x) p q = (p, q)

@@ -1,10 +1,11 @@
 -- What became of a step while the power failed.
-use Rattle.std.specs.Prelude.{◌≡◌, ◌≤◌, ◌<◌, ◌⊎◌, ◌++◌, ◌∷◌, [], ℕ, Bool, true, false, Option, Some, None, List, slice_get}
+use Rattle.std.specs.Prelude.{◌≡◌, ◌≤◌, ◌<◌, ◌-◌, ◌⊎◌, ◌++◌, ◌∷◌, [], ℕ, Bool, true, false, Option, Some, None, IsSome, List, length, slice_get}
 use Rattle.std.specs.List.{filter_map}
 use Rattle.lks_base.specs.declared.entries.Note.{Note}
 use Rattle.lks_base.specs.declared.events.Event.{Event}
 use Rattle.lks_base.specs.declared.events.Event.TheVariants as events
 use Rattle.lks_base.specs.declared.events.PeerStep.{PeerStep}
+use Rattle.lks_base.specs.declared.limits.TheConstants.{MOST_EVENTS}
 use Rattle.lks_base.specs.declared.plans.Plan.{Plan}
 use Rattle.lks_base.specs.declared.reactions.Outgoing.{Outgoing}
 use Rattle.lks_base.specs.declared.reactions.Reaction.{Reaction}
@@ -16,12 +17,13 @@ use Rattle.lks_host.specs.declared.hosts.Host.{Host}
 use Rattle.lks_host.specs.declared.outcomes.Outcome.{Outcome}
 use Rattle.lks_host.specs.declared.outcomes.Outcome.TheVariants as outcome
 use Rattle.lks_law.specs.Entries.{note_with, notes_at, notes_of}
-use Rattle.lks_law.specs.Histories.{added_by}
+use Rattle.lks_law.specs.Histories.{MayStep, added_by}
 use Rattle.lks_law.specs.Reaction.{nothing}
 use Rattle.lks_law.specs.Table.{reaction}
-use Rattle.lks_law.specs.World.{Deed, Standing, effect_of, peers_after}
-use Rattle.lks_world.specs.Hosts.{peer_in, with_added}
-use Rattle.lks_world.specs.Seats.{BurnsAt}
+use Rattle.lks_law.specs.World.{Deed, Standing, effect_of, peer_at, peers_after}
+use Rattle.lks_world.specs.Cuts.{taker_of}
+use Rattle.lks_world.specs.Hosts.{peer_in, peers_of, with_added}
+use Rattle.lks_world.specs.Seats.{hosts_of, BurnsAt}
 use Rattle.lks_world.specs.States.{events_in, world_in, Becomes}
 use Rattle.lks_world.specs.declared.cutting.Ending.{Ending}
 use Rattle.lks_world.specs.declared.cutting.Ending.TheVariants.{Whole, Kept, Lost}
@@ -90,6 +92,12 @@ SeatsBurnFor f choice id before after Lost = BurnsAt f choice id before after
 -- whose host was made by this plan
 abbrev pub AreMade : {D : Type 0} → Plan → List (Host D) → Type 0
 AreMade {D} plan hosts = (place : ℕ) (h : Host D) → slice_get hosts place ≡ Some h → IsMadeBy plan h.peer.own
+
+-- the step is one that an honest peer can take now, and there is room for its event
+pub record CanTake {D : Type 0} (f : Face D) (plan : Plan) (state : State D) (s : PeerStep) : Type 0 where
+  pub room : 0 < MOST_EVENTS - length state.history.items
+  pub may : MayStep plan (world_in f state) s
+  pub there : IsSome (peer_at (taker_of state.bag.items s) (peers_of f (hosts_of state.seats.items)))
 
 -- What a step came to in a world: it was done, or it was cut off, kept or lost.
 abbrev pub HasEnded : {D : Type 0} → Face D → Plan → ℕ → State D → PeerStep → State D → Bool → Type 0

@@ -15,7 +15,7 @@ ghost use Rattle.lks_law.specs.Turning.{has_inner_in};
 ghost use Rattle.lks_law.specs.World.{peer_at};
 ghost use Rattle.lks_script.specs.StepRules.{is_cut_step};
 ghost use Rattle.lks_world.specs.Cuts.{taker_of, step_cut, Cuts, CutsOff};
-ghost use Rattle.lks_world.specs.Endings.{answer_to, AreMade, BurnsFor, BurnsUnless, HasEnded, HostEnds, PeersEnd, SeatsBurnFor, ending_of, event_for, is_whole, notes_for, sends_for};
+ghost use Rattle.lks_world.specs.Endings.{answer_to, AreMade, BurnsFor, BurnsUnless, CanTake, HasEnded, HostEnds, PeersEnd, SeatsBurnFor, ending_of, event_for, is_whole, notes_for, sends_for};
 ghost use Rattle.lks_world.specs.Hosts.{peer_in, peers_of, IsReady, AreReady, GoesOn, HaveGoneOn, HasActed};
 ghost use Rattle.lks_world.specs.Kept.{kept};
 ghost use Rattle.lks_world.specs.Seats.{hosts_of, Counted, SeatsBurn};
@@ -169,8 +169,7 @@ fn cut_at<R: Wait, D: CrashDisk>(
     requires ready { AreReady D.face pool.now (hosts_of seats.old.items) }
     requires made { AreMade plan.now (hosts_of seats.old.items) }
     requires there { IsSome (peer_at id (peers_of D.face (hosts_of seats.old.items))) }
-    requires heard { IfSome deed.now (λ d. IsHeard d.input) }
-    requires whose { IfSome deed.now (λ d. d.peer ≡ id) }
+    requires told { IfSome deed.now (λ d. IsHeard d.input × (d.peer ≡ id)) }
     ensures ends { IfOk result (PeersEnd tick deed.now power.calls (peers_of D.face (hosts_of seats.old.items)) (peers_of D.face (hosts_of seats.new.items))) }
     ensures on { OnOk result (HaveGoneOn D.face (hosts_of seats.old.items) (hosts_of seats.new.items)) }
     ensures counted { Counted D.face seats.old.items seats.new.items result }
@@ -222,9 +221,7 @@ fn cut_there<R: Wait, D: CrashDisk>(
 ) -> Result<bool, WorldFault>
     requires good { plan_fault plan.now ≡ None }
     requires state { IsStateOf D.face plan.now state.old }
-    requires room { 0 < MOST_EVENTS - length state.old.history.items }
-    requires may { MayStep plan.now (world_in D.face state.old) s }
-    requires there { IsSome (peer_at (taker_of state.old.bag.items s) (peers_of D.face (hosts_of state.old.seats.items))) }
+    requires can { CanTake D.face plan.now state.old s }
     ensures ended { IfOk result (HasEnded D.face plan.now power.calls state.old s state.new) }
     ensures err { OnErr result (state.new.history.items ≡ state.old.history.items) }
     ensures counted { Counted D.face state.old.seats.items state.new.seats.items result }

@@ -140,21 +140,12 @@ pub fn ends_of(bag: &[Envelope], s: PeerStep) -> (PeerId, PeerId)
     }
 }
 
-fn receiver(bag: &[Envelope], envelope: u32) -> PeerId
-    ensures { result ≡ receiver_of (slice_get bag.now envelope) }
-{
-    match bag.get(envelope as usize) {
-        Some(e) => e.to,
-        None => 0,
-    }
-}
-
 /// Who takes a step: of a delivery the receiver.
 pub fn taker(bag: &[Envelope], s: PeerStep) -> PeerId
     ensures { result ≡ taker_of bag.now s }
 {
     match s {
-        PeerStep::Deliver { envelope, .. } => receiver(bag, envelope),
+        PeerStep::Deliver { .. } => ends_of(bag, s).1,
         PeerStep::OpenPoll { peer, .. }
         | PeerStep::Widen { peer, .. }
         | PeerStep::Shut { peer, .. }

@@ -88,7 +88,8 @@ impl<'a, D: CrashDisk + Drop> World<'a, D> {
             }),
             Err(fault) => {
                 turn_round(&mut disks);
-                Err((nothing_done(alloc, disks), fault))
+                let history = Vec::new(alloc);
+                Err((Parts { history, disks }, fault))
             }
         }
     }
@@ -155,15 +156,5 @@ impl<'a, D: CrashDisk + Drop> World<'a, D> {
         unseat(seats, &mut disks);
         turn_round(&mut disks);
         Parts { history, disks }
-    }
-}
-
-fn nothing_done<D>(alloc: Global, disks: Vec<D>) -> Parts<D>
-    ensures history { result.history.items ≡ [] }
-    ensures disks { result.disks.items ≡ disks.items }
-{
-    Parts {
-        history: Vec::new(alloc),
-        disks,
     }
 }

@@ -1,3 +1,4 @@
+use Rattle.lks_world.proofs.CutLaws.{if_some}
 use Rattle.lks_world.proofs.SeatEnds.{peers_end, seats_burn}
 use Rattle.lks_world.proofs.HostLaws.{ok_then}
 use Rattle.lks_world.proofs.SeatLaws.{acts_at, acts_there, acts_ranked, acts_on, counted_one}
@@ -19,13 +20,16 @@ cut_as-requires-clause-made g c = λ κs lives.
     let acts = acts_at f c.args.id c.deref.result.now seats c.in-Some.place c.index_mut.result.now c.deref.ensures.value c.in-Some.ensures c.index_mut.ensures.value h c.in-Host.is in
     c.requires.made acts.stands.rank h (acts_ranked f c.args.id seats c.in-Some.place h acts)
 
+pub cut_as-requires-clause-heard : goal.cut_as-requires-clause-heard
+cut_as-requires-clause-heard g c = λ κs lives. if_some c.args.deed.now (λ d told. told.0) c.requires.told
+
 pub returns-clause-ends : goal.returns-clause-ends
 returns-clause-ends g c =
     let f = g.D.Disk.face in
     let seats = c.args.seats.now.items in
     let h = c.in-Host.host in
     let acts = acts_at f c.args.id c.deref.result.now seats c.in-Some.place c.index_mut.result.now c.deref.ensures.value c.in-Some.ensures c.index_mut.ensures.value h c.in-Host.is in
-    peers_end f c.args.id seats c.in-Some.place h acts c.cut_as.new.host c.args.tick c.args.deed.now c.args.power.calls c.cut_as.result c.requires.whose c.cut_as.ensures.ends
+    peers_end f c.args.id seats c.in-Some.place h acts c.cut_as.new.host c.args.tick c.args.deed.now c.args.power.calls c.cut_as.result (if_some c.args.deed.now (λ d told. told.1) c.requires.told) c.cut_as.ensures.ends
 
 pub returns-clause-on : goal.returns-clause-on
 returns-clause-on g c =

@@ -32,6 +32,20 @@ returns-then-is_none-clause-burns g c =
     (nobody_there f c.taker-id.result c.deref-2.result.now c.place_of.result c.if-is_none.ensures c.place_of.ensures)) in
     on_ok c.add_step.result (λ short room. absurd (no_short f plan s p c.args.power.calls is none short))
 
+pub cut_there-requires-clause-can : goal.cut_there-requires-clause-can
+cut_there-requires-clause-can g c κs within =
+    let f = g.D.Disk.face in
+    let plan = c.args.plan.now in
+    let s = c.args.state.now in
+    let p = c.args.s in
+    let is = c.requires.state in
+    let id : c.taker-id.result ≡ taker_of s.bag.items p = c.taker-id.ensures ∙ ap (λ (b : List Envelope). taker_of b p) c.deref.ensures.value in
+    let there : IsSome (peer_at (taker_of s.bag.items p) (peers_of f (hosts_of s.seats.items))) =
+    subst (λ (n : ℕ). IsSome (peer_at n (peers_of f (hosts_of s.seats.items)))) id
+    (subst (λ (ss : List (Seat g.row.D.Denot)). IsSome (peer_at c.taker-id.result (peers_of f (hosts_of ss)))) c.deref-2.ensures.value
+    (somebody_there f c.taker-id.result c.deref-2.result.now c.place_of.result c.if-is_none.ensures c.place_of.ensures)) in
+    record { room = omega (arith, c.room.ensures, c.if-room-eq0.false); may = c.requires.may; there = there }
+
 pub returns-in_err-cut_there-clause-counted : goal.returns-in_err-cut_there-clause-counted
 returns-in_err-cut_there-clause-counted g c =
     let p = err_from_is_err_and c.from_residual.result c.from_residual.ensures.1 in

@@ -4,9 +4,10 @@ use Rattle.std.specs.List.{range_with_len}
 use Rattle.std.proofs.lemmas.Result.{err_from_is_err_and}
 use Rattle.lks_base.specs.declared.events.Envelope.{Envelope}
 use Rattle.lks_base.specs.declared.reactions.Outgoing.{Outgoing}
+use Rattle.lks_law.specs.Facts.{IsHeard}
 use Rattle.lks_law.specs.Entries.{carried, entry_for}
 use Rattle.lks_law.specs.World.{deed_of, actor_of, sent_by}
-use Rattle.lks_world.proofs.CutLaws.{whose_deed}
+use Rattle.lks_world.proofs.CutLaws.{if_both, whose_deed}
 use Rattle.lks_world.proofs.Ending.{made_there, has_ended, burns_unless, counted_still}
 use Rattle.lks_world.proofs.Keeping.{can_step, room_left}
 use Rattle.lks_world.specs.Cuts.{taker_of}
@@ -19,18 +20,19 @@ use Rattle.lks_world.specs.declared.faults.WorldFault.TheVariants.{Memory}
 use Rattle.lks_world.proofs.cutting.cut_there.Goals as goal
 
 pub cut_at-requires-clause-ready : goal.cut_at-requires-clause-ready
-cut_at-requires-clause-ready g c κs within = can_step g.D.Disk.face c.args.plan.now c.args.state.now c.requires.state c.requires.room
+cut_at-requires-clause-ready g c κs within = can_step g.D.Disk.face c.args.plan.now c.args.state.now c.requires.state c.requires.can.room
 
 pub cut_at-requires-clause-made : goal.cut_at-requires-clause-made
 cut_at-requires-clause-made g c κs within = made_there g.D.Disk.face c.args.plan.now c.requires.good c.args.state.now c.requires.state
 
-pub cut_at-requires-clause-whose : goal.cut_at-requires-clause-whose
-cut_at-requires-clause-whose g c κs within =
+pub cut_at-requires-clause-told : goal.cut_at-requires-clause-told
+cut_at-requires-clause-told g c κs within =
     let bag = c.args.state.now.bag.items in
     let s = c.args.s in
     let deed = c.in_ok-deed.ensures.deed ∙ ap (λ (b : List Envelope). deed_of b s) c.deref-2.ensures.value in
     let id : c.taker-id.result ≡ taker_of bag s = c.taker-id.ensures ∙ ap (λ (b : List Envelope). taker_of b s) c.deref.ensures.value in
-    subst (λ (n : ℕ). IfSome c.in_ok-deed.deed (λ d. d.peer ≡ n)) (sym id) (subst (λ o. IfSome o (λ d. d.peer ≡ taker_of bag s)) (sym deed) (whose_deed bag s))
+    if_both (λ d. IsHeard d.input) (λ d. d.peer ≡ c.taker-id.result) c.in_ok-deed.deed c.in_ok-deed.ensures.heard
+    (subst (λ (n : ℕ). IfSome c.in_ok-deed.deed (λ d. d.peer ≡ n)) (sym id) (subst (λ o. IfSome o (λ d. d.peer ≡ taker_of bag s)) (sym deed) (whose_deed bag s)))
 
 pub returns-in_err-note_step-clause-counted : goal.returns-in_err-note_step-clause-counted
 returns-in_err-note_step-clause-counted g c =
@@ -57,7 +59,7 @@ returns-clause-ended g c =
     (subst (λ o. PeersEnd s.tick o calls (peers_of f (hosts_of s.seats.items)) (peers_of f (hosts_of c.cut_at.new.seats.items)) e) deed c.in_ok-ending.ensures.ends) in
     let on = subst (λ (ss : List (Seat g.row.D.Denot)). HaveGoneOn f (hosts_of s.seats.items) (hosts_of ss)) (sym noted.seats) c.in_ok-ending.ensures.on in
     subst (HasEnded f plan calls s p t) (sym c.whole-whole.ensures)
-    (has_ended f plan s t p calls c.requires.state (room_left f s c.requires.room) c.requires.may e ends noted.tick
+    (has_ended f plan s t p calls c.requires.state (room_left f s c.requires.can.room) c.requires.can.may e ends noted.tick
     (noted.bag ∙ (λ i. s.bag.items ++ map (sent_by (actor i)) (told.sends i)))
     (noted.pending ∙ ap (λ (sends : List Outgoing). left_after p s.pending.items ++ range_with_len (length s.bag.items) (length sends)) told.sends)
     (noted.history ∙ (λ i. s.history.items ++ entry_for (told.event i) (carried s.bag.items p) (told.notes i) (length (told.sends i)) ∷ []))

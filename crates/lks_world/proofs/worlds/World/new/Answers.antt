@@ -38,7 +38,7 @@ returns-in-Ok-clause-disks g c =
 pub returns-clause-disks : goal.returns-clause-disks
 returns-clause-disks g c =
     let back = ap reverse c.turn_round.ensures.items ∙ reverse-reverse c.args.disks.items in
-    let given = c.nothing_done.ensures.disks ∙ c.turn_round-in-Err.ensures.items in
+    let given = c.turn_round-in-Err.ensures.items in
     subst (λ ds. ServesHonest g.D.Disk.face c.args.plan.peers c.args.disks.items ds (Some c.in-Err.fault)) (sym given)
     (subst (λ ds. ServesHonest g.D.Disk.face c.args.plan.peers ds (reverse c.begin.new.disks.items) (Some c.in-Err.fault)) back c.in-Err.ensures.serves)
 
@@ -47,7 +47,7 @@ returns-clause-refused g c =
     let f = g.D.Disk.face in
     let disks = c.args.disks.items in
     let back = ap reverse c.turn_round.ensures.items ∙ reverse-reverse disks in
-    let given = c.nothing_done.ensures.disks ∙ c.turn_round-in-Err.ensures.items in (
-      c.nothing_done.ensures.history,
+    let given = c.turn_round-in-Err.ensures.items in (
+      search rules,
       same_fuses f disks _ (ap (map f.fused) given ∙ c.in-Err.ensures.fuses ∙ ap (map f.fused) back) (fresh_unfused f disks c.requires.fresh),
     )
