@@ -2,6 +2,7 @@
 
 use super::*;
 use lks_base::{HashKind, PeerStep, Plan, PollName};
+use lks_lines::{number, split};
 use std::alloc::Global;
 use std::process::Abort;
 use std::test::*;
@@ -37,20 +38,44 @@ fn joined(alloc: Global, pieces: &[&str]) -> Result<Vec<u8>, Fail> {
 }
 
 /// The first bad line, or 0.
-fn line_of(alloc: Global, pieces: &[&str]) -> Result<u32, Fail> {
-    let bytes = joined(alloc, pieces)?;
-    match read_script(alloc, &bytes) {
+fn first_bad(alloc: Global, bytes: &[u8]) -> Result<u32, Fail> {
+    match read_script(alloc, bytes) {
         Ok(_) => Ok(0),
         Err(ScriptFault::BadLine { line }) => Ok(line),
         Err(ScriptFault::Memory) => Err("out of memory".into()),
     }
 }
 
-/// Each text behind a plan of four peers has this first bad line.
-fn check_rows(rt: &impl Abort, alloc: Global, rows: &[(&str, u32)]) -> Result<(), Fail> {
-    for (at, (text, line)) in rows.iter().enumerate() {
-        let found = line_of(alloc, &[TITLE, RULES, AU, PEERS, text])?;
-        assert_eq!(rt; found, *line, "row {at}");
+fn line_of(alloc: Global, pieces: &[&str]) -> Result<u32, Fail> {
+    first_bad(alloc, &joined(alloc, pieces)?)
+}
+
+/// The number at the front of a row, and its text, in which a semicolon stands for a line feed.
+fn read_row(row: &[u8]) -> Option<(u32, &[u8])> {
+    let at = row.iter().position(|b| *b == b' ')?;
+    let (line, text) = row.split_at(at);
+    let (_, text) = text.split_at(1);
+    Some((number(u32::MAX, line)?, text))
+}
+
+/// A script of a plan of four peers, and then this text.
+fn script_with(alloc: Global, text: &[u8]) -> Result<Vec<u8>, Fail> {
+    let mut bytes = joined(alloc, &[TITLE, RULES, AU, PEERS])?;
+    for b in text {
+        bytes.push(if *b == b';' { b'\n' } else { *b })?;
+    }
+    Ok(bytes)
+}
+
+/// Each row's text behind a plan of four peers has this first bad line. A row that begins with `#` is a comment.
+fn check_table(rt: &impl Abort, alloc: Global, table: &str) -> Result<(), Fail> {
+    for (at, row) in split(alloc, table.as_bytes(), b'\n')?.iter().enumerate() {
+        if row.is_empty() || row.starts_with(b"#") {
+            continue;
+        }
+        let (line, text) = read_row(row).ok_or("a row is a number and a text")?;
+        let found = first_bad(alloc, &script_with(alloc, text)?)?;
+        assert_eq!(rt; found, line, "row {at}");
     }
     Ok(())
 }
@@ -292,161 +317,145 @@ fn first_bad_lines(rt: HostRuntime) -> Result<(), Fail> {
     Ok(())
 }
 
+const LISTS_AND_STEPS: &str = "\
+# ends
+9 refs 1 2 3 4;copy 1 1 41,42
+# peers
+0 peer 5 honest 05 01;refs 5 1;refs 1 5;copy 5 1 41,42;open 5 1;
+8 peer 4 corrupt 05 01;
+8 peer 5 corrupt - 01;
+8 peer 5 corrupt 0 01;
+0 peer 5 corrupt 000102030405060708090a0b0c0d0e0f101112131415161718191A1B1C1D1E1F -;
+8 peer 5 corrupt 000102030405060708090a0b0c0d0e0f101112131415161718191A1B1C1D1E1F20 -;
+# lists
+8 refs 1 2 2;
+8 refs 1 1;
+8 refs 1 9;
+8 refs 1;
+8 refs 2 1;
+9 refs 1 2;refs 1 3;
+0 peer 5 corrupt 05 01;peer 6 corrupt 06 01;refs 1 2 3 4 5 6;
+0 refs 1 2 3;friends 1 4;copy 1 1 41,42;
+0 copy 1 1 41,42;friends 1 4 3 2;refs 1 2;open 1 1;
+8 friends 1;
+8 friends;
+9 friends 1 2;friends 1 2;
+10 friends 1 2;refs 1 3;refs 1 3;
+8 friends 2 3;
+8 friends 1 1;
+8 friends 1 9;
+8 friends 1 2 2;
+8 friends 1 65536;
+9 friends 1 2;peer 5 corrupt 05 01;
+9 lose;friends 1 2;
+# copies
+8 copy 1 1 41;
+0 copy 1 1 41,-;
+0 copy 1 1 41*2,fF*16384;
+8 copy 1 1 41*0,42;
+8 copy 1 1 41*16385,42;
+8 copy 1 1 41*02,42;
+8 copy 1 1 4142*2,42;
+8 copy 1 1 41*2*2,42;
+8 copy 1 1 *2,42;
+8 copy 1 1 41*,42;
+8 copy 1 1 -*2,42;
+8 copy 1 1 41,;
+8 copy 1 2 41,42;
+8 copy 2 1 41,42;
+# steps
+0 open 1 1;open 1 1;
+8 open 2 1;
+8 open 1 2;
+9 shut 1 4294967295;shut 1 4294967296;
+8 say 1 vote 2 1 1 of 41;
+9 say 2 vote 3 1 1 of 41;say 2 vote 9 1 1 of 41;
+8 say 2 vote 1 1 1 41;
+9 say 2 repair 1 1 511 43;say 2 repair 1 1 512 43;
+0 say 2 repair 1 1 0 -;say 2 repair 1 1 0 5a*16384;
+8 say 2 repair 1 1 0;
+0 forge 2 1 -;forge 2 1 0101000000010001;
+8 forge 2 1 0g;
+8 forge 2 9 00;
+10 say 2 challenge 1 1 yes;say 2 challenge 1 1 no;say 2 challenge 1 1 maybe;
+10 say 2 nominate 1 1;say 2 nominate 1 1 1 2 3 4 5 6 7 65535;say 2 nominate 1 1 1 2 3 4 5 6 7 8 9;
+8 say 2 nominate 1 1 65536;
+9 say 2 proof 1 7;say 2 proof 1 7 1;
+9 say 2 request 1 7 511;say 2 request 1 7 512;
+9 say 2 receipt 1 7;say 1 receipt 2 7;
+10 tick 1;tick 1000000;tick 1000001;
+8 tick 0;
+8 tick 01;
+8 tick;
+8 tick 1 1;
+0 tick 1000000;
+11 next;next 1;next 4096;next 4097;
+0 next 4096;next;
+8 next 0;
+8 next 65536;
+8 next 1 1;
+9 lose;lose 1;
+0 again 0;again 4294967295;
+8 again;
+8 again 4294967296;
+8 again 1 1;
+0 outer 1 0;outer 1 4294967295;check 1;
+8 outer 1 4294967296;
+0 tally 1 1;nudge 1 1;give-up 1 1;finish;
+8 tally 2 1;
+8 nudge 1;
+8 give-up 1 1 1;
+8 give up 1 1;
+8 finish 1;
+8 outer 2 1;
+8 outer 1;
+8 check 2;
+8 check 9;
+8 check;
+8 check 1 1;
+";
+
 #[test]
 fn first_bad_lines_behind_the_peers(rt: HostRuntime) -> Result<(), Fail> {
-    let rows = [
-        // ends
-        ("refs 1 2 3 4\ncopy 1 1 41,42", 9),
-        // peers
-        (
-            "peer 5 honest 05 01\nrefs 5 1\nrefs 1 5\ncopy 5 1 41,42\nopen 5 1\n",
-            0,
-        ),
-        ("peer 4 corrupt 05 01\n", 8),
-        ("peer 5 corrupt - 01\n", 8),
-        ("peer 5 corrupt 0 01\n", 8),
-        (
-            "peer 5 corrupt 000102030405060708090a0b0c0d0e0f101112131415161718191A1B1C1D1E1F -\n",
-            0,
-        ),
-        (
-            "peer 5 corrupt 000102030405060708090a0b0c0d0e0f101112131415161718191A1B1C1D1E1F20 -\n",
-            8,
-        ),
-        // lists
-        ("refs 1 2 2\n", 8),
-        ("refs 1 1\n", 8),
-        ("refs 1 9\n", 8),
-        ("refs 1\n", 8),
-        ("refs 2 1\n", 8),
-        ("refs 1 2\nrefs 1 3\n", 9),
-        (
-            "peer 5 corrupt 05 01\npeer 6 corrupt 06 01\nrefs 1 2 3 4 5 6\n",
-            0,
-        ),
-        ("refs 1 2 3\nfriends 1 4\ncopy 1 1 41,42\n", 0),
-        ("copy 1 1 41,42\nfriends 1 4 3 2\nrefs 1 2\nopen 1 1\n", 0),
-        ("friends 1\n", 8),
-        ("friends\n", 8),
-        ("friends 1 2\nfriends 1 2\n", 9),
-        ("friends 1 2\nrefs 1 3\nrefs 1 3\n", 10),
-        ("friends 2 3\n", 8),
-        ("friends 1 1\n", 8),
-        ("friends 1 9\n", 8),
-        ("friends 1 2 2\n", 8),
-        ("friends 1 65536\n", 8),
-        ("friends 1 2\npeer 5 corrupt 05 01\n", 9),
-        ("lose\nfriends 1 2\n", 9),
-        // copies
-        ("copy 1 1 41\n", 8),
-        ("copy 1 1 41,-\n", 0),
-        ("copy 1 1 41*2,fF*16384\n", 0),
-        ("copy 1 1 41*0,42\n", 8),
-        ("copy 1 1 41*16385,42\n", 8),
-        ("copy 1 1 41*02,42\n", 8),
-        ("copy 1 1 4142*2,42\n", 8),
-        ("copy 1 1 41*2*2,42\n", 8),
-        ("copy 1 1 *2,42\n", 8),
-        ("copy 1 1 41*,42\n", 8),
-        ("copy 1 1 -*2,42\n", 8),
-        ("copy 1 1 41,\n", 8),
-        ("copy 1 2 41,42\n", 8),
-        ("copy 2 1 41,42\n", 8),
-        // steps
-        ("open 1 1\nopen 1 1\n", 0),
-        ("open 2 1\n", 8),
-        ("open 1 2\n", 8),
-        ("shut 1 4294967295\nshut 1 4294967296\n", 9),
-        ("say 1 vote 2 1 1 of 41\n", 8),
-        ("say 2 vote 3 1 1 of 41\nsay 2 vote 9 1 1 of 41\n", 9),
-        ("say 2 vote 1 1 1 41\n", 8),
-        ("say 2 repair 1 1 511 43\nsay 2 repair 1 1 512 43\n", 9),
-        ("say 2 repair 1 1 0 -\nsay 2 repair 1 1 0 5a*16384\n", 0),
-        ("say 2 repair 1 1 0\n", 8),
-        ("forge 2 1 -\nforge 2 1 0101000000010001\n", 0),
-        ("forge 2 1 0g\n", 8),
-        ("forge 2 9 00\n", 8),
-        (
-            "say 2 challenge 1 1 yes\nsay 2 challenge 1 1 no\nsay 2 challenge 1 1 maybe\n",
-            10,
-        ),
-        (
-            "say 2 nominate 1 1\nsay 2 nominate 1 1 1 2 3 4 5 6 7 65535\nsay 2 nominate 1 1 1 2 3 4 5 6 7 8 9\n",
-            10,
-        ),
-        ("say 2 nominate 1 1 65536\n", 8),
-        ("say 2 proof 1 7\nsay 2 proof 1 7 1\n", 9),
-        ("say 2 request 1 7 511\nsay 2 request 1 7 512\n", 9),
-        ("say 2 receipt 1 7\nsay 1 receipt 2 7\n", 9),
-        ("tick 1\ntick 1000000\ntick 1000001\n", 10),
-        ("tick 0\n", 8),
-        ("tick 01\n", 8),
-        ("tick\n", 8),
-        ("tick 1 1\n", 8),
-        ("tick 1000000\n", 0),
-        ("next\nnext 1\nnext 4096\nnext 4097\n", 11),
-        ("next 4096\nnext\n", 0),
-        ("next 0\n", 8),
-        ("next 65536\n", 8),
-        ("next 1 1\n", 8),
-        ("lose\nlose 1\n", 9),
-        ("again 0\nagain 4294967295\n", 0),
-        ("again\n", 8),
-        ("again 4294967296\n", 8),
-        ("again 1 1\n", 8),
-        ("outer 1 0\nouter 1 4294967295\ncheck 1\n", 0),
-        ("outer 1 4294967296\n", 8),
-        ("tally 1 1\nnudge 1 1\ngive-up 1 1\nfinish\n", 0),
-        ("tally 2 1\n", 8),
-        ("nudge 1\n", 8),
-        ("give-up 1 1 1\n", 8),
-        ("give up 1 1\n", 8),
-        ("finish 1\n", 8),
-        ("outer 2 1\n", 8),
-        ("outer 1\n", 8),
-        ("check 2\n", 8),
-        ("check 9\n", 8),
-        ("check\n", 8),
-        ("check 1 1\n", 8),
-    ];
-    check_rows(&rt, rt.alloc(), &rows)
+    check_table(&rt, rt.alloc(), LISTS_AND_STEPS)
 }
+
+const COPIES_AND_HASHES: &str = "\
+# like
+8 copy 1 1 like 1;
+9 peer 5 honest 05 01;copy 5 1 like 1;
+0 peer 5 honest 05 01;copy 1 1 41,42;copy 5 1 like 1;
+10 peer 5 honest 05 01;copy 1 1 41,42;copy 5 1 like 2;
+10 peer 5 honest 05 01;copy 1 1 41,42;copy 5 1 like 9;
+10 peer 5 honest 05 01;copy 1 1 41,42;copy 5 2 like 1;
+9 copy 1 1 41,42;copy 1 1 like 1;
+8 copy 1 1 like;
+8 copy 1 1 as 1;
+8 copy 1 1 like 1 1;
+8 copy 1 1;
+# damage
+8 damage 1 1 0 43;
+0 copy 1 1 41,42;damage 1 1 1 -;damage 1 1 1 5a*16384;
+9 copy 1 1 41,42;damage 1 1 2 43;
+9 copy 1 1 41,42;damage 1 1 512 43;
+9 copy 1 1 41,42;damage 1 2 0 43;
+9 copy 1 1 41,42;damage 2 1 0 43;
+9 copy 1 1 41,42;damage 1 1 0 5a*16385;
+9 copy 1 1 41,42;damage 1 1 0;
+10 copy 1 1 41,42;open 1 1;damage 1 1 0 43;
+# hash
+0 hash 1 sha256;hash 2 sha512-256;
+9 hash 1 sha256;hash 1 sha256;
+8 hash 1 sha1;
+8 hash 9 sha256;
+8 hash 1;
+8 hash 1 sha256 1;
+9 open 1 1;hash 1 sha256;
+";
 
 #[test]
 fn lines_of_copies_and_hashes(rt: HostRuntime) -> Result<(), Fail> {
-    let rows = [
-        // like
-        ("copy 1 1 like 1\n", 8),
-        ("peer 5 honest 05 01\ncopy 5 1 like 1\n", 9),
-        ("peer 5 honest 05 01\ncopy 1 1 41,42\ncopy 5 1 like 1\n", 0),
-        ("peer 5 honest 05 01\ncopy 1 1 41,42\ncopy 5 1 like 2\n", 10),
-        ("peer 5 honest 05 01\ncopy 1 1 41,42\ncopy 5 1 like 9\n", 10),
-        ("peer 5 honest 05 01\ncopy 1 1 41,42\ncopy 5 2 like 1\n", 10),
-        ("copy 1 1 41,42\ncopy 1 1 like 1\n", 9),
-        ("copy 1 1 like\n", 8),
-        ("copy 1 1 as 1\n", 8),
-        ("copy 1 1 like 1 1\n", 8),
-        ("copy 1 1\n", 8),
-        // damage
-        ("damage 1 1 0 43\n", 8),
-        ("copy 1 1 41,42\ndamage 1 1 1 -\ndamage 1 1 1 5a*16384\n", 0),
-        ("copy 1 1 41,42\ndamage 1 1 2 43\n", 9),
-        ("copy 1 1 41,42\ndamage 1 1 512 43\n", 9),
-        ("copy 1 1 41,42\ndamage 1 2 0 43\n", 9),
-        ("copy 1 1 41,42\ndamage 2 1 0 43\n", 9),
-        ("copy 1 1 41,42\ndamage 1 1 0 5a*16385\n", 9),
-        ("copy 1 1 41,42\ndamage 1 1 0\n", 9),
-        ("copy 1 1 41,42\nopen 1 1\ndamage 1 1 0 43\n", 10),
-        // hash
-        ("hash 1 sha256\nhash 2 sha512-256\n", 0),
-        ("hash 1 sha256\nhash 1 sha256\n", 9),
-        ("hash 1 sha1\n", 8),
-        ("hash 9 sha256\n", 8),
-        ("hash 1\n", 8),
-        ("hash 1 sha256 1\n", 8),
-        ("open 1 1\nhash 1 sha256\n", 9),
-    ];
-    check_rows(&rt, rt.alloc(), &rows)
+    check_table(&rt, rt.alloc(), COPIES_AND_HASHES)
 }
 
 /// `like` takes the copy as it stands at its line, and `damage` changes one block of one copy.
@@ -503,105 +512,96 @@ fn at_most_so_many_bytes_of_copies(rt: HostRuntime) -> Result<(), Fail> {
     Ok(())
 }
 
+const VOTERS: &str = "\
+0 work 1 2 1;work 1 1 0;work 1 4 4294967295;
+8 work 2 1 1;
+8 work 9 2 1;
+8 work 1 9 1;
+8 work 1 65536 1;
+8 work 1 2 4294967296;
+8 work 1 2 01;
+8 work 1 2;
+8 work 1 2 1 1;
+8 work;
+0 expire 1 2 1;expire 1 1 0;expire 1 4 4294967295;
+8 expire 2 1 1;
+8 expire 9 2 1;
+8 expire 1 9 1;
+8 expire 1 2 4294967296;
+8 expire 1 2;
+8 expire 1 2 1 1;
+# invitations
+0 say 2 poll 1 1 1;say 2 poll 3 0 1;say 2 poll 2 4294967295 1;
+8 say 1 poll 2 1 1;
+8 say 9 poll 1 1 1;
+8 say 2 poll 9 1 1;
+8 say 2 poll 1 4294967296 1;
+8 say 2 poll 1 1 2;
+8 say 2 poll 1 1 65536;
+8 say 2 poll 1 1;
+8 say 2 poll 1 1 1 1;
+0 forge 2 1 0101000000010001;forge 2 3 01010000000100020000;
+8 forge 1 2 0101000000010001;
+";
+
 #[test]
 fn lines_of_voters(rt: HostRuntime) -> Result<(), Fail> {
-    let rows = [
-        ("work 1 2 1\nwork 1 1 0\nwork 1 4 4294967295\n", 0),
-        ("work 2 1 1\n", 8),
-        ("work 9 2 1\n", 8),
-        ("work 1 9 1\n", 8),
-        ("work 1 65536 1\n", 8),
-        ("work 1 2 4294967296\n", 8),
-        ("work 1 2 01\n", 8),
-        ("work 1 2\n", 8),
-        ("work 1 2 1 1\n", 8),
-        ("work\n", 8),
-        ("expire 1 2 1\nexpire 1 1 0\nexpire 1 4 4294967295\n", 0),
-        ("expire 2 1 1\n", 8),
-        ("expire 9 2 1\n", 8),
-        ("expire 1 9 1\n", 8),
-        ("expire 1 2 4294967296\n", 8),
-        ("expire 1 2\n", 8),
-        ("expire 1 2 1 1\n", 8),
-        // invitations
-        (
-            "say 2 poll 1 1 1\nsay 2 poll 3 0 1\nsay 2 poll 2 4294967295 1\n",
-            0,
-        ),
-        ("say 1 poll 2 1 1\n", 8),
-        ("say 9 poll 1 1 1\n", 8),
-        ("say 2 poll 9 1 1\n", 8),
-        ("say 2 poll 1 4294967296 1\n", 8),
-        ("say 2 poll 1 1 2\n", 8),
-        ("say 2 poll 1 1 65536\n", 8),
-        ("say 2 poll 1 1\n", 8),
-        ("say 2 poll 1 1 1 1\n", 8),
-        (
-            "forge 2 1 0101000000010001\nforge 2 3 01010000000100020000\n",
-            0,
-        ),
-        ("forge 1 2 0101000000010001\n", 8),
-    ];
-    check_rows(&rt, rt.alloc(), &rows)
+    check_table(&rt, rt.alloc(), VOTERS)
 }
+
+const OPERATORS: &str = "\
+0 tune 1 1 0 0;tune 1 3 1 2;tune 1 4 1 512;
+8 tune 1 0 0 2;
+9 tune 1 4 0 2;tune 1 5 0 2;
+8 tune 1 65536 1 2;
+8 tune 1 2 1 2;
+8 tune 1 4 2 2;
+8 tune 1 4 32768 2;
+8 tune 1 4 65535 2;
+8 tune 1 4 1 513;
+8 tune 1 4 1 65536;
+8 tune 2 3 1 2;
+8 tune 9 3 1 2;
+8 tune 1 03 1 2;
+8 tune 1 3 1;
+8 tune 1 3 1 2 2;
+";
 
 #[test]
 fn lines_of_operators(rt: HostRuntime) -> Result<(), Fail> {
-    let rows = [
-        ("tune 1 1 0 0\ntune 1 3 1 2\ntune 1 4 1 512\n", 0),
-        ("tune 1 0 0 2\n", 8),
-        ("tune 1 4 0 2\ntune 1 5 0 2\n", 9),
-        ("tune 1 65536 1 2\n", 8),
-        ("tune 1 2 1 2\n", 8),
-        ("tune 1 4 2 2\n", 8),
-        ("tune 1 4 32768 2\n", 8),
-        ("tune 1 4 65535 2\n", 8),
-        ("tune 1 4 1 513\n", 8),
-        ("tune 1 4 1 65536\n", 8),
-        ("tune 2 3 1 2\n", 8),
-        ("tune 9 3 1 2\n", 8),
-        ("tune 1 03 1 2\n", 8),
-        ("tune 1 3 1\n", 8),
-        ("tune 1 3 1 2 2\n", 8),
-    ];
-    check_rows(&rt, rt.alloc(), &rows)
+    check_table(&rt, rt.alloc(), OPERATORS)
 }
+
+const FAILING_POWER: &str = "\
+0 crash 1;
+8 crash 2;
+8 crash 9;
+8 crash;
+8 crash 1 1;
+0 cut 0 0 next;cut 8 255 again 4294967295;
+0 cut 1 2 check 1;cut 3 1 open 1 1;cut 0 0 outer 1 1;
+0 cut 0 0 shut 1 1;cut 0 0 tally 1 1;cut 0 0 nudge 1 1;
+0 cut 0 0 give-up 1 1;cut 0 0 work 1 2 1;cut 0 0 expire 1 2 1;
+0 cut 4 165 tune 1 4 1 512;
+8 cut 9 0 next;
+8 cut 256 0 next;
+8 cut 0 256 next;
+8 cut 0 00 next;
+8 cut 0 0 next 1;
+8 cut 0 0 again;
+8 cut 0 0;
+8 cut 0 0 lose;
+8 cut 0 0 settle;
+8 cut 0 0 crash 1;
+8 cut 0 0 cut 0 0 next;
+8 cut 0 0 say 2 receipt 1 1;
+8 cut 0 0 open 2 1;
+8 cut 0 0 tune 1 5 1 2;
+";
 
 #[test]
 fn lines_of_failing_power(rt: HostRuntime) -> Result<(), Fail> {
-    let rows = [
-        ("crash 1\n", 0),
-        ("crash 2\n", 8),
-        ("crash 9\n", 8),
-        ("crash\n", 8),
-        ("crash 1 1\n", 8),
-        ("cut 0 0 next\ncut 8 255 again 4294967295\n", 0),
-        ("cut 1 2 check 1\ncut 3 1 open 1 1\ncut 0 0 outer 1 1\n", 0),
-        (
-            "cut 0 0 shut 1 1\ncut 0 0 tally 1 1\ncut 0 0 nudge 1 1\n",
-            0,
-        ),
-        (
-            "cut 0 0 give-up 1 1\ncut 0 0 work 1 2 1\ncut 0 0 expire 1 2 1\n",
-            0,
-        ),
-        ("cut 4 165 tune 1 4 1 512\n", 0),
-        ("cut 9 0 next\n", 8),
-        ("cut 256 0 next\n", 8),
-        ("cut 0 256 next\n", 8),
-        ("cut 0 00 next\n", 8),
-        ("cut 0 0 next 1\n", 8),
-        ("cut 0 0 again\n", 8),
-        ("cut 0 0\n", 8),
-        ("cut 0 0 lose\n", 8),
-        ("cut 0 0 settle\n", 8),
-        ("cut 0 0 crash 1\n", 8),
-        ("cut 0 0 cut 0 0 next\n", 8),
-        ("cut 0 0 say 2 receipt 1 1\n", 8),
-        ("cut 0 0 open 2 1\n", 8),
-        ("cut 0 0 tune 1 5 1 2\n", 8),
-    ];
-    check_rows(&rt, rt.alloc(), &rows)
+    check_table(&rt, rt.alloc(), FAILING_POWER)
 }
 
 const FOUR_FAILURES: &str = "crash 1\ncut 0 0 next\ncut 8 255 again 7\nlose\ncrash 1\n";
