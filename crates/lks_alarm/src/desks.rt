@@ -33,6 +33,13 @@ impl<B: Bell> AlarmDesk<B> {
         }
     }
 
+    /// These bells hang there, in their order. It takes no memory.
+    pub fn from_bells(bells: Vec<B>) -> AlarmDesk<B>
+        ensures { result ≡ bells.items }
+    {
+        AlarmDesk { bells }
+    }
+
     /// Hangs a bell behind the others, or gives it back for want of memory.
     pub fn attach(&mut self, bell: B) -> Result<(), B>
         ensures ok { OnOk result (self.new ≡ self.old ++ bell ∷ []) }
