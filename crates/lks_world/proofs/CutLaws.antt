@@ -94,6 +94,10 @@ pub if_some : {X : Type 0} {P Q : X → Type 0} (o : Option X) → ((x : X) → 
 if_some None f p = tt
 if_some (Some x) f p = f x p
 
+pub if_any : {X : Type 0} {P : X → Type 0} (o : Option X) → ((x : X) → P x) → IfSome o P
+if_any None f = tt
+if_any (Some x) f = f x
+
 pub if_both : {X : Type 0} (P Q : X → Type 0) (o : Option X) → IfSome o P → IfSome o Q → IfSome o (λ x. P x × Q x)
 if_both P Q None p q = tt
 if_both P Q (Some x) p q = (p, q)

@@ -5,6 +5,7 @@ use Rattle.std.specs.List.{range_with_len}
 use Rattle.std.proofs.lemmas.List.{append-nil}
 use Rattle.lks_base.proofs.PlanBounds.{found_peer}
 use Rattle.lks_base.specs.Checking.{plan_fault}
+use Rattle.lks_base.specs.declared.events.Event.{Event}
 use Rattle.lks_base.specs.declared.events.Event.TheVariants as events
 use Rattle.lks_base.specs.declared.events.PeerStep.{PeerStep}
 use Rattle.lks_base.specs.declared.limits.TheConstants.{MOST_EVENTS}
@@ -23,7 +24,7 @@ use Rattle.lks_world.proofs.CutLaws.{honest_at, some_length}
 use Rattle.lks_world.proofs.Keeping.{kept_room, kept_full, peer_there}
 use Rattle.lks_world.proofs.SeatLaws.{counted_same, counted_then}
 use Rattle.lks_world.proofs.StateLaws.{became_step, became_cut}
-use Rattle.lks_world.specs.Cuts.{taker_of, FallsShort, Cuts}
+use Rattle.lks_world.specs.Cuts.{taker_of, FallsShort, Cuts, CutsOff}
 use Rattle.lks_world.specs.Endings.{AreMade, BurnsUnless, PeersEnd, HasEnded, SeatsBurnFor, event_for, is_whole, notes_for, sends_for}
 use Rattle.lks_world.specs.Hosts.{peer_in, peers_of, with_added, HaveGoneOn, IsAbsent}
 use Rattle.lks_world.specs.Kept.{kept}
@@ -184,15 +185,16 @@ module _ {D : Type 0} (f : Face D) (plan : Plan) where
         never (inl none) = end.2 (same_added ∙ none)
         never (inr four) = omega (arith, end.3, four)
 
-    -- where the history is full, nothing happens
-    pub cuts_full : MOST_EVENTS ≤ length (events_in s) → IsSome (taken (world_in f s)) → Cuts plan (events_in s) calls p (events_in s)
-    cuts_full full there = record {
-      alone = λ none. absurd (some_there there none);
-      short = λ short. record { is_kept = false; early = λ early. refl; more = sym (kept_full (events_in s) (events.Cut p false) full) };
-      whole = λ x honest spent.
-          let first = kept_full (events_in s) (events.Step p) full in
-          sym (ap (λ es. kept es (events.Crash (taker_of (world plan (events_in s)).bag p))) first ∙ kept_full (events_in s) (events.Crash (taker_of (world plan (events_in s)).bag p)) full);
-    }
+-- where the history is full, nothing happens
+pub off_full : (plan : Plan) (history : List Event) (calls : ℕ) (o : Option PeerStep) → MOST_EVENTS ≤ length history → CutsOff plan history calls o history
+off_full plan history calls None full = refl
+off_full plan history calls (Some p) full = record {
+  alone = λ none. sym (kept_full history (events.Step p) full);
+  short = λ short. record { is_kept = false; early = λ early. refl; more = sym (kept_full history (events.Cut p false) full) };
+  whole = λ x honest spent.
+      let crash = events.Crash (taker_of (world plan history).bag p) in
+      sym (ap (λ es. kept es crash) (kept_full history (events.Step p) full) ∙ kept_full history crash full);
+}
 
 -- Calls of the world's disks, and then a step that makes none.
 

@@ -56,7 +56,7 @@ extends_then plan a b c first next = record {
 }
 
 module _ {D : Type 0} (f : Face D) where
-  count_events : (s : State D) → length (events_in s) ≡ length s.history.items
+  pub count_events : (s : State D) → length (events_in s) ≡ length s.history.items
   count_events s = length-map s.history.items (λ (e : Entry). e.event)
 
   pub room_kept : (plan : Plan) (s t : State D) (e : Event) → 0 < MOST_EVENTS - length s.history.items → Becomes f plan (events_in s ++ e ∷ []) t → Becomes f plan (kept (events_in s) e) t

@@ -18,3 +18,4 @@ mod Sending
 pub mod ServingLaws
 mod StateLaws
 mod Unsafe
+mod Watched

@@ -1,5 +1,5 @@
 -- What comes next in the world of a state.
-use Rattle.std.proofs.Common.{◌≡◌, ◌<◌, ◌∙◌, ap, sym, subst, ℕ, true, false, List, [], ◌∷◌, length, refl, arith}
+use Rattle.std.proofs.Common.{◌≡◌, ◌≤◌, ◌<◌, ◌∙◌, ap, sym, subst, ℕ, Bool, true, false, cond, List, [], ◌∷◌, length, refl, arith}
 use Rattle.std.specs.Prelude.{Option, Some, None, slice_get, option_map, nat_lt, if◌then◌else◌}
 use Rattle.std.specs.Option.{option_map_or}
 use Rattle.lks_disk.specs.Face.{Face}
@@ -9,6 +9,7 @@ use Rattle.lks_base.specs.declared.events.Event.{Event}
 use Rattle.lks_base.specs.declared.events.Event.TheVariants.{Step, Lose}
 use Rattle.lks_base.specs.declared.events.PeerStep.{PeerStep}
 use Rattle.lks_base.specs.declared.events.PeerStep.TheVariants.{Deliver}
+use Rattle.lks_base.specs.declared.limits.TheConstants.{MOST_EVENTS}
 use Rattle.lks_base.specs.declared.names.Judged.{Judged}
 use Rattle.lks_base.specs.declared.plans.Plan.{Plan}
 use Rattle.lks_effort.specs.declared.questions.Question.{Question}
@@ -17,6 +18,7 @@ use Rattle.lks_law.specs.Due.{ready, turns, first_due, first_own, first_waiting,
 use Rattle.lks_law.specs.Histories.{MayStep, MayHappen, WasSent}
 use Rattle.lks_law.specs.Questions.{Verdicts, judged, question_at, questions, delivery_of, event_of}
 use Rattle.lks_law.specs.World.{World, world}
+use Rattle.lks_world.proofs.Keeping.{kept_full}
 use Rattle.lks_world.specs.Follows.{next_event, lost, delivered_again}
 use Rattle.lks_world.specs.Kept.{kept}
 use Rattle.lks_world.specs.Hosts.{peers_of}
@@ -74,10 +76,10 @@ module _ {D : Type 0} (f : Face D) (plan : Plan) (s : State D) (is : IsStateOf f
   none_is verdict course none = ap (option_map (event_of verdict plan (events_in s))) none
 
   -- a delivery is judged by the question that it puts
-  pub is_delivery : (verdict : Verdicts) (i : ℕ) (q : Option Question) (j : Judged) → q ≡ question_at (world_in f s) i → ((before : List Question) → j ≡ judged verdict before q)
+  pub is_delivery : (verdict : Verdicts) (before : List Question) (i : ℕ) (q : Option Question) (j : Judged) → before ≡ questions plan (events_in s) → q ≡ question_at (world_in f s) i → j ≡ judged verdict before q
       → Step (Deliver i j) ≡ delivery_of verdict plan (events_in s) i
-  is_delivery verdict i q j asked says =
-      ap (λ x. Step (Deliver i x)) (says (questions plan (events_in s)) ∙ ap (judged verdict (questions plan (events_in s))) (asked ∙ ap (λ w. question_at w i) is.world))
+  is_delivery verdict before i q j heard asked says =
+      ap (λ x. Step (Deliver i x)) (says ∙ (λ k. judged verdict (heard k) ((asked ∙ ap (λ w. question_at w i) is.world) k)))
 
   pub sent_may : (verdict : Verdicts) (i : ℕ) (p : PeerStep) → i < length s.bag.items → Step p ≡ delivery_of verdict plan (events_in s) i → MayStep plan (world_in f s) p
   sent_may verdict i p sent made =
@@ -123,6 +125,14 @@ module _ {D : Type 0} (f : Face D) (plan : Plan) (s : State D) (is : IsStateOf f
       ap (kept (events_in s)) made
       ∙ ap (λ c. if c then kept (events_in s) (delivery_of verdict plan (events_in s) i) else events_in s) (sym stands) in
       record { state = b.state; events = b.events ∙ here ∙ again_is verdict i }
+
+  pub full_again : (verdict : Verdicts) (i : ℕ) → MOST_EVENTS ≤ length (events_in s) → Becomes f plan (delivered_again verdict i plan (events_in s)) s
+  unfolding delivered_again
+  full_again verdict i full = record { state = is; events = by_sent (nat_lt i (length (world plan (events_in s)).bag)) }
+    where
+      by_sent : (b : Bool) → events_in s ≡ cond b (kept (events_in s) (delivery_of verdict plan (events_in s) i)) (events_in s)
+      by_sent true = sym (kept_full (events_in s) (delivery_of verdict plan (events_in s) i) full)
+      by_sent false = refl
 
   pub never_sent : (verdict : Verdicts) (i : ℕ) → nat_lt i (length s.bag.items) ≡ false → Becomes f plan (delivered_again verdict i plan (events_in s)) s
   never_sent verdict i beyond =

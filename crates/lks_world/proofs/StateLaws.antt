@@ -97,7 +97,7 @@ module _ {D : Type 0} (f : Face D) where
     pool : t.pool.now ≡ s.pool.now
     on : HaveGoneOn f (hosts_of s.seats.items) (hosts_of t.seats.items)
 
-  more_events : (s t : State D) (e : Event) → t.history.items ≡ s.history.items ++ entry_of (world_in f s) e ∷ [] → events_in t ≡ events_in s ++ e ∷ []
+  pub more_events : (s t : State D) (e : Event) → t.history.items ≡ s.history.items ++ entry_of (world_in f s) e ∷ [] → events_in t ≡ events_in s ++ e ∷ []
   more_events s t e history =
       ap (map (λ (x : Entry). x.event)) history ∙ map-append (λ (x : Entry). x.event) s.history.items (entry_of (world_in f s) e ∷ [])
       ∙ ap (λ d. events_in s ++ d ∷ []) (entry_event (world_in f s) e)

@@ -68,11 +68,11 @@ disks_after (Err fault) left = reverse left
 
 -- What is left of a call that makes a world: the disks, in the world or given back, and its fault.
 
-abbrev pub disks_made : {D : Type 0} → Result (World D) (Parts D × WorldFault) → List D
+abbrev pub disks_made : {D J B : Type 0} → Result (World D J B) (Parts D J B × WorldFault) → List D
 disks_made (Ok world) = world.disks
 disks_made (Err e) = e.0.disks.items
 
-abbrev pub fault_made : {D : Type 0} → Result (World D) (Parts D × WorldFault) → Option WorldFault
+abbrev pub fault_made : {D J B : Type 0} → Result (World D J B) (Parts D J B × WorldFault) → Option WorldFault
 fault_made (Ok world) = None
 fault_made (Err e) = Some e.1
 

@@ -10,4 +10,5 @@ pub mod Kept
 pub mod Seats
 pub mod States
 pub mod Unsafe
+pub mod Watched
 pub mod Worlds

@@ -1,5 +1,5 @@
 -- The state of a world, and the history that it stands for.
-use Rattle.std.specs.Prelude.{◌≡◌, ◌≤◌, ◌==◌, ◌*◌, ◌++◌, ℕ, true, not, filter, map, Option, Some, List, [], length, slice_get}
+use Rattle.std.specs.Prelude.{◌≡◌, ◌≤◌, ◌==◌, ◌*◌, ◌++◌, ◌∷◌, ℕ, true, not, filter, map, Option, Some, List, [], length, slice_get, Result, Ok, Err}
 use Rattle.std.specs.List.{flat_map}
 use Rattle.lks_disk.specs.Face.{Face}
 use Rattle.lks_base.specs.declared.entries.Entry.{Entry}
@@ -70,6 +70,11 @@ pub record IsStateOf {D : Type 0} (f : Face D) (plan : Plan) (s : State D) : Typ
 pub record Becomes {D : Type 0} (f : Face D) (plan : Plan) (history : List Event) (s : State D) : Type 0 where
   pub state : IsStateOf f plan s
   pub events : events_in s ≡ history
+
+-- one entry more, or at a refusal none
+abbrev pub HasNoted : {T F : Type 0} → Entry → List Entry → List Entry → Result T F → Type 0
+HasNoted e before after (Ok _) = after ≡ before ++ e ∷ []
+HasNoted e before after (Err _) = after ≡ before
 
 -- a history that goes on from an earlier one, with an entry for each event
 pub record Extends (plan : Plan) (before after : List Entry) : Type 0 where

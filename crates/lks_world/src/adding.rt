@@ -1,11 +1,14 @@
 //! One event more, unless the history is full.
 
-ghost use Rattle.std.specs.Prelude.{◌≡◌, ◌≤◌, ◌<◌, ◌-◌, ℕ, true, OnOk, length, get_or};
+ghost use Rattle.std.specs.Prelude.{◌≡◌, ◌≤◌, ◌<◌, ◌-◌, ◌++◌, ◌∷◌, [], ℕ, true, None, OnOk, length, get_or};
 ghost use Rattle.lks_base.specs.Checking.{has_corrupt, has_peer};
 ghost use Rattle.lks_base.specs.declared.events.Event.TheVariants as events;
 ghost use Rattle.lks_base.specs.declared.limits.TheConstants.{MOST_FORGED_BYTES, MOST_TICKS};
 ghost use Rattle.lks_base.specs.declared.plans.Plan.{Plan};
 ghost use Rattle.lks_law.specs.Histories.{IsHonest, MayStep, WasSent};
+ghost use Rattle.lks_law.specs.Questions.{question_on};
+ghost use Rattle.lks_watch.specs.Watching.{ears, AsksOn, WatchesBy};
+ghost use Rattle.lks_watch.specs.declared.watches.Watch.{Watch};
 ghost use Rattle.lks_world.specs.Kept.{kept};
 ghost use Rattle.lks_world.specs.Seats.{Counted};
 ghost use Rattle.lks_world.specs.States.{IsStateOf, Becomes, Extends, events_in, world_in};
@@ -13,8 +16,11 @@ ghost use Rattle.lks_world.specs.States.{IsStateOf, Becomes, Extends, events_in,
 use crate::faults::WorldFault;
 use crate::other_events::{crash, forge, lose, tick};
 use crate::states::{State, step};
+use lks_alarm::Bell;
 use lks_base::{Bytes, MOST_EVENTS, OutOfMemory, PeerId, PeerStep};
 use lks_disk::CrashDisk;
+use lks_effort::EffortJudge;
+use lks_watch::Watch;
 use std::alloc::Global;
 use std::sync::Wait;
 
@@ -25,11 +31,34 @@ pub fn room<D: CrashDisk>(state: &State<'_, D>) -> usize
     (MOST_EVENTS as usize).saturating_sub(state.history.as_slice().len())
 }
 
-/// One step of a peer.
-pub fn add_step<R: Wait, D: CrashDisk>(
+/// One step of a peer, where there is room for its event and the judge was asked what it asks.
+pub fn take_step<R: Wait, D: CrashDisk, J: EffortJudge, B: Bell>(
     alloc: Global,
     rt: &R,
     state: &mut State<'_, D>,
+    watch: &mut Watch<J, B>,
+    s: PeerStep,
+) -> Result<(), WorldFault>
+    requires room { 0 < MOST_EVENTS - length state.old.history.items }
+    requires state { (plan : Plan) × IsStateOf D.face plan state.old }
+    ensures becomes { (plan : Plan) → IsStateOf D.face plan state.old → MayStep plan (world_in D.face state.old) s →
+        OnOk result (Becomes D.face plan (events_in state.old ++ events.Step s ∷ []) state.new) }
+    ensures extends { (plan : Plan) → IsStateOf D.face plan state.old → MayStep plan (world_in D.face state.old) s →
+        Extends plan state.old.history.items state.new.history.items }
+    ensures watches { (plan : Plan) → IsStateOf D.face plan state.old → (first : Watch J B) → AsksOn (ears J.heard J.verdict B.rung B.limit) (world_in D.face state.old) s first watch.old →
+        OnOk result (WatchesBy (ears J.heard J.verdict B.rung B.limit) plan (events_in state.old) (events_in state.new) first watch.new) }
+    ensures counted { Counted D.face state.old.seats.items state.new.seats.items result }
+{
+    step(alloc, rt, state, watch, s)?;
+    Ok(())
+}
+
+/// One step of a peer that asks nothing.
+pub fn add_step<R: Wait, D: CrashDisk, J: EffortJudge, B: Bell>(
+    alloc: Global,
+    rt: &R,
+    state: &mut State<'_, D>,
+    watch: &mut Watch<J, B>,
     s: PeerStep,
 ) -> Result<(), WorldFault>
     requires { (plan : Plan) × IsStateOf D.face plan state.old }
@@ -37,10 +66,12 @@ pub fn add_step<R: Wait, D: CrashDisk>(
         OnOk result (Becomes D.face plan (kept (events_in state.old) (events.Step s)) state.new) }
     ensures extends { (plan : Plan) → IsStateOf D.face plan state.old → MayStep plan (world_in D.face state.old) s →
         Extends plan state.old.history.items state.new.history.items }
+    ensures watches { (plan : Plan) → IsStateOf D.face plan state.old → question_on (world_in D.face state.old) s ≡ None →
+        OnOk result (WatchesBy (ears J.heard J.verdict B.rung B.limit) plan (events_in state.old) (events_in state.new) watch.old watch.new) }
     ensures counted { Counted D.face state.old.seats.items state.new.seats.items result }
 {
     if room(state) > 0 {
-        step(alloc, rt, state, s)?;
+        take_step(alloc, rt, state, watch, s)?;
     }
     Ok(())
 }

@@ -5,23 +5,26 @@ ghost use Rattle.lks_base.specs.Checking.{plan_fault};
 ghost use Rattle.lks_base.specs.declared.events.Event.TheVariants as events;
 ghost use Rattle.lks_base.specs.declared.limits.TheConstants.{MOST_EVENTS};
 ghost use Rattle.lks_base.specs.declared.plans.Plan.{Plan as Planned};
-ghost use Rattle.lks_effort.specs.Verdicts.{first_byte};
 ghost use Rattle.lks_host.specs.Hosted.{IsMadeBy};
 ghost use Rattle.lks_host.specs.Journals.{journal_on};
 ghost use Rattle.lks_law.specs.Facts.{IsHeard};
 ghost use Rattle.lks_law.specs.Histories.{IsHonest, MayStep};
+ghost use Rattle.lks_law.specs.Questions.{questions};
 ghost use Rattle.lks_law.specs.Table.{reaction};
 ghost use Rattle.lks_law.specs.Turning.{has_inner_in};
 ghost use Rattle.lks_law.specs.World.{peer_at};
 ghost use Rattle.lks_script.specs.StepRules.{is_cut_step};
+ghost use Rattle.lks_watch.specs.Watching.{ears, AsksOn, WatchesBy};
+ghost use Rattle.lks_watch.specs.declared.watches.Watch.{Watch};
 ghost use Rattle.lks_world.specs.Cuts.{taker_of, step_cut, Cuts, CutsOff};
 ghost use Rattle.lks_world.specs.Endings.{answer_to, AreMade, BurnsFor, BurnsUnless, CanTake, HasEnded, HostEnds, PeersEnd, SeatsBurnFor, ending_of, event_for, is_whole, notes_for, sends_for};
 ghost use Rattle.lks_world.specs.Hosts.{peer_in, peers_of, IsReady, AreReady, GoesOn, HaveGoneOn, HasActed};
 ghost use Rattle.lks_world.specs.Kept.{kept};
 ghost use Rattle.lks_world.specs.Seats.{hosts_of, Counted, SeatsBurn};
 ghost use Rattle.lks_world.specs.States.{events_in, world_in, IsStateOf, Becomes, Extends};
+ghost use Rattle.lks_world.specs.Watched.{AsksIf};
 
-use crate::adding::{add_crash, add_step, room};
+use crate::adding::{add_crash, room, take_step};
 use crate::deeds::{Deed, make_deed, taker};
 use crate::faults::{WorldFault, blame};
 use crate::notes::notes;
@@ -29,11 +32,14 @@ use crate::other_events;
 use crate::seats::{Seat, place_of};
 use crate::settling::{delivery, first_waiting, was_sent};
 use crate::states::{Done, State, actor, note_step, nothing_done};
+use lks_alarm::Bell;
 use lks_base::{Event, Input, Note, OutOfMemory, PeerId, PeerStep, Plan, Reaction, Seq};
 use lks_blocks::BlockPool;
 use lks_disk::{CrashDisk, Disk};
+use lks_effort::EffortJudge;
 use lks_host::{Host, Outcome, cut_step, restart};
 use lks_script::CutStep;
+use lks_watch::Watch;
 use std::alloc::Global;
 use std::sync::Wait;
 
@@ -211,11 +217,12 @@ fn told(alloc: Global, s: PeerStep, ending: Ending) -> (Event, Done)
 }
 
 /// Does a step of an honest peer while its power fails: whether it was done before.
-fn cut_there<R: Wait, D: CrashDisk>(
+fn cut_there<R: Wait, D: CrashDisk, J: EffortJudge, B: Bell>(
     alloc: Global,
     rt: &R,
     plan: &Plan,
     state: &mut State<'_, D>,
+    watch: &mut Watch<J, B>,
     s: PeerStep,
     power: Power,
 ) -> Result<bool, WorldFault>
@@ -226,6 +233,8 @@ fn cut_there<R: Wait, D: CrashDisk>(
     ensures err { OnErr result (state.new.history.items ≡ state.old.history.items) }
     ensures counted { Counted D.face state.old.seats.items state.new.seats.items result }
     ensures burns { IfOk result (BurnsUnless D.face power.choice (taker_of state.old.bag.items s) state.old.seats.items state.new.seats.items) }
+    ensures watches { (first : Watch J B) → AsksOn (ears J.heard J.verdict B.rung B.limit) (world_in D.face state.old) s first watch.old →
+        OnOk result (WatchesBy (ears J.heard J.verdict B.rung B.limit) plan.now (events_in state.old) (events_in state.new) first watch.new) }
 {
     let id = taker(&state.bag, s);
     let deed = make_deed(alloc, &state.bag, s)?;
@@ -242,85 +251,93 @@ fn cut_there<R: Wait, D: CrashDisk>(
     )?;
     let whole = ending.whole();
     let (event, done) = told(alloc, s, ending);
-    note_step(state, s, event, actor(&deed), done)?;
+    note_step(state, watch, s, event, actor(&deed), done)?;
     Ok(whole)
 }
 
-/// Does a step while the power of its peer fails.
-fn cut_off<R: Wait, D: CrashDisk>(
+/// Does a step while the power of its peer fails, where there is room for its event and the judge was asked what it asks.
+fn cut_off<R: Wait, D: CrashDisk, J: EffortJudge, B: Bell>(
     alloc: Global,
     rt: &R,
     plan: &Plan,
     state: &mut State<'_, D>,
+    watch: &mut Watch<J, B>,
     s: PeerStep,
     power: Power,
 ) -> Result<(), WorldFault>
     requires good { plan_fault plan.now ≡ None }
-    requires state { IsStateOf D.face plan.now state.old }
+    requires state { IsStateOf D.face plan.now state.old × (0 < MOST_EVENTS - length state.old.history.items) }
     requires may { MayStep plan.now (world_in D.face state.old) s }
-    ensures state { OnOk result (IsStateOf D.face plan.now state.new) }
-    ensures cuts { OnOk result (Cuts plan.now (events_in state.old) power.calls s (events_in state.new)) }
+    ensures cuts { OnOk result (IsStateOf D.face plan.now state.new × Cuts plan.now (events_in state.old) power.calls s (events_in state.new)) }
     ensures extends { Extends plan.now state.old.history.items state.new.history.items }
     ensures counted { Counted D.face state.old.seats.items state.new.seats.items result }
     ensures burns { OnOk result (SeatsBurn D.face plan.now (events_in state.old) power.calls power.choice state.old.seats.items state.new.seats.items s) }
+    ensures watches { (first : Watch J B) → AsksOn (ears J.heard J.verdict B.rung B.limit) (world_in D.face state.old) s first watch.old →
+        OnOk result (WatchesBy (ears J.heard J.verdict B.rung B.limit) plan.now (events_in state.old) (events_in state.new) first watch.new) }
 {
     let id = taker(&state.bag, s);
     if place_of(&state.seats, id).is_none() {
-        return add_step(alloc, rt, state, s);
+        return take_step(alloc, rt, state, watch, s);
     }
-    if room(state) == 0 {
-        return Ok(());
-    }
-    if cut_there(alloc, rt, plan, state, s, power)? {
+    if cut_there(alloc, rt, plan, state, watch, s, power)? {
         add_crash(state, id)?;
     }
     Ok(())
 }
 
-/// The step that a line cuts off, if there is one.
+/// The step that a line cuts off, if there is one, once the judge was asked what it asks.
 #[tactic(auto, unfolding(crate::specs::Cuts::step_cut))]
-fn find_step<D: CrashDisk>(
+fn find_step<D: CrashDisk, J: EffortJudge, B: Bell>(
     alloc: Global,
     state: &State<'_, D>,
+    watch: &mut Watch<J, B>,
     step: CutStep,
 ) -> Result<Option<PeerStep>, OutOfMemory>
-    ensures { (plan : Planned) → IsStateOf D.face plan state.now → IfOk result (λ o. o ≡ step_cut first_byte plan (events_in state.now) step) }
+    requires { length (J.heard watch.old.judge) < MOST_EVENTS }
+    ensures step { (plan : Planned) → IsStateOf D.face plan state.now → J.heard watch.old.judge ≡ questions plan (events_in state.now) →
+        IfOk result (λ o. o ≡ step_cut (J.verdict watch.old.judge) plan (events_in state.now) step) }
+    ensures asks { (plan : Planned) → is_cut_step plan step ≡ true → IfOk result (λ o. AsksIf (ears J.heard J.verdict B.rung B.limit) (world_in D.face state.now) o watch.old watch.new) }
 {
     match step {
         CutStep::Next => match first_waiting(state) {
-            Some(envelope) => Ok(Some(delivery(alloc, state, envelope)?)),
+            Some(envelope) => Ok(Some(delivery(alloc, state, watch, envelope)?)),
             None => Ok(None),
         },
         CutStep::Again { envelope } => {
             if !was_sent(state, envelope) {
                 return Ok(None);
             }
-            Ok(Some(delivery(alloc, state, envelope)?))
+            Ok(Some(delivery(alloc, state, watch, envelope)?))
         }
         CutStep::Peer(s) => Ok(Some(s)),
     }
 }
 
 /// Does what a line cuts off, while the power of the peer fails that takes the step.
-pub fn cut<R: Wait, D: CrashDisk>(
+pub fn cut<R: Wait, D: CrashDisk, J: EffortJudge, B: Bell>(
     alloc: Global,
     rt: &R,
     plan: &Plan,
     state: &mut State<'_, D>,
+    watch: &mut Watch<J, B>,
     step: CutStep,
     power: Power,
 ) -> Result<(), WorldFault>
     requires good { plan_fault plan.now ≡ None }
     requires legal { is_cut_step plan.now step ≡ true }
-    requires state { IsStateOf D.face plan.now state.old }
+    requires state { IsStateOf D.face plan.now state.old × (J.heard watch.old.judge ≡ questions plan.now (events_in state.old)) }
     ensures state { OnOk result (IsStateOf D.face plan.now state.new) }
-    ensures cuts { OnOk result (CutsOff plan.now (events_in state.old) power.calls (step_cut first_byte plan.now (events_in state.old) step) (events_in state.new)) }
+    ensures cuts { OnOk result (CutsOff plan.now (events_in state.old) power.calls (step_cut (J.verdict watch.old.judge) plan.now (events_in state.old) step) (events_in state.new)
+        × WatchesBy (ears J.heard J.verdict B.rung B.limit) plan.now (events_in state.old) (events_in state.new) watch.old watch.new) }
     ensures extends { Extends plan.now state.old.history.items state.new.history.items }
     ensures counted { Counted D.face state.old.seats.items state.new.seats.items result }
-    ensures burns { OnOk result (IfSome (step_cut first_byte plan.now (events_in state.old) step) (SeatsBurn D.face plan.now (events_in state.old) power.calls power.choice state.old.seats.items state.new.seats.items)) }
+    ensures burns { OnOk result (IfSome (step_cut (J.verdict watch.old.judge) plan.now (events_in state.old) step) (SeatsBurn D.face plan.now (events_in state.old) power.calls power.choice state.old.seats.items state.new.seats.items)) }
 {
-    match find_step(alloc, state, step)? {
-        Some(s) => cut_off(alloc, rt, plan, state, s, power),
+    if room(state) == 0 {
+        return Ok(());
+    }
+    match find_step(alloc, state, watch, step)? {
+        Some(s) => cut_off(alloc, rt, plan, state, watch, s, power),
         None => Ok(()),
     }
 }

@@ -29,7 +29,7 @@ impl Model for Deed {
 }
 
 /// The message that these bytes spell, if they spell one.
-pub fn read(alloc: Global, bytes: &[u8]) -> Result<Option<Message>, OutOfMemory>
+fn read(alloc: Global, bytes: &[u8]) -> Result<Option<Message>, OutOfMemory>
     ensures message { IfOk result (λ m. m ≡ message_in bytes.now) }
     ensures within { IfOk result (λ m. IfSome m IsWithin) }
 {

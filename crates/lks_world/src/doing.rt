@@ -3,48 +3,56 @@
 ghost use Rattle.std.specs.Prelude.{◌≡◌, ℕ, true, None, OnOk, IfSome};
 ghost use Rattle.lks_base.specs.Checking.{plan_fault};
 ghost use Rattle.lks_base.specs.declared.plans.Plan.{Plan as Planned};
-ghost use Rattle.lks_effort.specs.Verdicts.{first_byte};
+ghost use Rattle.lks_law.specs.Questions.{Verdicts, questions};
 ghost use Rattle.lks_message.specs.Spelling.{IsWithin};
 ghost use Rattle.lks_script.specs.StepRules.{is_step_of};
 ghost use Rattle.lks_saying.specs.Sayings.{IsSaying, MayBeSaid};
+ghost use Rattle.lks_watch.specs.Watching.{ears, Watching, Watches, WatchesBy};
 ghost use Rattle.lks_world.specs.Follows.{done, lost, delivered_again, next_event, spoken, Performs};
 ghost use Rattle.lks_script.specs.declared.steps.CutStep.{CutStep};
 ghost use Rattle.lks_world.specs.Cuts.{step_cut};
 ghost use Rattle.lks_world.specs.Seats.{Counted, SeatsBurn};
 ghost use Rattle.lks_world.specs.States.{IsStateOf, Becomes, Extends, events_in, next_of};
 
-use crate::adding::{add_forgery, add_loss, add_step, add_ticks, room};
+use crate::adding::{add_forgery, add_loss, add_step, add_ticks, room, take_step};
 use crate::cutting::{Power, crash, cut};
 use crate::faults::WorldFault;
 use crate::settling::{Course, delivery, first_waiting, next, step_of, was_sent};
-use crate::states::{State, step};
+use crate::states::State;
+use lks_alarm::Bell;
 use lks_base::{MOST_EVENTS, OutOfMemory, Plan, Seq};
 use lks_disk::CrashDisk;
+use lks_effort::EffortJudge;
 use lks_message::encode;
 use lks_saying::{Saying, what_is_said};
 use lks_script::Step;
+use lks_watch::Watch;
 use std::alloc::Global;
 use std::sync::Wait;
 
 /// Does what comes next, so many times, as long as there is something.
-fn go_on<R: Wait, D: CrashDisk>(
+fn go_on<R: Wait, D: CrashDisk, J: EffortJudge, B: Bell>(
     alloc: Global,
     rt: &R,
     state: &mut State<'_, D>,
+    watch: &mut Watch<J, B>,
     times: usize,
     course: Course,
 ) -> Result<(), WorldFault>
-    requires { (plan : Planned) × IsStateOf D.face plan state.old }
-    ensures becomes { (plan : Planned) → IsStateOf D.face plan state.old →
-        OnOk result (Becomes D.face plan (done (next_event first_byte (next_of course)) times plan (events_in state.old)) state.new) }
-    ensures extends { (plan : Planned) → IsStateOf D.face plan state.old → Extends plan state.old.history.items state.new.history.items }
+    requires { (plan : Planned) × IsStateOf D.face plan state.old × (J.heard watch.old.judge ≡ questions plan (events_in state.old)) }
+    ensures becomes { (plan : Planned) → IsStateOf D.face plan state.old → J.heard watch.old.judge ≡ questions plan (events_in state.old) →
+        OnOk result (Becomes D.face plan (done (next_event (J.verdict watch.old.judge) (next_of course)) times plan (events_in state.old)) state.new) }
+    ensures watches { (plan : Planned) → IsStateOf D.face plan state.old → J.heard watch.old.judge ≡ questions plan (events_in state.old) →
+        OnOk result (WatchesBy (ears J.heard J.verdict B.rung B.limit) plan (events_in state.old) (events_in state.new) watch.old watch.new) }
+    ensures extends { (plan : Planned) → IsStateOf D.face plan state.old → J.heard watch.old.judge ≡ questions plan (events_in state.old) →
+        Extends plan state.old.history.items state.new.history.items }
     ensures counted { Counted D.face state.old.seats.items state.new.seats.items result }
 {
     for turn in 0..times.min(room(state)) {
         match next(state, course) {
             Some(due) => {
-                let s = step_of(alloc, state, due)?;
-                step(alloc, rt, state, s)?;
+                let s = step_of(alloc, state, watch, due)?;
+                take_step(alloc, rt, state, watch, s)?;
             }
             None => return Ok(()),
         }
@@ -66,23 +74,30 @@ fn lose_first<D: CrashDisk>(state: &mut State<'_, D>) -> Result<(), OutOfMemory>
 }
 
 /// Delivers an envelope that was sent, whether it waits or not.
-fn deliver_again<R: Wait, D: CrashDisk>(
+fn deliver_again<R: Wait, D: CrashDisk, J: EffortJudge, B: Bell>(
     alloc: Global,
     rt: &R,
     state: &mut State<'_, D>,
+    watch: &mut Watch<J, B>,
     envelope: u32,
 ) -> Result<(), WorldFault>
-    requires { (plan : Planned) × IsStateOf D.face plan state.old }
-    ensures becomes { (plan : Planned) → IsStateOf D.face plan state.old →
-        OnOk result (Becomes D.face plan (delivered_again first_byte envelope plan (events_in state.old)) state.new) }
-    ensures extends { (plan : Planned) → IsStateOf D.face plan state.old → Extends plan state.old.history.items state.new.history.items }
+    requires { (plan : Planned) × IsStateOf D.face plan state.old × (J.heard watch.old.judge ≡ questions plan (events_in state.old)) }
+    ensures becomes { (plan : Planned) → IsStateOf D.face plan state.old → J.heard watch.old.judge ≡ questions plan (events_in state.old) →
+        OnOk result (Becomes D.face plan (delivered_again (J.verdict watch.old.judge) envelope plan (events_in state.old)) state.new) }
+    ensures watches { (plan : Planned) → IsStateOf D.face plan state.old → J.heard watch.old.judge ≡ questions plan (events_in state.old) →
+        OnOk result (WatchesBy (ears J.heard J.verdict B.rung B.limit) plan (events_in state.old) (events_in state.new) watch.old watch.new) }
+    ensures extends { (plan : Planned) → IsStateOf D.face plan state.old → J.heard watch.old.judge ≡ questions plan (events_in state.old) →
+        Extends plan state.old.history.items state.new.history.items }
     ensures counted { Counted D.face state.old.seats.items state.new.seats.items result }
 {
+    if room(state) == 0 {
+        return Ok(());
+    }
     if !was_sent(state, envelope) {
         return Ok(());
     }
-    let s = delivery(alloc, state, envelope)?;
-    add_step(alloc, rt, state, s)
+    let s = delivery(alloc, state, watch, envelope)?;
+    take_step(alloc, rt, state, watch, s)
 }
 
 /// What a corrupt peer says is what it forges.
@@ -117,7 +132,8 @@ fn say<D: CrashDisk>(
     requires saying { IsSaying step.now }
     requires state { IsStateOf D.face plan.now state.old }
     ensures state { OnOk result (IsStateOf D.face plan.now state.new) }
-    ensures performs { OnOk result (Performs first_byte plan.now (events_in state.old) step.now (events_in state.new)) }
+    ensures performs { OnOk result (((verdict : Verdicts) → Performs verdict plan.now (events_in state.old) step.now (events_in state.new))
+        × ((x : Watching) → Watches plan.now (events_in state.old) (events_in state.new) x x)) }
     ensures extends { Extends plan.now state.old.history.items state.new.history.items }
     ensures seats { state.new.seats.items ≡ state.old.seats.items }
 {
@@ -126,31 +142,50 @@ fn say<D: CrashDisk>(
 }
 
 /// Does one step of a script whole.
-pub fn do_step<R: Wait, D: CrashDisk>(
+pub fn do_step<R: Wait, D: CrashDisk, J: EffortJudge, B: Bell>(
     alloc: Global,
     rt: &R,
     plan: &Plan,
     state: &mut State<'_, D>,
+    watch: &mut Watch<J, B>,
     step: &Step,
 ) -> Result<(), WorldFault>
     requires good { plan_fault plan.now ≡ None }
     requires legal { is_step_of plan.now step.now ≡ true }
-    requires state { IsStateOf D.face plan.now state.old }
+    requires state { IsStateOf D.face plan.now state.old × (J.heard watch.old.judge ≡ questions plan.now (events_in state.old)) }
     ensures state { OnOk result (IsStateOf D.face plan.now state.new) }
-    ensures performs { OnOk result (Performs first_byte plan.now (events_in state.old) step.now (events_in state.new)) }
+    ensures performs { OnOk result (Performs (J.verdict watch.old.judge) plan.now (events_in state.old) step.now (events_in state.new)
+        × WatchesBy (ears J.heard J.verdict B.rung B.limit) plan.now (events_in state.old) (events_in state.new) watch.old watch.new) }
     ensures extends { Extends plan.now state.old.history.items state.new.history.items }
     ensures counted { Counted D.face state.old.seats.items state.new.seats.items result }
     ensures burns { (calls choice : ℕ) (given : CutStep) → step.now ≡ Step.Cut calls choice given →
-        OnOk result (IfSome (step_cut first_byte plan.now (events_in state.old) given) (SeatsBurn D.face plan.now (events_in state.old) calls choice state.old.seats.items state.new.seats.items)) }
+        OnOk result (IfSome (step_cut (J.verdict watch.old.judge) plan.now (events_in state.old) given) (SeatsBurn D.face plan.now (events_in state.old) calls choice state.old.seats.items state.new.seats.items)) }
 {
     match step {
-        Step::Peer(s) => add_step(alloc, rt, state, *s),
+        Step::Peer(s) => add_step(alloc, rt, state, watch, *s),
         Step::Tick { by } => Ok(add_ticks(state, *by)?),
-        Step::Next { times } => go_on(alloc, rt, state, *times as usize, Course::Delivering),
+        Step::Next { times } => {
+            let times = *times as usize;
+            go_on(alloc, rt, state, watch, times, Course::Delivering)
+        }
         Step::Lose => Ok(lose_first(state)?),
-        Step::Again { envelope } => deliver_again(alloc, rt, state, *envelope),
-        Step::Settle => go_on(alloc, rt, state, MOST_EVENTS as usize, Course::Settling),
-        Step::Finish => go_on(alloc, rt, state, MOST_EVENTS as usize, Course::Finishing),
+        Step::Again { envelope } => deliver_again(alloc, rt, state, watch, *envelope),
+        Step::Settle => go_on(
+            alloc,
+            rt,
+            state,
+            watch,
+            MOST_EVENTS as usize,
+            Course::Settling,
+        ),
+        Step::Finish => go_on(
+            alloc,
+            rt,
+            state,
+            watch,
+            MOST_EVENTS as usize,
+            Course::Finishing,
+        ),
         Step::Forge { from, to, bytes } => {
             let bytes = bytes.clone()?;
             Ok(add_forgery(state, *from, *to, bytes)?)
@@ -173,7 +208,7 @@ pub fn do_step<R: Wait, D: CrashDisk>(
                 calls: *calls,
                 choice: *choice,
             };
-            cut(alloc, rt, plan, state, *step, power)
+            cut(alloc, rt, plan, state, watch, *step, power)
         }
     }
 }

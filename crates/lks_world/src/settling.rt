@@ -1,61 +1,28 @@
-//! What is due next, and how it is judged.
+//! What is due next, and what it asks.
 
-ghost use Rattle.std.specs.Prelude.{◌≡◌, List, IfOk, length, nat_lt, option_map, slice_get};
+ghost use Rattle.std.specs.Prelude.{◌≡◌, ◌<◌, IfOk, length, nat_lt, slice_get};
 ghost use Rattle.std.specs.List.{flat_map};
 ghost use Rattle.lks_base.specs.declared.events.Due.TheVariants as dues;
 ghost use Rattle.lks_base.specs.declared.events.Event.TheVariants as events;
+ghost use Rattle.lks_base.specs.declared.limits.TheConstants.{MOST_EVENTS};
 ghost use Rattle.lks_base.specs.declared.plans.Plan.{Plan};
-ghost use Rattle.lks_effort.specs.Verdicts.{first_byte};
-ghost use Rattle.lks_effort.specs.declared.questions.Question.{Question as Asked};
-ghost use Rattle.lks_law.specs.Due.{first_own, first_due};
-ghost use Rattle.lks_law.specs.Questions.{question_by, question_in, question_to, question_at, judged, delivery_of, event_of};
-ghost use Rattle.lks_law.specs.World.{message_in, peer_at};
+ghost use Rattle.lks_law.specs.Due.{first_own};
+ghost use Rattle.lks_law.specs.Questions.{question_to, question_at, questions, delivery_of, event_of};
+ghost use Rattle.lks_law.specs.World.{peer_at};
+ghost use Rattle.lks_watch.specs.Watching.{ears, AsksOn};
 ghost use Rattle.lks_world.specs.Hosts.{peers_of};
 ghost use Rattle.lks_world.specs.Seats.{hosts_of};
 ghost use Rattle.lks_world.specs.States.{IsStateOf, events_in, next_of, seat_steps, steps_there, world_in};
+ghost use Rattle.lks_world.specs.Watched.{OwnAsksNothing};
 
-use crate::deeds::read;
 use crate::seats::{Seat, place_of};
 use crate::states::State;
-use lks_base::{Due, Envelope, Judged, Message, OutOfMemory, PeerStep};
+use lks_alarm::Bell;
+use lks_base::{Due, Envelope, OutOfMemory, PeerStep};
 use lks_disk::{CrashDisk, Disk};
-use lks_effort::{Question, begins_with_one};
+use lks_effort::{EffortJudge, Question};
+use lks_watch::{Watch, question_in};
 use std::alloc::Global;
-
-/// The question that a message puts: on the proof of its poll's poller, or of a voter.
-fn question_by(envelope: &Envelope, message: Message) -> Option<Question>
-    ensures { result ≡ question_by envelope.now message }
-{
-    match message {
-        Message::PollProof { number, proof, .. } => Some(Question {
-            from: envelope.from,
-            poller: envelope.from,
-            number,
-            proof,
-        }),
-        Message::Vote { number, proof, .. } => Some(Question {
-            from: envelope.from,
-            poller: envelope.to,
-            number,
-            proof,
-        }),
-        Message::Poll { .. }
-        | Message::PollChallenge { .. }
-        | Message::Nominate { .. }
-        | Message::RepairRequest { .. }
-        | Message::Repair { .. }
-        | Message::Receipt { .. } => None,
-    }
-}
-
-fn question_in(alloc: Global, envelope: &Envelope) -> Result<Option<Question>, OutOfMemory>
-    ensures { IfOk result (λ q. q ≡ question_in envelope.now (message_in envelope.now.bytes)) }
-{
-    match read(alloc, envelope.bytes.as_slice())? {
-        Some(message) => Ok(question_by(envelope, message)),
-        None => Ok(None),
-    }
-}
 
 /// It is put where an honest peer receives the envelope.
 fn question_to<D: Disk>(
@@ -86,47 +53,37 @@ fn question_at<D: CrashDisk>(
     }
 }
 
-/// A proof is accepted by its first byte.
-fn judge(question: Option<Question>) -> Judged
-    ensures { (before : List Asked) → result ≡ judged first_byte before question }
-{
-    match question {
-        Some(q) => {
-            if begins_with_one(q.proof.as_slice()) {
-                Judged::Accepted
-            } else {
-                Judged::Refused
-            }
-        }
-        None => Judged::NotAsked,
-    }
-}
-
-/// The delivery of an envelope, with what the judge says.
-pub fn delivery<D: CrashDisk>(
+/// The delivery of an envelope, once the judge was asked what it asks.
+pub fn delivery<D: CrashDisk, J: EffortJudge, B: Bell>(
     alloc: Global,
     state: &State<'_, D>,
+    watch: &mut Watch<J, B>,
     envelope: u32,
 ) -> Result<PeerStep, OutOfMemory>
-    ensures { (plan : Plan) → IsStateOf D.face plan state.now →
-        IfOk result (λ s. events.Step s ≡ delivery_of first_byte plan (events_in state.now) envelope) }
+    requires { length (J.heard watch.old.judge) < MOST_EVENTS }
+    ensures step { (plan : Plan) → IsStateOf D.face plan state.now → J.heard watch.old.judge ≡ questions plan (events_in state.now) →
+        IfOk result (λ s. events.Step s ≡ delivery_of (J.verdict watch.old.judge) plan (events_in state.now) envelope) }
+    ensures asks { IfOk result (λ s. AsksOn (ears J.heard J.verdict B.rung B.limit) (world_in D.face state.now) s watch.old watch.new) }
 {
     let question = question_at(alloc, state, envelope)?;
-    let judged = judge(question);
+    let judged = watch.judge(question);
     Ok(PeerStep::Deliver { envelope, judged })
 }
 
-/// The step of what is due.
-pub fn step_of<D: CrashDisk>(
+/// The step of what is due, once the judge was asked what it asks.
+pub fn step_of<D: CrashDisk, J: EffortJudge, B: Bell>(
     alloc: Global,
     state: &State<'_, D>,
+    watch: &mut Watch<J, B>,
     due: Due,
 ) -> Result<PeerStep, OutOfMemory>
-    ensures { (plan : Plan) → IsStateOf D.face plan state.now →
-        IfOk result (λ s. events.Step s ≡ event_of first_byte plan (events_in state.now) due) }
+    requires { length (J.heard watch.old.judge) < MOST_EVENTS }
+    ensures step { (plan : Plan) → IsStateOf D.face plan state.now → J.heard watch.old.judge ≡ questions plan (events_in state.now) →
+        IfOk result (λ s. events.Step s ≡ event_of (J.verdict watch.old.judge) plan (events_in state.now) due) }
+    ensures asks { OwnAsksNothing (world_in D.face state.now) due → IfOk result (λ s. AsksOn (ears J.heard J.verdict B.rung B.limit) (world_in D.face state.now) s watch.old watch.new) }
 {
     match due {
-        Due::Delivery { envelope } => delivery(alloc, state, envelope),
+        Due::Delivery { envelope } => delivery(alloc, state, watch, envelope),
         Due::Own(s) => Ok(s),
     }
 }

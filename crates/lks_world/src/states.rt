@@ -1,25 +1,31 @@
 //! The state of a world, and what an event does to it.
 
 ghost use Rattle.std.specs.Prelude.{◌≡◌, ◌++◌, ◌∷◌, [], Some, IfOk, IfSome, OnOk, OnErr, ◌==◌, length, filter, map, not};
-ghost use Rattle.std.specs.List.{range_with_len};
+ghost use Rattle.std.specs.List.{filter_map, range_with_len};
 ghost use Rattle.lks_base.specs.declared.events.Event.TheVariants as events;
+ghost use Rattle.lks_law.specs.Alarms.{alarms_by};
 ghost use Rattle.lks_law.specs.Entries.{carried, entry_for, notes_at, notes_of, entry_of};
 ghost use Rattle.lks_law.specs.World.{Standing, reaction_at, with_records, peer_at, sent_by, actor_of, effect_of, peers_after, happens};
 ghost use Rattle.lks_law.specs.Facts.{IsHeard};
+ghost use Rattle.lks_watch.specs.Alarms.{alarm_noted};
+ghost use Rattle.lks_watch.specs.Watching.{ears, Hears};
 ghost use Rattle.lks_world.specs.Hosts.{peer_in, peers_of, IsReady, AreReady, GoesOn, HaveGoneOn, HasActed, with_added};
 ghost use Rattle.lks_world.specs.Seats.{hosts_of, Counted};
-ghost use Rattle.lks_world.specs.States.{left_after, world_in, sends_in};
+ghost use Rattle.lks_world.specs.States.{left_after, world_in, sends_in, HasNoted};
 
 use crate::deeds::{Deed, ends_of, make_deed};
 use crate::faults::{WorldFault, blame};
 use crate::notes::notes;
 use crate::seats::{Seat, place_of};
+use lks_alarm::Bell;
 use lks_base::{
     Entry, Envelope, Event, Input, Note, OutOfMemory, Outgoing, PeerId, PeerStep, Reaction, Seq,
 };
 use lks_blocks::BlockPool;
 use lks_disk::CrashDisk;
+use lks_effort::EffortJudge;
 use lks_host::Host;
+use lks_watch::Watch;
 use std::alloc::Global;
 use std::sync::Wait;
 
@@ -196,9 +202,11 @@ pub fn actor(deed: &Option<Deed>) -> PeerId
     }
 }
 
-/// Notes down what a step did. What it sends goes into the bag, and an envelope that it delivers doesn't wait any more.
-pub fn note_step<D: CrashDisk>(
+/// Notes down what a step did, and raises its alarms. What it sends goes into the bag, and an envelope that it delivers
+/// doesn't wait any more.
+pub fn note_step<D: CrashDisk, J: EffortJudge, B: Bell>(
     state: &mut State<'_, D>,
+    watch: &mut Watch<J, B>,
     s: PeerStep,
     event: Event,
     actor: PeerId,
@@ -211,6 +219,7 @@ pub fn note_step<D: CrashDisk>(
     ensures pending { OnOk result (state.new.pending.items ≡ left_after s state.old.pending.items ++ range_with_len (length state.old.bag.items) (length done.sends)) }
     ensures history { OnOk result (state.new.history.items ≡ state.old.history.items ++ entry_for event (carried state.old.bag.items s) done.notes (length done.sends) ∷ []) }
     ensures err { OnErr result (state.new.history.items ≡ state.old.history.items) }
+    ensures hears { Hears (ears J.heard J.verdict B.rung B.limit) (filter_map (alarm_noted actor state.old.tick) done.notes) watch.old watch.new result }
 {
     let (from, to) = ends_of(&state.bag, s);
     let Done { notes, sends } = done;
@@ -220,35 +229,39 @@ pub fn note_step<D: CrashDisk>(
     }
     take_out(&mut state.pending, s);
     send(&mut state.bag, &mut state.pending, actor, sends.as_slice())?;
-    state.history.push(Entry {
+    state.history.reserve(1)?;
+    watch.hear(actor, state.tick, notes.as_slice());
+    state.history.push_reserved(Entry {
         event,
         from,
         to,
         notes,
         sends: count as u32,
-    })?;
+    });
     Ok(())
 }
 
-/// One step of a peer: its records are in its journal before its messages go into the bag. After want of
-/// memory the state is that of no history.
+/// One step of a peer: its records are in its journal before its messages go into the bag and its alarms are raised. After
+/// want of memory the state is that of no history.
 #[tactic(auto, unfolding(lks_law::specs::World::happens, lks_law::specs::World::after_step, lks_law::specs::Entries::entry_of, crate::specs::States::sends_in))]
-pub fn step<R: Wait, D: CrashDisk>(
+pub fn step<R: Wait, D: CrashDisk, J: EffortJudge, B: Bell>(
     alloc: Global,
     rt: &R,
     state: &mut State<'_, D>,
+    watch: &mut Watch<J, B>,
     s: PeerStep,
 ) -> Result<(), WorldFault>
     requires ready { AreReady D.face state.old.pool.now (hosts_of state.old.seats.items) }
     ensures world { OnOk result (world_in D.face state.new ≡ happens (world_in D.face state.old) (events.Step s)) }
-    ensures history { OnOk result (state.new.history.items ≡ state.old.history.items ++ entry_of (world_in D.face state.old) (events.Step s) ∷ []) }
-    ensures err { OnErr result (state.new.history.items ≡ state.old.history.items) }
+    ensures history { HasNoted (entry_of (world_in D.face state.old) (events.Step s)) state.old.history.items state.new.history.items result }
     ensures pending { OnOk result (state.new.pending.items ≡ left_after s state.old.pending.items ++ range_with_len (length state.old.bag.items) (sends_in (world_in D.face state.old) s)) }
     ensures on { OnOk result (HaveGoneOn D.face (hosts_of state.old.seats.items) (hosts_of state.new.seats.items)) }
     ensures counted { Counted D.face state.old.seats.items state.new.seats.items result }
     ensures pool { state.new.pool.now ≡ state.old.pool.now }
+    ensures hears { Hears (ears J.heard J.verdict B.rung B.limit) (alarms_by (world_in D.face state.old) (events.Step s)) watch.old watch.new result }
 {
     let deed = make_deed(alloc, &state.bag, s)?;
     let done = do_deed(alloc, rt, state.pool, &mut state.seats, state.tick, &deed)?;
-    Ok(note_step(state, s, Event::Step(s), actor(&deed), done)?)
+    let event = Event::Step(s);
+    Ok(note_step(state, watch, s, event, actor(&deed), done)?)
 }

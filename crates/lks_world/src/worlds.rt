@@ -3,78 +3,87 @@
 ghost use Rattle.std.specs.Prelude.{◌≡◌, ◌≤◌, ◌++◌, [], ℕ, true, None, Some, IfOk, IfErr, IfSome, OnOk, List, length};
 ghost use Rattle.lks_base.specs.Checking.{plan_fault};
 ghost use Rattle.lks_base.specs.declared.events.Event.{Event};
-ghost use Rattle.lks_effort.specs.Verdicts.{first_byte};
 ghost use Rattle.lks_law.specs.Entries.{entries};
 ghost use Rattle.lks_law.specs.Histories.{IsHistory};
+ghost use Rattle.lks_law.specs.Questions.{questions};
 ghost use Rattle.lks_script.specs.StepRules.{is_step_of};
 ghost use Rattle.lks_script.specs.declared.steps.CutStep.{CutStep};
+ghost use Rattle.lks_watch.specs.Watching.{ears};
 ghost use Rattle.lks_world.specs.Counts.{fault_in, BurnsInStep, ServesHonest};
 ghost use Rattle.lks_world.specs.Cuts.{step_cut};
-ghost use Rattle.lks_world.specs.Follows.{Performs};
 ghost use Rattle.lks_world.specs.Held.{AreFresh, AreUnfused, HaveBatches};
+ghost use Rattle.lks_world.specs.Worlds.{Begins, PerformsIn};
 
 use crate::beginning::begin;
 use crate::doing::do_step;
 use crate::faults::WorldFault;
 use crate::seats::{turn_round, unseat};
 use crate::states::State;
+use lks_alarm::Bell;
 use lks_base::{Entry, Plan};
 use lks_blocks::BlockPool;
 use lks_disk::CrashDisk;
+use lks_effort::EffortJudge;
 use lks_script::Step;
+use lks_watch::Watch;
 use std::alloc::Global;
 use std::marker::Model;
 use std::sync::Wait;
 
-/// What a world gives back at its end: the history, and all disks in the order in which they were handed in.
+/// What a world gives back at its end: the history, all disks in the order in which they were handed in, the judge, and the
+/// bells that want more, in their order.
 #[derive(Drop)]
-pub struct Parts<D> {
+pub struct Parts<D, J = Box<dyn EffortJudge>, B = Box<dyn Bell>> {
     pub history: Vec<Entry>,
     pub disks: Vec<D>,
+    pub judge: J,
+    pub bells: Vec<B>,
 }
 
 /// A world of peers: its plan and all that happened in it. Contracts see the plan, the history of events, the
-/// fault that stopped it, and the disks. The i-th disk is that of the i-th peer of the plan, and those of honest
-/// peers hold their journals.
+/// fault that stopped it, the disks, the judge, and the bells. The i-th disk is that of the i-th peer of the plan, and those of
+/// honest peers hold their journals.
 #[derive(Drop)]
-pub struct World<'a, D: CrashDisk> {
+pub struct World<'a, D: CrashDisk, J: EffortJudge = Box<dyn EffortJudge>, B: Bell = Box<dyn Bell>> {
     alloc: Global,
     plan: Plan,
     state: State<'a, D>,
+    watch: Watch<J, B>,
     /// The list of disks that was handed in, with room for all: those that no peer has, the last one first.
     rest: Vec<D>,
     stopped: Option<WorldFault>,
 }
 
-impl<'a, D: CrashDisk> Model for World<'a, D> {
+impl<'a, D: CrashDisk, J: EffortJudge, B: Bell> Model for World<'a, D, J, B> {
     ghost use Rattle.lks_world.specs.Worlds.{Seen, seen_in, IsKept};
 
-    ghost Value = { Seen D };
+    ghost Value = { Seen D J B };
 
     ghost view = { seen_in };
 
-    ghost invariant = { IsKept D.face };
+    ghost invariant = { IsKept D.face J.heard };
 }
 
-impl<'a, D: CrashDisk + Drop> World<'a, D> {
+impl<'a, D: CrashDisk + Drop, J: EffortJudge, B: Bell> World<'a, D, J, B> {
     ghost use Rattle.lks_world.specs.Begun.{disks_made, fault_made};
 
     /// A world in which nothing happened yet. The plan is good, and there is a fresh disk for each of its peers; the pool takes
-    /// the blocks of all.
+    /// the blocks of all. The judge has heard nothing, and the bells hang in their order.
     pub fn new<R: Wait>(
         alloc: Global,
         rt: &R,
         pool: &'a BlockPool,
         plan: Plan,
         mut disks: Vec<D>,
-    ) -> Result<World<'a, D>, (Parts<D>, WorldFault)>
+        judge: J,
+        bells: Vec<B>,
+    ) -> Result<World<'a, D, J, B>, (Parts<D, J, B>, WorldFault)>
         requires good { plan_fault plan ≡ None }
         requires enough { length plan.peers ≤ length disks.items }
         requires fresh { AreFresh D.face disks.items }
-        ensures plan { IfOk result (λ world. world.plan ≡ plan) }
-        ensures history { IfOk result (λ world. world.history ≡ []) }
-        ensures running { IfOk result (λ world. world.stopped ≡ None) }
-        ensures refused { IfErr result (λ e. (e.0.history.items ≡ []) × AreUnfused D.face e.0.disks.items) }
+        requires unasked { J.heard judge ≡ [] }
+        ensures begins { IfOk result (Begins plan judge bells.items) }
+        ensures refused { IfErr result (λ e. (e.0.history.items ≡ []) × AreUnfused D.face e.0.disks.items × (e.0.judge ≡ judge) × (e.0.bells.items ≡ bells.items)) }
         ensures disks { ServesHonest D.face plan.peers disks.items (disks_made result) (fault_made result) }
     {
         turn_round(&mut disks);
@@ -83,13 +92,19 @@ impl<'a, D: CrashDisk + Drop> World<'a, D> {
                 alloc,
                 plan,
                 state,
+                watch: Watch::new(judge, bells),
                 rest: disks,
                 stopped: None,
             }),
             Err(fault) => {
                 turn_round(&mut disks);
-                let history = Vec::new(alloc);
-                Err((Parts { history, disks }, fault))
+                let parts = Parts {
+                    history: Vec::new(alloc),
+                    disks,
+                    judge,
+                    bells,
+                };
+                Err((parts, fault))
             }
         }
     }
@@ -99,15 +114,18 @@ impl<'a, D: CrashDisk + Drop> World<'a, D> {
         requires running { self.old.stopped ≡ None }
         requires legal { is_step_of self.old.plan step.now ≡ true }
         ensures plan { self.new.plan ≡ self.old.plan }
-        ensures performs { OnOk result (Performs first_byte self.old.plan self.old.history step.now self.new.history) }
+        // The history goes on as the step says and as the judge says, who was asked what the new events ask; and the bells were
+        // rung for their alarms.
+        ensures performs { OnOk result (PerformsIn (ears J.heard J.verdict B.rung B.limit) step.now self.old self.new) }
         ensures front { (more : List Event) × (self.new.history ≡ self.old.history ++ more) }
         ensures stopped { self.new.stopped ≡ fault_in result }
         ensures disks { ServesHonest D.face self.old.plan.peers self.old.disks self.new.disks (fault_in result) }
         // Where a step is cut off, a fuse of its choice burned on the peer's disk.
         ensures burns { (calls choice : ℕ) (given : CutStep) → step.now ≡ Step.Cut calls choice given →
-            OnOk result (IfSome (step_cut first_byte self.old.plan self.old.history given) (BurnsInStep D.face self.old.plan self.old.history calls choice self.old.disks self.new.disks)) }
+            OnOk result (IfSome (step_cut (J.verdict self.old.judge) self.old.plan self.old.history given) (BurnsInStep D.face self.old.plan self.old.history calls choice self.old.disks self.new.disks)) }
     {
-        match do_step(self.alloc, rt, &self.plan, &mut self.state, step) {
+        let (plan, state, watch) = (&self.plan, &mut self.state, &mut self.watch);
+        match do_step(self.alloc, rt, plan, state, watch, step) {
             Ok(()) => Ok(()),
             Err(fault) => {
                 self.stopped = Some(fault);
@@ -138,23 +156,32 @@ impl<'a, D: CrashDisk + Drop> World<'a, D> {
         self.stopped
     }
 
-    /// Gives the history and the disks back, no disk with a fuse. Unless a fault stopped the world, the honest peers'
-    /// disks hold their journals.
-    pub fn into_parts(self) -> Parts<D>
+    /// Gives all back, no disk with a fuse. Unless a fault stopped the world, the honest peers' disks hold their journals, and
+    /// the judge has heard what the history asks.
+    pub fn into_parts(self) -> Parts<D, J, B>
         ensures history { result.history.items ≡ entries self.entry.plan self.entry.history }
         ensures happened { IsHistory self.entry.plan self.entry.history }
         ensures unfused { AreUnfused D.face result.disks.items }
         ensures disks { result.disks.items ≡ self.entry.disks }
+        ensures watched { (result.judge ≡ self.entry.judge) × (result.bells.items ≡ self.entry.bells) }
         ensures holds { self.entry.stopped ≡ None → HaveBatches D.face self.entry.plan self.entry.history self.entry.disks }
+        ensures heard { self.entry.stopped ≡ None → J.heard self.entry.judge ≡ questions self.entry.plan self.entry.history }
     {
         let World {
             state,
+            watch,
             rest: mut disks,
             ..
         } = self;
         let State { seats, history, .. } = state;
         unseat(seats, &mut disks);
         turn_round(&mut disks);
-        Parts { history, disks }
+        let (judge, bells) = watch.into_parts();
+        Parts {
+            history,
+            disks,
+            judge,
+            bells,
+        }
     }
 }

@@ -8,6 +8,7 @@ use Rattle.lks_script.specs.declared.steps.Script.{Script}
 use Rattle.lks_world.proofs.ServingLaws.{place_among}
 use Rattle.lks_world.specs.Counts.{ServesHonest}
 use Rattle.lks_world.specs.declared.faults.WorldFault.TheVariants.{Disk}
+use Rattle.lks_watch.specs.Watching.{Ears}
 use Rattle.lockss.specs.Playing.{Devices}
 use Rattle.lockss.specs.Promise.{Promise}
 use Rattle.lockss.specs.Replay.{Replays, NoneRose, Completes}
@@ -22,9 +23,9 @@ blames_none f peers disks disks_after peer served none =
     let at = place_among peers disks disks_after risen.place risen.disk risen.now risen.there risen.stays in
     none at.place risen.disk risen.now at.before at.after risen.rose
 
-module _ {D K : Type 0} (f : Face D) (taken : K → Option (List ℕ)) (left left_after : Option (List ℕ)) (before after : Devices D K) where
+module _ {D K J B : Type 0} (f : Face D) (e : Ears J B) (taken : K → Option (List ℕ)) (left left_after : Option (List ℕ)) (before after : Devices D K J B) where
   -- every run whose report was written was a safe one
-  pub promised : (answer : Status) → Replays f taken left left_after before after answer → Promise f after.disks answer
+  pub promised : (answer : Status) → Replays f e taken left left_after before after answer → Promise f after.disks answer
   promised Done says = (says.plays.script.plan, says.plays.played.history, says.plays.played.safe)
   promised Alarmed says = (says.plays.script.plan, says.plays.played.history, says.plays.played.safe)
   promised WriteFault says = (says.plays.script.plan, says.plays.played.history, says.plays.played.safe)
@@ -37,7 +38,7 @@ module _ {D K : Type 0} (f : Face D) (taken : K → Option (List ℕ)) (left lef
 
   -- where no fault is counted, a script that isn't too long is played
   module _ (bytes : List ℕ) (script : Script) (tells : left ≡ Some bytes) (few : length bytes ≤ MOST_BYTES) (reads : script_of bytes ≡ Ok script) where
-    pub completes : (answer : Status) → Replays f taken left left_after before after answer → (answer ≡ ReadFault → ⊥) → (answer ≡ WriteFault → ⊥) → NoneRose f before.disks after.disks → Completes answer
+    pub completes : (answer : Status) → Replays f e taken left left_after before after answer → (answer ≡ ReadFault → ⊥) → (answer ≡ WriteFault → ⊥) → NoneRose f before.disks after.disks → Completes answer
     completes Done says no_read no_write none = tt
     completes Alarmed says no_read no_write none = tt
     completes NoMemory says no_read no_write none = tt

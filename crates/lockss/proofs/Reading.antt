@@ -4,6 +4,7 @@ use Rattle.std.specs.Prelude.{Option, Some, Ok, Vec}
 use Rattle.std.specs.declared.alloc.Global.{Global}
 use Rattle.lks_disk.specs.Face.{Face}
 use Rattle.lks_outside.specs.Streams.{ReadEnds}
+use Rattle.lks_watch.specs.Watching.{Ears}
 use Rattle.lockss.specs.Playing.{Devices}
 use Rattle.lockss.specs.Replay.{AreRead, PlaysBytes, Replays}
 use Rattle.lockss.specs.declared.replays.TheConstants.{MOST_BYTES}
@@ -16,8 +17,8 @@ read_whole v left left_after few ends = record {
   all = λ told is. let whole = ends told is in (sym whole.0, whole.2);
 }
 
-module _ {D K : Type 0} (f : Face D) (taken : K → Option (List ℕ)) (bytes : List ℕ) (left left_after : Option (List ℕ)) (before after : Devices D K) (are : AreRead bytes left left_after) where
-  pub replayed : (answer : Status) → PlaysBytes f taken bytes before after answer → Replays f taken left left_after before after answer
+module _ {D K J B : Type 0} (f : Face D) (e : Ears J B) (taken : K → Option (List ℕ)) (bytes : List ℕ) (left left_after : Option (List ℕ)) (before after : Devices D K J B) (are : AreRead bytes left left_after) where
+  pub replayed : (answer : Status) → PlaysBytes f e taken bytes before after answer → Replays f e taken left left_after before after answer
   replayed Done plays = record { bytes = bytes; are_read = are; plays = plays }
   replayed Alarmed plays = record { bytes = bytes; are_read = are; plays = plays }
   replayed WriteFault plays = record { bytes = bytes; are_read = are; plays = plays }

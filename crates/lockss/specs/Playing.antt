@@ -1,19 +1,24 @@
 -- What each answer says once a script is played.
-use Rattle.std.specs.Prelude.{◌≡◌, ◌⊎◌, ℕ, true, false, List, [], ◌++◌, Option, Some, None}
+use Rattle.std.specs.Prelude.{◌≡◌, ◌≤◌, ◌<◌, ◌⊎◌, ℕ, true, false, List, [], ◌++◌, length, map, All, Option, Some, None}
+use Rattle.lks_alarm.specs.Bells.{left_of, seen}
+use Rattle.lks_alarm.specs.declared.alarms.Alarm.{Alarm}
 use Rattle.lks_base.specs.declared.events.Event.{Event}
+use Rattle.lks_base.specs.declared.limits.TheConstants.{MOST_PEERS}
 use Rattle.lks_base.specs.declared.plans.Plan.{Plan}
 use Rattle.lks_disk.specs.Face.{Face}
-use Rattle.lks_effort.specs.Verdicts.{first_byte}
 use Rattle.lks_law.specs.Alarms.{alarms}
 use Rattle.lks_law.specs.Entries.{entries}
 use Rattle.lks_law.specs.Histories.{IsHistory}
+use Rattle.lks_law.specs.Questions.{questions}
 use Rattle.lks_outside.specs.Streams.{AddsFront}
 use Rattle.lks_report.specs.Alarms.{has_any}
 use Rattle.lks_report.specs.Text.{text_of}
 use Rattle.lks_script.specs.declared.steps.Script.{Script}
 use Rattle.lks_script.specs.declared.steps.Step.{Step}
+use Rattle.lks_watch.specs.Watching.{Ears, Watches, watching}
 use Rattle.lks_world.specs.Counts.{ServesHonest}
 use Rattle.lks_world.specs.Follows.{Follows}
+use Rattle.lks_world.specs.Held.{AreFresh}
 use Rattle.lks_world.specs.Worlds.{Seen}
 use Rattle.lks_world.specs.declared.faults.WorldFault.{WorldFault}
 use Rattle.lks_world.specs.declared.faults.WorldFault.TheVariants.{Disk, Memory}
@@ -22,12 +27,26 @@ use Rattle.lockss.specs.declared.statuses.Status.{Status}
 use Rattle.lockss.specs.declared.statuses.Status.TheVariants.{Done, Alarmed, Usage, BadScript, ReadFault, WriteFault, DiskFault, NoMemory, TooLong}
 
 -- what a run works on beside its source
-pub record Devices (D K : Type 0) : Type 0 where
+pub record Devices (D K J B : Type 0) : Type 0 where
   pub disks : List D
   pub sink : K
+  pub judge : Option J
+  pub bells : List B
 
-abbrev pub devices : {D K : Type 0} → List D → K → Devices D K
-devices disks sink = record { disks = disks; sink = sink }
+abbrev pub devices : {D K J B : Type 0} → List D → K → Option J → List B → Devices D K J B
+devices disks sink judge bells = record { disks = disks; sink = sink; judge = judge; bells = bells }
+
+-- a bell that has rung for nothing and wants more
+abbrev pub IsSilent : {B : Type 0} → (B → List Alarm) → (B → ℕ) → B → Type 0
+IsSilent rung limit b = (rung b ≡ []) × (0 < limit b)
+
+-- What a run is handed: fresh disks, as many as a script may have peers, a judge who has heard nothing, and bells that have
+-- rung for nothing and want more.
+pub record AreGiven {D K J B : Type 0} (f : Face D) (e : Ears J B) (given : Devices D K J B) : Type 0 where
+  pub enough : MOST_PEERS ≤ length given.disks
+  pub fresh : AreFresh f given.disks
+  pub unasked : (j : J) × (given.judge ≡ Some j) × (e.heard j ≡ [])
+  pub silent : All (IsSilent e.rung e.limit) given.bells
 
 abbrev pub report_of : Plan → List Event → List ℕ
 report_of plan history = text_of plan (entries plan history)
@@ -52,43 +71,57 @@ TellsReport plan history before after ReadFault = ⊥
 TellsReport plan history before after (DiskFault peer) = ⊥
 TellsReport plan history before after TooLong = ⊥
 
--- a run that was played to its end: its history follows the script, is safe, and is what the report tells
-pub record Tells {D : Type 0} (f : Face D) (disks : List D) (s : Script) (before after : Option (List ℕ)) (answer : Status) : Type 0 where
+-- The judge is back, judges as before, and has heard what the history asks. Of the bells, those are back in their order that
+-- want more alarms than the history has, and each rang for exactly these.
+pub record HaveWatched {D K J B : Type 0} (e : Ears J B) (plan : Plan) (history : List Event) (before after : Devices D K J B) : Type 0 where
+  pub first : J
+  pub last : J
+  pub given : before.judge ≡ Some first
+  pub back : after.judge ≡ Some last
+  pub same : e.verdict last ≡ e.verdict first
+  pub heard : e.heard last ≡ questions plan history
+  pub rung : seen e.rung e.limit after.bells ≡ left_of (alarms plan history) (map e.limit before.bells)
+
+-- a run that was played to its end: its history follows the script, by the verdicts of the judge, is safe, was watched, and is
+-- what the report tells
+pub record Tells {D K J B : Type 0} (f : Face D) (e : Ears J B) (taken : K → Option (List ℕ)) (s : Script) (before after : Devices D K J B) (answer : Status) : Type 0 where
   pub history : List Event
-  pub follows : Follows first_byte s.plan [] s.steps history
-  pub safe : IsSafeRun f disks s.plan history
-  pub report : TellsReport s.plan history before after answer
+  pub watched : HaveWatched e s.plan history before after
+  pub follows : Follows (e.verdict watched.first) s.plan [] s.steps history
+  pub safe : IsSafeRun f after.disks s.plan history
+  pub report : TellsReport s.plan history (taken before.sink) (taken after.sink) answer
 
 -- a world in which all steps were done, and whose report was written or not
-pub record IsPlayed {D : Type 0} (steps : List Step) (first now : Seen D) (before after : Option (List ℕ)) (answer : Status) : Type 0 where
-  pub follows : Follows first_byte first.plan first.history steps now.history
+pub record IsPlayed {D J B : Type 0} (e : Ears J B) (steps : List Step) (first now : Seen D J B) (before after : Option (List ℕ)) (answer : Status) : Type 0 where
+  pub follows : Follows (e.verdict first.judge) first.plan first.history steps now.history
+  pub watches : Watches first.plan first.history now.history (watching e first.judge first.bells) (watching e now.judge now.bells)
   pub happened : IsHistory first.plan now.history
   pub running : now.stopped ≡ None
   pub report : TellsReport first.plan now.history before after answer
 
 -- or one that was stopped by a fault, and nothing was written
-abbrev pub PlaysIn : {D K : Type 0} → (K → Option (List ℕ)) → List Step → Seen D → Seen D → K → K → Status → Type 0
-PlaysIn taken steps first now before after Done = IsPlayed steps first now (taken before) (taken after) Done
-PlaysIn taken steps first now before after Alarmed = IsPlayed steps first now (taken before) (taken after) Alarmed
-PlaysIn taken steps first now before after WriteFault = IsPlayed steps first now (taken before) (taken after) WriteFault
-PlaysIn taken steps first now before after (DiskFault peer) = after ≡ before
-PlaysIn taken steps first now before after NoMemory = (after ≡ before) ⊎ IsPlayed steps first now (taken before) (taken after) NoMemory
-PlaysIn taken steps first now before after Usage = ⊥
-PlaysIn taken steps first now before after (BadScript line) = ⊥
-PlaysIn taken steps first now before after ReadFault = ⊥
-PlaysIn taken steps first now before after TooLong = ⊥
+abbrev pub PlaysIn : {D K J B : Type 0} → Ears J B → (K → Option (List ℕ)) → List Step → Seen D J B → Seen D J B → K → K → Status → Type 0
+PlaysIn e taken steps first now before after Done = IsPlayed e steps first now (taken before) (taken after) Done
+PlaysIn e taken steps first now before after Alarmed = IsPlayed e steps first now (taken before) (taken after) Alarmed
+PlaysIn e taken steps first now before after WriteFault = IsPlayed e steps first now (taken before) (taken after) WriteFault
+PlaysIn e taken steps first now before after (DiskFault peer) = after ≡ before
+PlaysIn e taken steps first now before after NoMemory = (after ≡ before) ⊎ IsPlayed e steps first now (taken before) (taken after) NoMemory
+PlaysIn e taken steps first now before after Usage = ⊥
+PlaysIn e taken steps first now before after (BadScript line) = ⊥
+PlaysIn e taken steps first now before after ReadFault = ⊥
+PlaysIn e taken steps first now before after TooLong = ⊥
 
--- the same of a script and the disks that are back in their places
-abbrev pub Plays : {D K : Type 0} → Face D → (K → Option (List ℕ)) → List D → Script → K → K → Status → Type 0
-Plays f taken disks s before after Done = Tells f disks s (taken before) (taken after) Done
-Plays f taken disks s before after Alarmed = Tells f disks s (taken before) (taken after) Alarmed
-Plays f taken disks s before after WriteFault = Tells f disks s (taken before) (taken after) WriteFault
-Plays f taken disks s before after (DiskFault peer) = after ≡ before
-Plays f taken disks s before after NoMemory = (after ≡ before) ⊎ Tells f disks s (taken before) (taken after) NoMemory
-Plays f taken disks s before after Usage = ⊥
-Plays f taken disks s before after (BadScript line) = ⊥
-Plays f taken disks s before after ReadFault = ⊥
-Plays f taken disks s before after TooLong = ⊥
+-- the same of a script and all that is back in its place
+abbrev pub Plays : {D K J B : Type 0} → Face D → Ears J B → (K → Option (List ℕ)) → Script → Devices D K J B → Devices D K J B → Status → Type 0
+Plays f e taken s before after Done = Tells f e taken s before after Done
+Plays f e taken s before after Alarmed = Tells f e taken s before after Alarmed
+Plays f e taken s before after WriteFault = Tells f e taken s before after WriteFault
+Plays f e taken s before after (DiskFault peer) = after.sink ≡ before.sink
+Plays f e taken s before after NoMemory = (after.sink ≡ before.sink) ⊎ Tells f e taken s before after NoMemory
+Plays f e taken s before after Usage = ⊥
+Plays f e taken s before after (BadScript line) = ⊥
+Plays f e taken s before after ReadFault = ⊥
+Plays f e taken s before after TooLong = ⊥
 
 -- what the fault of a world is to its run
 abbrev pub stopped_as : WorldFault → Status

@@ -6,6 +6,7 @@ use Rattle.lks_disk.specs.Face.{Face}
 use Rattle.lks_outside.specs.Streams.{LosesAtMost}
 use Rattle.lks_script.specs.Grammar.{script_of}
 use Rattle.lks_script.specs.declared.steps.Script.{Script}
+use Rattle.lks_watch.specs.Watching.{Ears}
 use Rattle.lockss.specs.Playing.{Devices, Plays, IsServed}
 use Rattle.lockss.specs.declared.replays.TheConstants.{MOST_BYTES}
 use Rattle.lockss.specs.declared.statuses.Status.{Status}
@@ -26,47 +27,56 @@ pub record AreRead (bytes : List ℕ) (left left_after : Option (List ℕ)) : Ty
 abbrev pub StopsReading : Option (List ℕ) → Option (List ℕ) → Type 0
 StopsReading left left_after = (told : List ℕ) → left ≡ Some told → LosesAtMost MOST_BYTES told left_after
 
--- nothing was written, not even an empty piece, and no disk was called
-pub record IsUntouched {D K : Type 0} (before after : Devices D K) : Type 0 where
+-- nothing was written, not even an empty piece, no disk was called, nobody was asked, and no bell rang
+pub record IsUntouched {D K J B : Type 0} (before after : Devices D K J B) : Type 0 where
   pub sink : after.sink ≡ before.sink
   pub disks : after.disks ≡ before.disks
+  pub judge : after.judge ≡ before.judge
+  pub bells : after.bells ≡ before.bells
 
 -- the bytes are those of a script, which was played on its peers' disks
-pub record PlaysScript {D K : Type 0} (f : Face D) (taken : K → Option (List ℕ)) (bytes : List ℕ) (before after : Devices D K) (answer : Status) : Type 0 where
+pub record PlaysScript {D K J B : Type 0} (f : Face D) (e : Ears J B) (taken : K → Option (List ℕ)) (bytes : List ℕ) (before after : Devices D K J B) (answer : Status) : Type 0 where
   pub script : Script
   pub read : script_of bytes ≡ Ok script
-  pub played : Plays f taken after.disks script before.sink after.sink answer
+  pub played : Plays f e taken script before after answer
   pub served : IsServed f before.disks after.disks script answer
 
 -- what becomes of bytes that were read
-abbrev pub PlaysBytes : {D K : Type 0} → Face D → (K → Option (List ℕ)) → List ℕ → Devices D K → Devices D K → Status → Type 0
-PlaysBytes f taken bytes before after Done = PlaysScript f taken bytes before after Done
-PlaysBytes f taken bytes before after Alarmed = PlaysScript f taken bytes before after Alarmed
-PlaysBytes f taken bytes before after WriteFault = PlaysScript f taken bytes before after WriteFault
-PlaysBytes f taken bytes before after (DiskFault peer) = PlaysScript f taken bytes before after (DiskFault peer)
-PlaysBytes f taken bytes before after (BadScript line) = (script_of bytes ≡ Err line) × IsUntouched before after
-PlaysBytes f taken bytes before after NoMemory = IsUntouched before after ⊎ PlaysScript f taken bytes before after NoMemory
-PlaysBytes f taken bytes before after Usage = ⊥
-PlaysBytes f taken bytes before after ReadFault = ⊥
-PlaysBytes f taken bytes before after TooLong = ⊥
+abbrev pub PlaysBytes : {D K J B : Type 0} → Face D → Ears J B → (K → Option (List ℕ)) → List ℕ → Devices D K J B → Devices D K J B → Status → Type 0
+PlaysBytes f e taken bytes before after Done = PlaysScript f e taken bytes before after Done
+PlaysBytes f e taken bytes before after Alarmed = PlaysScript f e taken bytes before after Alarmed
+PlaysBytes f e taken bytes before after WriteFault = PlaysScript f e taken bytes before after WriteFault
+PlaysBytes f e taken bytes before after (DiskFault peer) = PlaysScript f e taken bytes before after (DiskFault peer)
+PlaysBytes f e taken bytes before after (BadScript line) = (script_of bytes ≡ Err line) × IsUntouched before after
+PlaysBytes f e taken bytes before after NoMemory = IsUntouched before after ⊎ PlaysScript f e taken bytes before after NoMemory
+PlaysBytes f e taken bytes before after Usage = ⊥
+PlaysBytes f e taken bytes before after ReadFault = ⊥
+PlaysBytes f e taken bytes before after TooLong = ⊥
 
 -- some bytes were read, and this became of them
-pub record IsReplayed {D K : Type 0} (f : Face D) (taken : K → Option (List ℕ)) (left left_after : Option (List ℕ)) (before after : Devices D K) (answer : Status) : Type 0 where
+pub record IsReplayed {D K J B : Type 0} (f : Face D) (e : Ears J B) (taken : K → Option (List ℕ)) (left left_after : Option (List ℕ)) (before after : Devices D K J B) (answer : Status) : Type 0 where
   pub bytes : List ℕ
   pub are_read : AreRead bytes left left_after
-  pub plays : PlaysBytes f taken bytes before after answer
+  pub plays : PlaysBytes f e taken bytes before after answer
 
 -- each answer of `replay`
-abbrev pub Replays : {D K : Type 0} → Face D → (K → Option (List ℕ)) → Option (List ℕ) → Option (List ℕ) → Devices D K → Devices D K → Status → Type 0
-Replays f taken left left_after before after Done = IsReplayed f taken left left_after before after Done
-Replays f taken left left_after before after Alarmed = IsReplayed f taken left left_after before after Alarmed
-Replays f taken left left_after before after WriteFault = IsReplayed f taken left left_after before after WriteFault
-Replays f taken left left_after before after (DiskFault peer) = IsReplayed f taken left left_after before after (DiskFault peer)
-Replays f taken left left_after before after (BadScript line) = IsReplayed f taken left left_after before after (BadScript line)
-Replays f taken left left_after before after ReadFault = StopsReading left left_after × IsUntouched before after
-Replays f taken left left_after before after TooLong = ((told : List ℕ) → left ≡ Some told → MOST_BYTES < length told) × IsUntouched before after
-Replays f taken left left_after before after NoMemory = (StopsReading left left_after × IsUntouched before after) ⊎ IsReplayed f taken left left_after before after NoMemory
-Replays f taken left left_after before after Usage = ⊥
+abbrev pub Replays : {D K J B : Type 0} → Face D → Ears J B → (K → Option (List ℕ)) → Option (List ℕ) → Option (List ℕ) → Devices D K J B → Devices D K J B → Status → Type 0
+Replays f e taken left left_after before after Done = IsReplayed f e taken left left_after before after Done
+Replays f e taken left left_after before after Alarmed = IsReplayed f e taken left left_after before after Alarmed
+Replays f e taken left left_after before after WriteFault = IsReplayed f e taken left left_after before after WriteFault
+Replays f e taken left left_after before after (DiskFault peer) = IsReplayed f e taken left left_after before after (DiskFault peer)
+Replays f e taken left left_after before after (BadScript line) = IsReplayed f e taken left left_after before after (BadScript line)
+Replays f e taken left left_after before after ReadFault = StopsReading left left_after × IsUntouched before after
+Replays f e taken left left_after before after TooLong = ((told : List ℕ) → left ≡ Some told → MOST_BYTES < length told) × IsUntouched before after
+Replays f e taken left left_after before after NoMemory = (StopsReading left left_after × IsUntouched before after) ⊎ IsReplayed f e taken left left_after before after NoMemory
+Replays f e taken left left_after before after Usage = ⊥
+
+-- a fault of the source or the sink is answered only where its count rose, and no count falls
+pub record HasCauses (read read_after written written_after : ℕ) (answer : Status) : Type 0 where
+  pub read_fault : answer ≡ ReadFault → Rose read read_after
+  pub write_fault : answer ≡ WriteFault → Rose written written_after
+  pub source : read ≤ read_after
+  pub sink : written ≤ written_after
 
 -- no disk's count of faults rose
 abbrev pub NoneRose : {D : Type 0} → Face D → List D → List D → Type 0

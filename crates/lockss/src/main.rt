@@ -9,6 +9,8 @@ mod statuses;
 mod tests;
 
 use fresh::fresh_disks;
+use lks_alarm::ListBell;
+use lks_effort::FirstByteJudge;
 use lks_outside::{StdSink, StdSource};
 pub use replays::run;
 pub use statuses::Status;
@@ -48,12 +50,25 @@ fn complain(rt: &impl Eprint, status: Status) -> io::Result<()> {
 fn main(rt: HostRuntime) -> ExitCode {
     let mut source = StdSource::new(rt.stdin());
     let mut sink = StdSink::new(rt.stdout());
-    let status = match (words_of(&rt), fresh_disks(rt.alloc())) {
-        (Ok(words), Ok(mut disks)) => {
-            run(rt.alloc(), &rt, &words, &mut source, &mut sink, &mut disks)
+    let judge = FirstByteJudge::new(rt.alloc());
+    let status = match (words_of(&rt), fresh_disks(rt.alloc()), judge) {
+        (Ok(words), Ok(mut disks), Ok(judge)) => {
+            let mut judge = Some(judge);
+            let mut bells: Vec<ListBell> = Vec::new(rt.alloc());
+            run(
+                rt.alloc(),
+                &rt,
+                &words,
+                &mut source,
+                &mut sink,
+                &mut disks,
+                &mut judge,
+                &mut bells,
+            )
         }
-        (Err(status), _) => status,
-        (_, Err(_)) => Status::NoMemory,
+        (Err(status), _, _) => status,
+        (_, Err(_), _) => Status::NoMemory,
+        (_, _, Err(_)) => Status::NoMemory,
     };
     let _told = complain(&rt, status);
     ExitCode::from(status.code())

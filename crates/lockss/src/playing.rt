@@ -1,20 +1,20 @@
 //! A script is played on disks, and the report of its history is written.
 
-ghost use Rattle.std.specs.Prelude.{◌≡◌, ◌≢◌, ◌≤◌, true, None, OnOk, length};
+ghost use Rattle.std.specs.Prelude.{◌≡◌, ◌≢◌, ◌≤◌, true, Some, None, OnOk, IsSome};
 ghost use Rattle.lks_base.specs.Checking.{plan_fault};
-ghost use Rattle.lks_base.specs.declared.limits.TheConstants.{MOST_PEERS};
-ghost use Rattle.lks_effort.specs.Verdicts.{first_byte};
 ghost use Rattle.lks_law.specs.Histories.{IsHistory};
 ghost use Rattle.lks_outside.specs.Counts.{Rose};
 ghost use Rattle.lks_script.specs.StepRules.{are_steps_of};
+ghost use Rattle.lks_watch.specs.Watching.{ears, watching, Watches};
 ghost use Rattle.lks_world.specs.Counts.{fault_in, ServesHonest};
 ghost use Rattle.lks_world.specs.Follows.{Follows};
-ghost use Rattle.lks_world.specs.Held.{AreFresh};
-ghost use Rattle.lockss.specs.Playing.{stopped_as, fault_told, TellsReport, PlaysIn, Plays, IsServed};
+ghost use Rattle.lockss.specs.Playing.{devices, stopped_as, fault_told, AreGiven, TellsReport, PlaysIn, Plays, IsServed};
 
 use crate::statuses::Status;
+use lks_alarm::Bell;
 use lks_blocks::BlockPool;
 use lks_disk::CrashDisk;
+use lks_effort::EffortJudge;
 use lks_outside::{Sink, WriteStop};
 use lks_report::{has_alarm, report};
 use lks_script::{Script, Step};
@@ -23,15 +23,16 @@ use std::alloc::Global;
 use std::mem;
 use std::sync::Wait;
 
-fn perform_all<R: Wait, D: CrashDisk + Drop>(
+fn perform_all<R: Wait, D: CrashDisk + Drop, J: EffortJudge, B: Bell>(
     rt: &R,
-    world: &mut World<'_, D>,
+    world: &mut World<'_, D, J, B>,
     steps: &[Step],
 ) -> Result<(), WorldFault>
     requires running { world.old.stopped ≡ None }
     requires legal { are_steps_of world.old.plan steps.now ≡ true }
     ensures plan { world.new.plan ≡ world.old.plan }
-    ensures follows { OnOk result (Follows first_byte world.old.plan world.old.history steps.now world.new.history) }
+    ensures follows { OnOk result (Follows (J.verdict world.old.judge) world.old.plan world.old.history steps.now world.new.history) }
+    ensures watches { OnOk result (Watches world.old.plan world.old.history world.new.history (watching (ears J.heard J.verdict B.rung B.limit) world.old.judge world.old.bells) (watching (ears J.heard J.verdict B.rung B.limit) world.new.judge world.new.bells)) }
     ensures stopped { world.new.stopped ≡ fault_in result }
     ensures serves { ServesHonest D.face world.old.plan.peers world.old.disks world.new.disks (fault_in result) }
 {
@@ -42,7 +43,11 @@ fn perform_all<R: Wait, D: CrashDisk + Drop>(
 }
 
 /// Writes the report of what happened in the world.
-fn tell<K: Sink, D: CrashDisk + Drop>(alloc: Global, world: &World<'_, D>, sink: &mut K) -> Status
+fn tell<K: Sink, D: CrashDisk + Drop, J: EffortJudge, B: Bell>(
+    alloc: Global,
+    world: &World<'_, D, J, B>,
+    sink: &mut K,
+) -> Status
     ensures happened { IsHistory world.now.plan world.now.history }
     ensures tells { TellsReport world.now.plan world.now.history (K.taken sink.old) (K.taken sink.new) result }
     ensures failed { result ≡ Status.WriteFault → Rose (K.faults sink.old) (K.faults sink.new) }
@@ -73,17 +78,17 @@ fn stopped_by(fault: WorldFault) -> Status
 }
 
 /// Does the steps in a world, and writes the report.
-fn play_in<R: Wait, K: Sink, D: CrashDisk + Drop>(
+fn play_in<R: Wait, K: Sink, D: CrashDisk + Drop, J: EffortJudge, B: Bell>(
     alloc: Global,
     rt: &R,
-    world: &mut World<'_, D>,
+    world: &mut World<'_, D, J, B>,
     steps: &[Step],
     sink: &mut K,
 ) -> Status
     requires running { world.old.stopped ≡ None }
     requires legal { are_steps_of world.old.plan steps.now ≡ true }
     ensures plan { world.new.plan ≡ world.old.plan }
-    ensures plays { PlaysIn K.taken steps.now world.old world.new sink.old sink.new result }
+    ensures plays { PlaysIn (ears J.heard J.verdict B.rung B.limit) K.taken steps.now world.old world.new sink.old sink.new result }
     ensures serves { ServesHonest D.face world.old.plan.peers world.old.disks world.new.disks (fault_told result) }
     ensures failed { result ≡ Status.WriteFault → Rose (K.faults sink.old) (K.faults sink.new) }
     ensures count { K.faults sink.old ≤ K.faults sink.new }
@@ -94,38 +99,59 @@ fn play_in<R: Wait, K: Sink, D: CrashDisk + Drop>(
     }
 }
 
-/// Plays a script on disks, which are back in their places afterwards, and writes the report of its history.
-pub fn play<R: Wait, K: Sink, D: CrashDisk + Drop>(
+/// Puts all that a world gave back into its place.
+fn hand_back<D: Drop, J: Drop, B: Drop>(
+    parts: Parts<D, J, B>,
+    disks: &mut Vec<D>,
+    judge: &mut Option<J>,
+    bells: &mut Vec<B>,
+)
+    ensures disks { disks.new.items ≡ parts.disks.items }
+    ensures judge { judge.new ≡ Some parts.judge }
+    ensures bells { bells.new.items ≡ parts.bells.items }
+{
+    *disks = parts.disks;
+    *judge = Some(parts.judge);
+    *bells = parts.bells;
+}
+
+/// Plays a script on disks, which are back in their places afterwards, as are the judge and the bells that want more, and
+/// writes the report of its history.
+pub fn play<R: Wait, K: Sink, D: CrashDisk + Drop, J: EffortJudge, B: Bell>(
     alloc: Global,
     rt: &R,
     script: Script,
-    disks: &mut Vec<D>,
     sink: &mut K,
+    disks: &mut Vec<D>,
+    judge: &mut Option<J>,
+    bells: &mut Vec<B>,
 ) -> Status
     requires good { plan_fault script.plan ≡ None }
     requires legal { are_steps_of script.plan script.steps ≡ true }
-    requires enough { MOST_PEERS ≤ length disks.old.items }
-    requires fresh { AreFresh D.face disks.old.items }
-    ensures plays { Plays D.face K.taken disks.new.items script sink.old sink.new result }
+    requires given { AreGiven D.face (ears J.heard J.verdict B.rung B.limit) (devices disks.old.items sink.old judge.old bells.old.items) }
+    ensures plays { Plays D.face (ears J.heard J.verdict B.rung B.limit) K.taken script (devices disks.old.items sink.old judge.old bells.old.items) (devices disks.new.items sink.new judge.new bells.new.items) result }
     ensures served { IsServed D.face disks.old.items disks.new.items script result }
+    ensures back { IsSome judge.new }
     ensures failed { result ≡ Status.WriteFault → Rose (K.faults sink.old) (K.faults sink.new) }
     ensures count { K.faults sink.old ≤ K.faults sink.new }
-    ensures not_usage { result ≢ Status.Usage }
-    ensures not_read { result ≢ Status.ReadFault }
 {
     let Ok(pool) = BlockPool::new(alloc) else {
         return Status::NoMemory;
     };
+    let Some(asked) = judge.take() else {
+        unreachable!()
+    };
     let Script { plan, steps } = script;
     let handed = mem::replace(disks, Vec::new(alloc));
-    let mut world = match World::new(alloc, rt, &pool, plan, handed) {
+    let hung = mem::replace(bells, Vec::new(alloc));
+    let mut world = match World::new(alloc, rt, &pool, plan, handed, asked, hung) {
         Ok(world) => world,
         Err((parts, fault)) => {
-            *disks = parts.disks;
+            hand_back(parts, disks, judge, bells);
             return stopped_by(fault);
         }
     };
     let status = play_in(alloc, rt, &mut world, steps.as_slice(), sink);
-    *disks = world.into_parts().disks;
+    hand_back(world.into_parts(), disks, judge, bells);
     status
 }

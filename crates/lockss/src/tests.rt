@@ -6,8 +6,13 @@ mod lists;
 mod peers;
 mod sessions;
 mod turns;
+mod watched;
+
+ghost use Rattle.std.specs.Prelude.{◌≤◌, length};
+ghost use Rattle.lks_world.specs.Held.{AreFresh};
 
 use super::*;
+use lks_disk::{Disk, MemDisk};
 use lks_outside::{MemSink, MemSource};
 use std::alloc::Global;
 use std::process::Abort;
@@ -558,6 +563,25 @@ fn alarmed<'a>(script: &'a [&'a str], report: &'a [&'a str]) -> Row<'a> {
     }
 }
 
+/// Runs with the program's own judge, and no bells.
+fn replay_plainly<R: Wait>(
+    alloc: Global,
+    rt: &R,
+    words: &[String],
+    source: &mut MemSource,
+    sink: &mut MemSink,
+    disks: &mut Vec<MemDisk>,
+) -> Result<Status, Fail>
+    requires enough { 32 ≤ length disks.old.items }
+    requires fresh { AreFresh ⟦<MemDisk as Disk>⟧.face disks.old.items }
+{
+    let mut judge = Some(FirstByteJudge::new(alloc)?);
+    let mut bells: Vec<ListBell> = Vec::new(alloc);
+    Ok(run(
+        alloc, rt, words, source, sink, disks, &mut judge, &mut bells,
+    ))
+}
+
 /// Runs each script, and compares what it answers and writes.
 fn check_rows<R: Abort + Wait>(rt: &R, alloc: Global, rows: &[Row<'_>]) -> Result<(), Fail> {
     let words = words_of(alloc, REPLAY)?;
@@ -565,7 +589,7 @@ fn check_rows<R: Abort + Wait>(rt: &R, alloc: Global, rows: &[Row<'_>]) -> Resul
         let mut source = MemSource::new(alloc, joined(alloc, row.script)?, [].to_vec(alloc)?);
         let mut sink = MemSink::new(alloc, [].to_vec(alloc)?);
         let mut disks = fresh_disks(alloc)?;
-        let status = run(alloc, rt, &words, &mut source, &mut sink, &mut disks);
+        let status = replay_plainly(alloc, rt, &words, &mut source, &mut sink, &mut disks)?;
         assert_eq!(rt; status, row.status, "row {at}");
         assert_eq!(rt;
             sink.bytes(),
@@ -658,7 +682,7 @@ fn refusals(rt: HostRuntime) -> Result<(), Fail> {
         let mut source = MemSource::new(alloc, script, row.failing_reads.to_vec(alloc)?);
         let mut sink = MemSink::new(alloc, row.failing_writes.to_vec(alloc)?);
         let mut disks = fresh_disks(alloc)?;
-        let status = run(alloc, &rt, &words, &mut source, &mut sink, &mut disks);
+        let status = replay_plainly(alloc, &rt, &words, &mut source, &mut sink, &mut disks)?;
         assert_eq!(rt; status, row.status, "row {at}");
         assert!(rt; sink.bytes().is_empty(), "row {at}");
     }
@@ -673,7 +697,7 @@ fn too_long(rt: HostRuntime) -> Result<(), Fail> {
     let mut source = MemSource::new(alloc, bytes, [].to_vec(alloc)?);
     let mut sink = MemSink::new(alloc, [].to_vec(alloc)?);
     let mut disks = fresh_disks(alloc)?;
-    let status = run(alloc, &rt, &words, &mut source, &mut sink, &mut disks);
+    let status = replay_plainly(alloc, &rt, &words, &mut source, &mut sink, &mut disks)?;
     assert_eq!(rt; status, Status::TooLong);
     assert!(rt; sink.bytes().is_empty());
     Ok(())

@@ -7,7 +7,6 @@ use super::crashes::ASKED;
 use super::*;
 use crate::fresh::fresh_disks;
 use lks_base::Bytes;
-use lks_disk::{Disk, MemDisk};
 use lks_journal::Journal;
 
 // A deposit of AU 1 with the blocks 41 and 42: an open gate, the length, one record, and a closed gate.
@@ -45,7 +44,7 @@ fn replay_on<R: Wait>(
     let mut source = MemSource::new(alloc, joined(alloc, script)?, [].to_vec(alloc)?);
     let mut sink = MemSink::new(alloc, [].to_vec(alloc)?);
     let mut disks = failing_disks(alloc, fail, fail_reads)?;
-    let status = run(alloc, rt, &words, &mut source, &mut sink, &mut disks);
+    let status = replay_plainly(alloc, rt, &words, &mut source, &mut sink, &mut disks)?;
     disks.truncate(1);
     Ok((status, disks.pop()))
 }
@@ -100,12 +99,13 @@ fn each_call_fails(rt: HostRuntime) -> Result<(), Fail> {
     Ok(())
 }
 
-// The peer is cut off, and the first read of its disk fails when it is reopened.
+// The peer is cut off, or loses its power between two steps, and the first read of its disk fails when it is reopened.
 #[test]
 fn a_read_fails_at_the_reopening(rt: HostRuntime) -> Result<(), Fail> {
     let alloc = rt.alloc();
-    let script = [HEAD, ASKED, "cut 0 0 next\nagain 7\nsettle\n"];
-    let (status, _disk) = replay_on(alloc, &rt, &script, &[], &[1])?;
-    assert_eq!(rt; status, Status::DiskFault { peer: 1 });
+    for lines in ["cut 0 0 next\nagain 7\nsettle\n", "crash 1\nsettle\n"] {
+        let (status, _disk) = replay_on(alloc, &rt, &[HEAD, ASKED, lines], &[], &[1])?;
+        assert_eq!(rt; status, Status::DiskFault { peer: 1 }, "{lines}");
+    }
     Ok(())
 }

@@ -204,7 +204,7 @@ poll 1 2 1 0 0 running
 end 8
 ";
 
-const OVERDUE: &str = "\
+pub const OVERDUE: &str = "\
 tick 100
 check 1
 tick 1
@@ -212,7 +212,7 @@ check 1
 check 1
 ";
 
-const OVERDUE_REPORT: &str = "\
+pub const OVERDUE_REPORT: &str = "\
 lockss report 1
 1 tick 100 | - | 0
 2 check 1 | - | 0

@@ -1,13 +1,16 @@
-use Rattle.std.proofs.Common.{◌≡◌, ◌-◌, ◌<◌, ◌∙◌, ap, sym, subst, ℕ, [], ◌∷◌, List, length, arith}
+use Rattle.std.proofs.Common.{◌≡◌, ◌∙◌, ap, sym, subst, ℕ, [], ◌∷◌, List}
 use Rattle.std.specs.Prelude.{IsSome, None, Ok, Err}
 use Rattle.std.proofs.lemmas.Result.{err_from_is_err_and}
 use Rattle.lks_base.specs.declared.events.Envelope.{Envelope}
 use Rattle.lks_base.specs.declared.events.Event.TheVariants as events
-use Rattle.lks_base.specs.declared.limits.TheConstants.{MOST_EVENTS}
 use Rattle.lks_law.specs.Histories.{IsHonest}
 use Rattle.lks_law.specs.World.{peer_at}
-use Rattle.lks_world.proofs.Ending.{counted_as, counted_still, cuts_short, cuts_whole, no_short, nobody_there, not_short, on_ok, somebody_there, taker_honest}
-use Rattle.lks_world.proofs.Keeping.{extends_by, extends_then, room_left}
+use Rattle.lks_watch.proofs.Going.{watches_then}
+use Rattle.lks_watch.specs.Watching.{Watches, ears, seen_by}
+use Rattle.lks_world.proofs.Ending.{counted_as, counted_still, cuts_alone, cuts_short, cuts_whole, no_short, nobody_there, not_short, on_ok, somebody_there, taker_honest}
+use Rattle.lks_world.proofs.HostLaws.{ok_then}
+use Rattle.lks_world.proofs.Keeping.{extends_by, extends_then, room_kept, room_left}
+use Rattle.lks_world.proofs.Watched.{crash_quiet}
 use Rattle.lks_world.specs.Cuts.{taker_of}
 use Rattle.lks_world.specs.Endings.{HasEnded}
 use Rattle.lks_world.specs.Hosts.{peers_of}
@@ -24,13 +27,35 @@ returns-then-is_none-clause-burns g c =
     let plan = c.args.plan.now in
     let s = c.args.state.now in
     let p = c.args.s in
-    let is = c.requires.state in
+    let is = c.requires.state.0 in
     let id : c.taker-id.result ≡ taker_of s.bag.items p = c.taker-id.ensures ∙ ap (λ (b : List Envelope). taker_of b p) c.deref.ensures.value in
     let none : peer_at (taker_of s.bag.items p) (peers_of f (hosts_of s.seats.items)) ≡ None =
     subst (λ (n : ℕ). peer_at n (peers_of f (hosts_of s.seats.items)) ≡ None) id
     (subst (λ (ss : List (Seat g.row.D.Denot)). peer_at c.taker-id.result (peers_of f (hosts_of ss)) ≡ None) c.deref-2.ensures.value
     (nobody_there f c.taker-id.result c.deref-2.result.now c.place_of.result c.if-is_none.ensures c.place_of.ensures)) in
-    on_ok c.add_step.result (λ short room. absurd (no_short f plan s p c.args.power.calls is none short))
+    on_ok c.take_step.result (λ short room. absurd (no_short f plan s p c.args.power.calls is none short))
+
+pub returns-then-is_none-clause-cuts : goal.returns-then-is_none-clause-cuts
+returns-then-is_none-clause-cuts g c =
+    let f = g.D.Disk.face in
+    let plan = c.args.plan.now in
+    let s = c.args.state.now in
+    let p = c.args.s in
+    let is = c.requires.state.0 in
+    let id : c.taker-id.result ≡ taker_of s.bag.items p = c.taker-id.ensures ∙ ap (λ (b : List Envelope). taker_of b p) c.deref.ensures.value in
+    let none : peer_at (taker_of s.bag.items p) (peers_of f (hosts_of s.seats.items)) ≡ None =
+    subst (λ (n : ℕ). peer_at n (peers_of f (hosts_of s.seats.items)) ≡ None) id
+    (subst (λ (ss : List (Seat g.row.D.Denot)). peer_at c.taker-id.result (peers_of f (hosts_of ss)) ≡ None) c.deref-2.ensures.value
+    (nobody_there f c.taker-id.result c.deref-2.result.now c.place_of.result c.if-is_none.ensures c.place_of.ensures)) in
+    ok_then c.take_step.result
+    (λ b. (b.state, cuts_alone f plan s p c.args.power.calls is c.take_step.new.state none (room_kept f plan s c.take_step.new.state (events.Step p) c.requires.state.1 b)))
+    (c.take_step.ensures.becomes plan is c.requires.may)
+
+pub returns-then-is_none-clause-watches : goal.returns-then-is_none-clause-watches
+returns-then-is_none-clause-watches g c = λ first asks. c.take_step.ensures.watches c.args.plan.now c.requires.state.0 first asks
+
+pub take_step-requires-clause-state : goal.take_step-requires-clause-state
+take_step-requires-clause-state g c κs within = (c.args.plan.now, c.requires.state.0)
 
 pub cut_there-requires-clause-can : goal.cut_there-requires-clause-can
 cut_there-requires-clause-can g c κs within =
@@ -38,13 +63,13 @@ cut_there-requires-clause-can g c κs within =
     let plan = c.args.plan.now in
     let s = c.args.state.now in
     let p = c.args.s in
-    let is = c.requires.state in
+    let is = c.requires.state.0 in
     let id : c.taker-id.result ≡ taker_of s.bag.items p = c.taker-id.ensures ∙ ap (λ (b : List Envelope). taker_of b p) c.deref.ensures.value in
     let there : IsSome (peer_at (taker_of s.bag.items p) (peers_of f (hosts_of s.seats.items))) =
     subst (λ (n : ℕ). IsSome (peer_at n (peers_of f (hosts_of s.seats.items)))) id
     (subst (λ (ss : List (Seat g.row.D.Denot)). IsSome (peer_at c.taker-id.result (peers_of f (hosts_of ss)))) c.deref-2.ensures.value
     (somebody_there f c.taker-id.result c.deref-2.result.now c.place_of.result c.if-is_none.ensures c.place_of.ensures)) in
-    record { room = omega (arith, c.room.ensures, c.if-room-eq0.false); may = c.requires.may; there = there }
+    record { room = c.requires.state.1; may = c.requires.may; there = there }
 
 pub returns-in_err-cut_there-clause-counted : goal.returns-in_err-cut_there-clause-counted
 returns-in_err-cut_there-clause-counted g c =
@@ -57,7 +82,7 @@ returns-in_err-add_crash-clause-extends g c =
     let plan = c.args.plan.now in
     let s = c.args.state.now in
     let p = c.args.s in
-    let is = c.requires.state in
+    let is = c.requires.state.0 in
     let id : c.taker-id.result ≡ taker_of s.bag.items p = c.taker-id.ensures ∙ ap (λ (b : List Envelope). taker_of b p) c.deref.ensures.value in
     let there : IsSome (peer_at (taker_of s.bag.items p) (peers_of f (hosts_of s.seats.items))) =
     subst (λ (n : ℕ). IsSome (peer_at n (peers_of f (hosts_of s.seats.items)))) id
@@ -76,30 +101,13 @@ returns-in_err-add_crash-clause-counted g c =
     (counted_still {T = Unit {0}} g.D.Disk.face c.args.state.now.seats.items c.cut_there.new.state.seats.items c.add_crash.new.state.seats.items (Ok c.in_ok-cut_there.field-0) (Err Memory)
     c.in_ok-cut_there.ensures.counted c.in_err-add_crash.ensures.seats (λ id is. absurd cc))
 
-pub returns-in_ok-add_crash-clause-state : goal.returns-in_ok-add_crash-clause-state
-returns-in_ok-add_crash-clause-state g c =
-    let f = g.D.Disk.face in
-    let plan = c.args.plan.now in
-    let s = c.args.state.now in
-    let p = c.args.s in
-    let is = c.requires.state in
-    let id : c.taker-id.result ≡ taker_of s.bag.items p = c.taker-id.ensures ∙ ap (λ (b : List Envelope). taker_of b p) c.deref.ensures.value in
-    let there : IsSome (peer_at (taker_of s.bag.items p) (peers_of f (hosts_of s.seats.items))) =
-    subst (λ (n : ℕ). IsSome (peer_at n (peers_of f (hosts_of s.seats.items)))) id
-    (subst (λ (ss : List (Seat g.row.D.Denot)). IsSome (peer_at c.taker-id.result (peers_of f (hosts_of ss)))) c.deref-2.ensures.value
-    (somebody_there f c.taker-id.result c.deref-2.result.now c.place_of.result c.if-is_none.ensures c.place_of.ensures)) in
-    let m = c.cut_there.new.state in
-    let end = subst (HasEnded f plan c.args.power.calls s p m) c.if-branch.true c.in_ok-cut_there.ensures.ended in
-    let honest = subst (IsHonest plan) (sym id) (taker_honest f plan s p c.args.power.calls is there) in
-    (c.in_ok-add_crash.ensures.becomes plan end.0.state honest).state
-
 pub returns-in_ok-add_crash-clause-cuts : goal.returns-in_ok-add_crash-clause-cuts
 returns-in_ok-add_crash-clause-cuts g c =
     let f = g.D.Disk.face in
     let plan = c.args.plan.now in
     let s = c.args.state.now in
     let p = c.args.s in
-    let is = c.requires.state in
+    let is = c.requires.state.0 in
     let id : c.taker-id.result ≡ taker_of s.bag.items p = c.taker-id.ensures ∙ ap (λ (b : List Envelope). taker_of b p) c.deref.ensures.value in
     let there : IsSome (peer_at (taker_of s.bag.items p) (peers_of f (hosts_of s.seats.items))) =
     subst (λ (n : ℕ). IsSome (peer_at n (peers_of f (hosts_of s.seats.items)))) id
@@ -108,9 +116,12 @@ returns-in_ok-add_crash-clause-cuts g c =
     let m = c.cut_there.new.state in
     let end = subst (HasEnded f plan c.args.power.calls s p m) c.if-branch.true c.in_ok-cut_there.ensures.ended in
     let honest = subst (IsHonest plan) (sym id) (taker_honest f plan s p c.args.power.calls is there) in
-    let room : 0 < MOST_EVENTS - length s.history.items = omega (arith, c.room.ensures, c.if-room-eq0.false) in
-    cuts_whole f plan s p c.args.power.calls is m c.add_crash.new.state (room_left f s room) there end
-    (subst (λ (n : ℕ). Becomes f plan (kept (events_in m) (events.Crash n)) c.add_crash.new.state) id (c.in_ok-add_crash.ensures.becomes plan end.0.state honest))
+    let room = c.requires.state.1 in
+    let b = c.in_ok-add_crash.ensures.becomes plan end.0.state honest in (
+      b.state,
+      cuts_whole f plan s p c.args.power.calls is m c.add_crash.new.state (room_left f s room) there end
+          (subst (λ (n : ℕ). Becomes f plan (kept (events_in m) (events.Crash n)) c.add_crash.new.state) id b),
+    )
 
 pub returns-in_ok-add_crash-clause-extends : goal.returns-in_ok-add_crash-clause-extends
 returns-in_ok-add_crash-clause-extends g c =
@@ -118,7 +129,7 @@ returns-in_ok-add_crash-clause-extends g c =
     let plan = c.args.plan.now in
     let s = c.args.state.now in
     let p = c.args.s in
-    let is = c.requires.state in
+    let is = c.requires.state.0 in
     let id : c.taker-id.result ≡ taker_of s.bag.items p = c.taker-id.ensures ∙ ap (λ (b : List Envelope). taker_of b p) c.deref.ensures.value in
     let there : IsSome (peer_at (taker_of s.bag.items p) (peers_of f (hosts_of s.seats.items))) =
     subst (λ (n : ℕ). IsSome (peer_at n (peers_of f (hosts_of s.seats.items)))) id
@@ -139,7 +150,7 @@ pub returns-in_ok-add_crash-clause-burns : goal.returns-in_ok-add_crash-clause-b
 returns-in_ok-add_crash-clause-burns g c = λ short room.
     let f = g.D.Disk.face in
     let end = subst (HasEnded f c.args.plan.now c.args.power.calls c.args.state.now c.args.s c.cut_there.new.state) c.if-branch.true c.in_ok-cut_there.ensures.ended in
-    absurd (not_short f c.args.plan.now c.args.state.now c.args.s c.args.power.calls c.requires.state c.cut_there.new.state end short)
+    absurd (not_short f c.args.plan.now c.args.state.now c.args.s c.args.power.calls c.requires.state.0 c.cut_there.new.state end short)
 
 pub returns-else-branch-clause-cuts : goal.returns-else-branch-clause-cuts
 returns-else-branch-clause-cuts g c =
@@ -147,7 +158,7 @@ returns-else-branch-clause-cuts g c =
     let plan = c.args.plan.now in
     let s = c.args.state.now in
     let p = c.args.s in
-    let is = c.requires.state in
+    let is = c.requires.state.0 in
     let id : c.taker-id.result ≡ taker_of s.bag.items p = c.taker-id.ensures ∙ ap (λ (b : List Envelope). taker_of b p) c.deref.ensures.value in
     let there : IsSome (peer_at (taker_of s.bag.items p) (peers_of f (hosts_of s.seats.items))) =
     subst (λ (n : ℕ). IsSome (peer_at n (peers_of f (hosts_of s.seats.items)))) id
@@ -155,5 +166,26 @@ returns-else-branch-clause-cuts g c =
     (somebody_there f c.taker-id.result c.deref-2.result.now c.place_of.result c.if-is_none.ensures c.place_of.ensures)) in
     let m = c.cut_there.new.state in
     let end = subst (HasEnded f plan c.args.power.calls s p m) c.if-branch.false c.in_ok-cut_there.ensures.ended in
-    let room : 0 < MOST_EVENTS - length s.history.items = omega (arith, c.room.ensures, c.if-room-eq0.false) in
-    cuts_short f plan s p c.args.power.calls is m (room_left f s room) there end
+    let room = c.requires.state.1 in
+    (end.1.state, cuts_short f plan s p c.args.power.calls is m (room_left f s room) there end)
+
+pub returns-in_ok-add_crash-clause-watches : goal.returns-in_ok-add_crash-clause-watches
+returns-in_ok-add_crash-clause-watches g c = λ first asks.
+    let f = g.D.Disk.face in
+    let e = ears g.J.EffortJudge.heard g.J.EffortJudge.verdict g.B.Bell.rung g.B.Bell.limit in
+    let plan = c.args.plan.now in
+    let s = c.args.state.now in
+    let p = c.args.s in
+    let is = c.requires.state.0 in
+    let id : c.taker-id.result ≡ taker_of s.bag.items p = c.taker-id.ensures ∙ ap (λ (b : List Envelope). taker_of b p) c.deref.ensures.value in
+    let there : IsSome (peer_at (taker_of s.bag.items p) (peers_of f (hosts_of s.seats.items))) =
+    subst (λ (n : ℕ). IsSome (peer_at n (peers_of f (hosts_of s.seats.items)))) id
+    (subst (λ (ss : List (Seat g.row.D.Denot)). IsSome (peer_at c.taker-id.result (peers_of f (hosts_of ss)))) c.deref-2.ensures.value
+    (somebody_there f c.taker-id.result c.deref-2.result.now c.place_of.result c.if-is_none.ensures c.place_of.ensures)) in
+    let m = c.cut_there.new.state in
+    let t = c.add_crash.new.state in
+    let x = seen_by e c.cut_there.new.watch in
+    let end = subst (HasEnded f plan c.args.power.calls s p m) c.if-branch.true c.in_ok-cut_there.ensures.ended in
+    let honest = subst (IsHonest plan) (sym id) (taker_honest f plan s p c.args.power.calls is there) in
+    watches_then plan (events_in s) (events_in m) (events_in t) (seen_by e first) x x (c.in_ok-cut_there.ensures.watches first asks)
+    (subst (λ h. Watches plan (events_in m) h x x) (sym (c.in_ok-add_crash.ensures.becomes plan end.0.state honest).events) (crash_quiet plan (events_in m) x c.taker-id.result))

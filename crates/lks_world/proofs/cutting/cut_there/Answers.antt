@@ -1,17 +1,21 @@
 use Rattle.std.proofs.Common.{◌≡◌, ◌∙◌, ◌++◌, ◌∷◌, [], length, ap, sym, subst, ℕ, Bool, List}
 use Rattle.std.specs.Prelude.{IfSome, Ok, Err, map}
-use Rattle.std.specs.List.{range_with_len}
+use Rattle.std.specs.List.{filter_map, range_with_len}
 use Rattle.std.proofs.lemmas.Result.{err_from_is_err_and}
+use Rattle.lks_alarm.specs.declared.alarms.Alarm.{Alarm}
 use Rattle.lks_base.specs.declared.events.Envelope.{Envelope}
 use Rattle.lks_base.specs.declared.reactions.Outgoing.{Outgoing}
 use Rattle.lks_law.specs.Facts.{IsHeard}
 use Rattle.lks_law.specs.Entries.{carried, entry_for}
 use Rattle.lks_law.specs.World.{deed_of, actor_of, sent_by}
+use Rattle.lks_watch.specs.Alarms.{alarm_noted}
+use Rattle.lks_watch.specs.Watching.{Rings, ears, seen_by}
 use Rattle.lks_world.proofs.CutLaws.{if_both, whose_deed}
 use Rattle.lks_world.proofs.Ending.{made_there, has_ended, burns_unless, counted_still}
 use Rattle.lks_world.proofs.Keeping.{can_step, room_left}
 use Rattle.lks_world.specs.Cuts.{taker_of}
-use Rattle.lks_world.specs.Endings.{BurnsUnless, HasEnded, PeersEnd}
+use Rattle.lks_world.proofs.Watched.{events_noted, watched_ending}
+use Rattle.lks_world.specs.Endings.{BurnsUnless, HasEnded, PeersEnd, event_for, notes_for, sends_for}
 use Rattle.lks_world.specs.Hosts.{peers_of, HaveGoneOn}
 use Rattle.lks_world.specs.Seats.{hosts_of}
 use Rattle.lks_world.specs.States.{left_after}
@@ -64,6 +68,28 @@ returns-clause-ended g c =
     (noted.pending ∙ ap (λ (sends : List Outgoing). left_after p s.pending.items ++ range_with_len (length s.bag.items) (length sends)) told.sends)
     (noted.history ∙ (λ i. s.history.items ++ entry_for (told.event i) (carried s.bag.items p) (told.notes i) (length (told.sends i)) ∷ []))
     on noted.pool)
+
+pub returns-clause-watches : goal.returns-clause-watches
+returns-clause-watches g c = λ first asks.
+    let f = g.D.Disk.face in
+    let e = ears g.J.EffortJudge.heard g.J.EffortJudge.verdict g.B.Bell.rung g.B.Bell.limit in
+    let s = c.args.state.now in
+    let t = c.note_step.new.state in
+    let p = c.args.s in
+    let end = c.in_ok-ending.ending in
+    let plan = c.args.plan.now in
+    let calls = c.args.power.calls in
+    let noted = c.in_ok-note_step.ensures in
+    let told = c.told-event.ensures in
+    let deed = c.in_ok-deed.ensures.deed ∙ ap (λ (b : List Envelope). deed_of b p) c.deref-2.ensures.value in
+    let actor = c.actor.ensures ∙ ap actor_of deed in
+    let after = peers_of f (hosts_of c.cut_at.new.seats.items) in
+    watched_ending f e plan s t p calls after end first c.args.watch.now c.note_step.new.watch c.requires.state
+    (subst (λ o. PeersEnd s.tick o calls (peers_of f (hosts_of s.seats.items)) after end) deed c.in_ok-ending.ensures.ends)
+    (events_noted f e plan s t (event_for p end) (carried s.bag.items p) (notes_for end) (length (sends_for end))
+    (noted.history ∙ (λ i. s.history.items ++ entry_for (told.event i) (carried s.bag.items p) (told.notes i) (length (told.sends i)) ∷ [])))
+    asks
+    (subst (λ (raised : List Alarm). Rings raised (seen_by e c.args.watch.now) (seen_by e c.note_step.new.watch)) (λ i. filter_map (alarm_noted (actor i) s.tick) (told.notes i)) noted.hears)
 
 pub returns-clause-burns : goal.returns-clause-burns
 returns-clause-burns g c =

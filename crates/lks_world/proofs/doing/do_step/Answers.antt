@@ -1,8 +1,10 @@
-use Rattle.std.proofs.Common.{◌∙◌, sym, ap, subst}
-use Rattle.lks_effort.specs.Verdicts.{first_byte}
+use Rattle.std.proofs.Common.{◌∙◌, sym, ap, subst, refl}
+use Rattle.lks_base.specs.declared.events.Event.TheVariants as events
 use Rattle.lks_script.specs.declared.steps.Step.TheVariants as step
+use Rattle.lks_watch.specs.Watching.{Watches, ears, seen_by}
 use Rattle.lks_world.proofs.HostLaws.{ok_then}
 use Rattle.lks_world.proofs.OwnSteps.{step_may, ticks_within, forgery_may, crash_may, cut_legal}
+use Rattle.lks_world.proofs.Watched.{crash_quiet, lost_quiet, ok_both, quiet_kept, step_asks}
 use Rattle.lks_world.specs.Follows.{Performs}
 use Rattle.lks_world.specs.States.{events_in, world_in}
 use Rattle.lks_world.proofs.doing.do_step.Goals as goal
@@ -22,43 +24,93 @@ cut-requires-clause-legal g c κs within = cut_legal c.args.plan.now c.args.step
 pub returns-in-Peer-clause-state : goal.returns-in-Peer-clause-state
 returns-in-Peer-clause-state g c =
     ok_then c.add_step.result (λ b. b.state)
-    (c.add_step.ensures.becomes c.args.plan.now c.requires.state (step_may c.args.plan.now (world_in g.D.Disk.face c.args.state.now) c.args.step.now c.in-Peer.s c.in-Peer.is c.requires.legal))
+    (c.add_step.ensures.becomes c.args.plan.now c.requires.state.0 (step_may c.args.plan.now (world_in g.D.Disk.face c.args.state.now) c.args.step.now c.in-Peer.s c.in-Peer.is c.requires.legal))
 
 pub returns-in-Peer-clause-performs : goal.returns-in-Peer-clause-performs
 returns-in-Peer-clause-performs g c =
-    ok_then c.add_step.result
-    (λ b. subst (λ s. Performs first_byte c.args.plan.now (events_in c.args.state.now) s (events_in c.add_step.new.state)) (sym c.in-Peer.is) b.events)
-    (c.add_step.ensures.becomes c.args.plan.now c.requires.state (step_may c.args.plan.now (world_in g.D.Disk.face c.args.state.now) c.args.step.now c.in-Peer.s c.in-Peer.is c.requires.legal))
+    let verdict = g.J.EffortJudge.verdict c.args.watch.now.judge in
+    let w = world_in g.D.Disk.face c.args.state.now in
+    ok_both _ _ c.add_step.result
+    (ok_then c.add_step.result (λ b. subst (λ s. Performs verdict c.args.plan.now (events_in c.args.state.now) s (events_in c.add_step.new.state)) (sym c.in-Peer.is) b.events)
+    (c.add_step.ensures.becomes c.args.plan.now c.requires.state.0 (step_may c.args.plan.now w c.args.step.now c.in-Peer.s c.in-Peer.is c.requires.legal)))
+    (c.add_step.ensures.watches c.args.plan.now c.requires.state.0 (step_asks c.args.plan.now w c.args.step.now c.in-Peer.s c.in-Peer.is c.requires.legal))
+
+pub returns-in_ok-add_ticks-in-Tick-clause-performs : goal.returns-in_ok-add_ticks-in-Tick-clause-performs
+returns-in_ok-add_ticks-in-Tick-clause-performs g c =
+    let e = ears g.J.EffortJudge.heard g.J.EffortJudge.verdict g.B.Bell.rung g.B.Bell.limit in
+    let plan = c.args.plan.now in
+    let h = events_in c.args.state.now in
+    let x = seen_by e c.args.watch.now in
+    let is = (c.in_ok-add_ticks-in-Tick.ensures.becomes plan c.requires.state.0).events in (
+      subst (λ s. Performs (e.verdict c.args.watch.now.judge) plan h s (events_in c.add_ticks.new.state)) (sym c.in-Tick.is) is,
+      subst (λ after. Watches plan h after x x) (sym is) (quiet_kept plan h x (events.Tick c.in-Tick.by) (λ w. (refl, refl))),
+    )
+
+pub returns-in_ok-lose_first-in-Lose-clause-performs : goal.returns-in_ok-lose_first-in-Lose-clause-performs
+returns-in_ok-lose_first-in-Lose-clause-performs g c =
+    let e = ears g.J.EffortJudge.heard g.J.EffortJudge.verdict g.B.Bell.rung g.B.Bell.limit in
+    let plan = c.args.plan.now in
+    let h = events_in c.args.state.now in
+    let x = seen_by e c.args.watch.now in
+    let is = (c.in_ok-lose_first-in-Lose.ensures.becomes plan c.requires.state.0).events in (
+      subst (λ s. Performs (e.verdict c.args.watch.now.judge) plan h s (events_in c.lose_first.new.state)) (sym c.in-Lose.is) is,
+      subst (λ after. Watches plan h after x x) (sym is) (lost_quiet plan h x),
+    )
+
+pub returns-in-Crash-clause-performs : goal.returns-in-Crash-clause-performs
+returns-in-Crash-clause-performs g c =
+    let e = ears g.J.EffortJudge.heard g.J.EffortJudge.verdict g.B.Bell.rung g.B.Bell.limit in
+    let plan = c.args.plan.now in
+    let h = events_in c.args.state.now in
+    let x = seen_by e c.args.watch.now in
+    ok_then c.crash.result
+    (λ b. (
+      subst (λ s. Performs (e.verdict c.args.watch.now.judge) plan h s (events_in c.crash.new.state)) (sym c.in-Crash.is) b.events,
+      subst (λ after. Watches plan h after x x) (sym b.events) (crash_quiet plan h x c.in-Crash.peer),
+    ))
+    c.crash.ensures.becomes
+
+pub returns-in_ok-say-in-SayPoll-clause-performs : goal.returns-in_ok-say-in-SayPoll-clause-performs
+returns-in_ok-say-in-SayPoll-clause-performs g c =
+    let e = ears g.J.EffortJudge.heard g.J.EffortJudge.verdict g.B.Bell.rung g.B.Bell.limit in
+    let said = c.in_ok-say-in-SayPoll.ensures.performs in
+    (said.0 (e.verdict c.args.watch.now.judge), said.1 (seen_by e c.args.watch.now))
 
 pub returns-in-Peer-clause-extends : goal.returns-in-Peer-clause-extends
 returns-in-Peer-clause-extends g c =
-    c.add_step.ensures.extends c.args.plan.now c.requires.state (step_may c.args.plan.now (world_in g.D.Disk.face c.args.state.now) c.args.step.now c.in-Peer.s c.in-Peer.is c.requires.legal)
+    c.add_step.ensures.extends c.args.plan.now c.requires.state.0 (step_may c.args.plan.now (world_in g.D.Disk.face c.args.state.now) c.args.step.now c.in-Peer.s c.in-Peer.is c.requires.legal)
 
 pub returns-in_err-add_forgery-in-Forge-clause-extends : goal.returns-in_err-add_forgery-in-Forge-clause-extends
 returns-in_err-add_forgery-in-Forge-clause-extends g c =
     let bytes = c.in_ok-bytes-in-Forge.bytes in
     let is = c.in-Forge.is ∙ ap (step.Forge c.in-Forge.from c.in-Forge.to) (sym c.in_ok-bytes-in-Forge.ensures.cases) in
     let may = forgery_may c.args.plan.now c.args.step.now c.in-Forge.from c.in-Forge.to bytes is c.requires.legal in
-    c.add_forgery.ensures.extends c.args.plan.now c.requires.state may.0 may.1 may.2
+    c.add_forgery.ensures.extends c.args.plan.now c.requires.state.0 may.0 may.1 may.2
 
 pub returns-in_ok-add_forgery-in-Forge-clause-extends : goal.returns-in_ok-add_forgery-in-Forge-clause-extends
 returns-in_ok-add_forgery-in-Forge-clause-extends g c =
     let bytes = c.in_ok-bytes-in-Forge.bytes in
     let is = c.in-Forge.is ∙ ap (step.Forge c.in-Forge.from c.in-Forge.to) (sym c.in_ok-bytes-in-Forge.ensures.cases) in
     let may = forgery_may c.args.plan.now c.args.step.now c.in-Forge.from c.in-Forge.to bytes is c.requires.legal in
-    c.add_forgery.ensures.extends c.args.plan.now c.requires.state may.0 may.1 may.2
+    c.add_forgery.ensures.extends c.args.plan.now c.requires.state.0 may.0 may.1 may.2
 
 pub returns-in_ok-add_forgery-in-Forge-clause-state : goal.returns-in_ok-add_forgery-in-Forge-clause-state
 returns-in_ok-add_forgery-in-Forge-clause-state g c =
     let bytes = c.in_ok-bytes-in-Forge.bytes in
     let is = c.in-Forge.is ∙ ap (step.Forge c.in-Forge.from c.in-Forge.to) (sym c.in_ok-bytes-in-Forge.ensures.cases) in
     let may = forgery_may c.args.plan.now c.args.step.now c.in-Forge.from c.in-Forge.to bytes is c.requires.legal in
-    (c.in_ok-add_forgery-in-Forge.ensures.becomes c.args.plan.now c.requires.state may.0 may.1 may.2).state
+    (c.in_ok-add_forgery-in-Forge.ensures.becomes c.args.plan.now c.requires.state.0 may.0 may.1 may.2).state
 
 pub returns-in_ok-add_forgery-in-Forge-clause-performs : goal.returns-in_ok-add_forgery-in-Forge-clause-performs
 returns-in_ok-add_forgery-in-Forge-clause-performs g c =
+    let e = ears g.J.EffortJudge.heard g.J.EffortJudge.verdict g.B.Bell.rung g.B.Bell.limit in
+    let plan = c.args.plan.now in
+    let h = events_in c.args.state.now in
+    let x = seen_by e c.args.watch.now in
     let bytes = c.in_ok-bytes-in-Forge.bytes in
-    let is = c.in-Forge.is ∙ ap (step.Forge c.in-Forge.from c.in-Forge.to) (sym c.in_ok-bytes-in-Forge.ensures.cases) in
-    let may = forgery_may c.args.plan.now c.args.step.now c.in-Forge.from c.in-Forge.to bytes is c.requires.legal in
-    subst (λ s. Performs first_byte c.args.plan.now (events_in c.args.state.now) s (events_in c.add_forgery.new.state)) (sym is)
-    (c.in_ok-add_forgery-in-Forge.ensures.becomes c.args.plan.now c.requires.state may.0 may.1 may.2).events
+    let forged = c.in-Forge.is ∙ ap (step.Forge c.in-Forge.from c.in-Forge.to) (sym c.in_ok-bytes-in-Forge.ensures.cases) in
+    let may = forgery_may plan c.args.step.now c.in-Forge.from c.in-Forge.to bytes forged c.requires.legal in
+    let is = (c.in_ok-add_forgery-in-Forge.ensures.becomes plan c.requires.state.0 may.0 may.1 may.2).events in (
+      subst (λ s. Performs (e.verdict c.args.watch.now.judge) plan h s (events_in c.add_forgery.new.state)) (sym forged) is,
+      subst (λ after. Watches plan h after x x) (sym is) (quiet_kept plan h x (events.Forge c.in-Forge.from c.in-Forge.to bytes) (λ w. (refl, refl))),
+    )

@@ -1,8 +1,10 @@
-use Rattle.std.proofs.Common.{◌≡◌, subst}
-use Rattle.lks_effort.specs.Verdicts.{first_byte}
+use Rattle.std.proofs.Common.{◌≡◌, subst, sym}
 use Rattle.lks_world.proofs.HostLaws.{ok_then}
 use Rattle.lks_saying.proofs.Ends.{said_may}
+use Rattle.lks_saying.specs.Sayings.{said_by}
+use Rattle.lks_watch.specs.Watching.{Watches}
 use Rattle.lks_world.proofs.OwnSteps.{says}
+use Rattle.lks_world.proofs.Watched.{spoken_quiet}
 use Rattle.lks_world.specs.Follows.{spoken}
 use Rattle.lks_world.specs.States.{events_in}
 use Rattle.lks_world.proofs.doing.say.Goals as goal
@@ -14,7 +16,11 @@ pub returns-clause-performs : goal.returns-clause-performs
 returns-clause-performs g c =
     let history = events_in c.args.state.now in
     ok_then c.speak.result
-    (λ b. says first_byte c.args.plan.now history (events_in c.speak.new.state) c.args.step.now c.requires.saying (subst (λ said. events_in c.speak.new.state ≡ spoken history said) c.in_ok-said.ensures.said b.events))
+    (λ b.
+    let said = subst (λ said. events_in c.speak.new.state ≡ spoken history said) c.in_ok-said.ensures.said b.events in (
+      λ verdict. says verdict c.args.plan.now history (events_in c.speak.new.state) c.args.step.now c.requires.saying said,
+      λ x. subst (λ h. Watches c.args.plan.now history h x x) (sym said) (spoken_quiet c.args.plan.now history x (said_by c.args.plan.now c.args.step.now)),
+    ))
     (c.speak.ensures.becomes c.args.plan.now c.requires.state (said_may c.args.plan.now c.args.step.now c.in_ok-said.said c.in_ok-said.ensures.said c.requires.legal))
 
 pub returns-clause-extends : goal.returns-clause-extends

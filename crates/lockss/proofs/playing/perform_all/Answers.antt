@@ -4,9 +4,12 @@ use Rattle.std.proofs.lemmas.Grind.{common_steps}
 use Rattle.std.proofs.lemmas.Result.{err_from_is_err_and}
 use Rattle.lks_base.specs.declared.plans.Plan.{Plan}
 use Rattle.lks_world.proofs.ServingLaws.{serves_then}
-use Rattle.lks_effort.specs.Verdicts.{first_byte}
+use Rattle.lks_law.specs.Questions.{Verdicts}
+use Rattle.lks_watch.proofs.Going.{watches_then}
+use Rattle.lks_watch.specs.Watching.{Watches, ears, watching}
 use Rattle.lks_world.specs.Counts.{ServesHonest}
 use Rattle.lks_world.specs.Follows.{Follows, Performs}
+use Rattle.lks_world.specs.Worlds.{Seen}
 use Rattle.lockss.proofs.playing.perform_all.Goals as goal
 
 pub returns-in_err-perform-clause-serves : goal.returns-in_err-perform-clause-serves
@@ -22,11 +25,20 @@ loop-step-preserved g c = record {
   running = c.in_ok-perform.ensures.stopped;
   legal = grind (arith, common_steps);
   follows = λ after rest.
+      let verdict = g.J.EffortJudge.verdict c.args.world.now.judge in
       let left = drop c.loop-step.step-index c.args.steps.now in
       let first : left ≡ c.step-item.result ∷ drop (c.loop-step.step-index + 1) c.args.steps.now = grind (arith, common_steps) in
-      let performs = subst (λ (p : Plan). Performs first_byte p c.loop-step.world.history c.step-item.result c.perform.new.self.history) c.loop-step.invariant.plan c.in_ok-perform.ensures.performs in
+      let performs =
+      subst (λ (v : Verdicts). Performs v c.args.world.now.plan c.loop-step.world.history c.step-item.result c.perform.new.self.history) c.loop-step.invariant.watches.verdict
+      (subst (λ (p : Plan). Performs (g.J.EffortJudge.verdict c.loop-step.world.judge) p c.loop-step.world.history c.step-item.result c.perform.new.self.history) c.loop-step.invariant.plan c.in_ok-perform.ensures.performs.performs) in
       c.loop-step.invariant.follows after
-      (subst (λ ss. Follows first_byte c.args.world.now.plan c.loop-step.world.history ss after) (sym first) (c.perform.new.self.history, performs, rest));
+      (subst (λ ss. Follows verdict c.args.world.now.plan c.loop-step.world.history ss after) (sym first) (c.perform.new.self.history, performs, rest));
+  watches =
+      let e = ears g.J.EffortJudge.heard g.J.EffortJudge.verdict g.B.Bell.rung g.B.Bell.limit in
+      let plan = c.args.world.now.plan in
+      let seen_of = λ (w : Seen g.row.D.Denot g.row.J.Denot g.row.B.Denot). watching e w.judge w.bells in
+      watches_then plan c.args.world.now.history c.loop-step.world.history c.perform.new.self.history (seen_of c.args.world.now) (seen_of c.loop-step.world) (seen_of c.perform.new.self) c.loop-step.invariant.watches
+      (subst (λ (p : Plan). Watches p c.loop-step.world.history c.perform.new.self.history (seen_of c.loop-step.world) (seen_of c.perform.new.self)) c.loop-step.invariant.plan c.in_ok-perform.ensures.performs.watches);
   serves =
       serves_then g.D.Disk.face c.args.world.now.plan.peers c.args.world.now.disks c.loop-step.world.disks c.perform.new.self.disks None c.loop-step.invariant.serves
       (subst (λ (p : Plan). ServesHonest g.D.Disk.face p.peers c.loop-step.world.disks c.perform.new.self.disks None) c.loop-step.invariant.plan c.in_ok-perform.ensures.disks);

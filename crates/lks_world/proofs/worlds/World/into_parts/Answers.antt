@@ -8,13 +8,13 @@ use Rattle.lks_world.proofs.worlds.World.into_parts.Goals as goal
 pub returns-clause-disks : goal.returns-clause-disks
 returns-clause-disks g c =
     let a = c.self.inside in
-    c.turn_round.ensures.items ∙ ap reverse c.unseat.ensures.items ∙ turned_back a.state.seats.items a.rest.items ∙ ap (λ (v : Seen g.row.D.Denot). v.disks) c.self.view_is
+    c.turn_round.ensures.items ∙ ap reverse c.unseat.ensures.items ∙ turned_back a.state.seats.items a.rest.items ∙ ap (λ (v : Seen g.row.D.Denot g.row.J.Denot g.row.B.Denot). v.disks) c.self.view_is
 
 pub returns-clause-holds : goal.returns-clause-holds
 returns-clause-holds g c = λ running.
     let a = c.self.inside in
-    let runs : a.stopped ≡ None = ap (λ (v : Seen g.row.D.Denot). v.stopped) c.self.view_is ∙ running in
-    subst (λ (v : Seen g.row.D.Denot). HaveBatches g.D.Disk.face v.plan v.history v.disks) c.self.view_is
+    let runs : a.stopped ≡ None = ap (λ (v : Seen g.row.D.Denot g.row.J.Denot g.row.B.Denot). v.stopped) c.self.view_is ∙ running in
+    subst (λ (v : Seen g.row.D.Denot g.row.J.Denot g.row.B.Denot). HaveBatches g.D.Disk.face v.plan v.history v.disks) c.self.view_is
     (disks_hold g.D.Disk.face a.plan a.state (reverse a.rest.items) (c.self.invariant.state runs) c.self.invariant.seats)
 
 pub returns-clause-unfused : goal.returns-clause-unfused

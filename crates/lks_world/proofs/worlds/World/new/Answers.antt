@@ -1,10 +1,13 @@
-use Rattle.std.proofs.Common.{rules, ◌∙◌, ◌++◌, ap, sym, subst}
+use Rattle.std.proofs.Common.{rules, ◌∙◌, ◌++◌, ap, sym, subst, refl}
 use Rattle.std.specs.Prelude.{Some, None, reverse, map}
 use Rattle.std.proofs.lemmas.List.{reverse-reverse}
 use Rattle.lks_world.proofs.FuseLaws.{same_fuses, fresh_unfused}
+use Rattle.lks_watch.specs.declared.watches.Watch.{Watch}
+use Rattle.lks_world.proofs.Watched.{asked_first}
 use Rattle.lks_world.specs.Counts.{ServesHonest}
 use Rattle.lks_world.specs.Held.{AreFresh}
 use Rattle.lks_world.specs.Seats.{disks_at}
+use Rattle.lks_world.specs.States.{events_of}
 use Rattle.lks_world.proofs.worlds.World.new.Goals as goal
 
 pub begin-requires-clause-disks : goal.begin-requires-clause-disks
@@ -25,6 +28,7 @@ invariant_of-result g c =
       happened = made.state.happened;
       entries = made.state.entries;
       state = λ running. made.state;
+      heard = λ running. ap (λ (w : Watch g.row.J.Denot g.row.B.Denot). g.J.EffortJudge.heard w.judge) c.new.ensures ∙ c.requires.unasked ∙ asked_first c.args.plan (ap events_of made.nothing);
       seats = made.seats;
       unfused = same_fuses f disks (disks_at c.in-Ok.state.seats.items ++ reverse c.begin.new.disks.items) (made.fuses ∙ ap (map f.fused) back) (fresh_unfused f disks c.requires.fresh);
       room = made.room;
@@ -50,4 +54,6 @@ returns-clause-refused g c =
     let given = c.turn_round-in-Err.ensures.items in (
       search rules,
       same_fuses f disks _ (ap (map f.fused) given ∙ c.in-Err.ensures.fuses ∙ ap (map f.fused) back) (fresh_unfused f disks c.requires.fresh),
+      refl,
+      refl,
     )
