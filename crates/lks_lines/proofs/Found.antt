@@ -9,7 +9,7 @@ use Rattle.lks_base.specs.declared.plans.AuPlan.{AuPlan}
 use Rattle.lks_base.specs.declared.plans.Holding.{Holding}
 use Rattle.lks_base.specs.declared.plans.PeerPlan.{PeerPlan}
 use Rattle.lks_lines.specs.declared.list_lines.ListKind.{ListKind}
-use Rattle.lks_lines.specs.Numbers.{◌>>=◌}
+use Rattle.lks_words.specs.Numbers.{◌>>=◌}
 use Rattle.lks_lines.specs.ListLines.{lacks_list, with_list, is_list, listed, with_hash, hashing}
 use Rattle.lks_lines.specs.CopyLines.{may_hold, with_copies, copy_at, copies_with, holding, block_put, copy_damaged, damaged}
 

@@ -1,7 +1,6 @@
 -- What is read breaks no rule: the draft of a plan passes the check of plans.
-use Rattle.std.proofs.Common.{◌≡◌, ◌≤◌, ◌<◌, ◌+◌, ◌-◌, ◌*◌, ◌==◌, ◌∙◌, ap, sym, subst, ℕ, zero, suc, Bool, true, false, cond, not, ◌&&◌, ◌||◌, List, [], ◌∷◌, ◌++◌, length, get_or, set, map, Option, Some, None, is_none, refl, append_assoc, arith}
+use Rattle.std.proofs.Common.{◌≡◌, ◌≤◌, ◌<◌, ◌+◌, ◌-◌, ◌==◌, ◌∙◌, ap, sym, subst, ℕ, zero, suc, Bool, true, false, cond, not, ◌&&◌, ◌||◌, List, [], ◌∷◌, ◌++◌, length, get_or, set, map, Option, Some, None, is_none, refl, append_assoc, arith}
 use Rattle.std.specs.Prelude.{nat_le, nat_lt, slice_get}
-use Rattle.std.specs.Char.{is_ascii_digit}
 use Rattle.std.specs.List.{list_all, list_any, position}
 use Rattle.std.proofs.lemmas.Bool.{and_parts, eqb-true, le-leb, leb-true, ltb-true}
 use Rattle.std.proofs.lemmas.List.{append-nil, length-append, length-set, map-append}
@@ -23,27 +22,13 @@ use Rattle.lks_base.proofs.PlanLaws.{no_first, no_second, stands}
 use Rattle.lks_lines.specs.declared.list_lines.ListKind.{ListKind}
 use Rattle.lks_lines.specs.declared.list_lines.ListKind.TheVariants.{Refs, Friends}
 use Rattle.lks_lines.specs.declared.plan_lines.PlanDraft.{PlanDraft}
-use Rattle.lks_lines.specs.Numbers.{◌>>=◌, with_digit, digits_on, number_in}
-use Rattle.lks_lines.specs.Words.{id_in, index_in, each_in, block_in, hash_in, kind_in, seed_in, proof_in}
+use Rattle.lks_words.specs.Numbers.{◌>>=◌, number_in}
+use Rattle.lks_words.specs.Words.{id_in, index_in, each_in, block_in, hash_in, kind_in, seed_in, proof_in}
 use Rattle.lks_lines.specs.PlanLines.{are_good, au_in, may_add_au, aus_with, peer_in, begun, with_peers, may_add_peer, draft_with_peer}
 use Rattle.lks_lines.specs.ListLines.{lacks_list, with_list, is_list, listed, draft_with_list, with_hash, hashing, noted, draft_with_hash}
 use Rattle.lks_lines.specs.CopyLines.{may_hold, with_copies, content_in, with_more, copies_with, holding, draft_with_copy, block_put, copy_damaged, damaged, draft_with_damage}
-
--- ---- steps that found something
-
-pub bind_some : {A B : Type 0} (o : Option A) (f : A → Option B) (y : B) → (o >>= f) ≡ Some y → (x : A) × (o ≡ Some x) × (f x ≡ Some y)
-bind_some (Some x) f y e = (x, refl, e)
-bind_some None f y e = absurd cc
-
-pub if_some : {A : Type 0} (b : Bool) (o : Option A) (y : A) → cond b o None ≡ Some y → (b ≡ true) × (o ≡ Some y)
-if_some true o y e = (refl, e)
-if_some false o y e = absurd cc
-
-abbrev some : {A : Type 0} → A → Option A
-some x = Some x
-
-pub same_some : {A : Type 0} (x y : A) → some x ≡ some y → x ≡ y
-same_some x y e = cc
+use Rattle.lks_words.proofs.Decimals.{number_most}
+use Rattle.lks_words.proofs.Steps.{bind_some, if_some, some, same_some}
 
 no_fault : (o : Option PlanFault) → is_none o ≡ true → o ≡ None
 no_fault None e = refl
@@ -169,30 +154,6 @@ passes d p =
     rw (p.ready.bounded, p.ready.ordered, p.ready.turns, p.some_aus, p.ready.few_aus, p.ready.aus, p.some_peers, p.ready.few_peers, p.ready.peers, few) refl
 
 -- ---- AUs
-
-digit_most : (most n digit m : ℕ) → with_digit most n digit ≡ Some m → m ≤ most
-unfolding with_digit
-digit_most most n digit m e =
-    let a = if_some (is_ascii_digit digit && nat_le (n * 10 + (digit - 48)) most) (Some (n * 10 + (digit - 48))) m e in
-    let low = leb-true (n * 10 + (digit - 48)) most (and_parts (is_ascii_digit digit) (nat_le (n * 10 + (digit - 48)) most) a.0).1 in
-    subst (λ k. k ≤ most) (same_some (n * 10 + (digit - 48)) m a.1) low
-
-digits_most : (most n : ℕ) (digits : List ℕ) (m : ℕ) → n ≤ most → digits_on most n digits ≡ Some m → m ≤ most
-unfolding digits_on
-digits_most most n [] m low e = subst (λ k. k ≤ most) (same_some n m e) low
-digits_most most n (digit ∷ digits) m low e =
-    let a = bind_some (with_digit most n digit) (λ k. digits_on most k digits) m e in
-    digits_most most a.0 digits m (digit_most most n digit a.0 a.1) a.2
-
-pub number_most : (most : ℕ) (word : List ℕ) (m : ℕ) → number_in most word ≡ Some m → m ≤ most
-unfolding number_in
-number_most most [] m e = absurd cc
-number_most most (digit ∷ []) m e = digits_most most 0 (digit ∷ []) m (omega arith) e
-number_most most (digit ∷ next ∷ digits) m e = later (digit == 48) e
-  where
-    later : (b : Bool) → cond b None (digits_on most 0 (digit ∷ next ∷ digits)) ≡ Some m → m ≤ most
-    later true f = absurd cc
-    later false f = digits_most most 0 (digit ∷ next ∷ digits) m (omega arith) f
 
 abbrev au_of : ℕ → ℕ → AuPlan
 au_of id count = record { id = id; count = count }

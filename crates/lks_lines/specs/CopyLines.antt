@@ -8,8 +8,8 @@ use Rattle.lks_base.specs.declared.plans.Holding.{Holding}
 use Rattle.lks_base.specs.declared.plans.PeerPlan.{PeerPlan}
 use Rattle.lks_base.specs.Checking.{bytes_of_blocks, copy_fault}
 use Rattle.lks_lines.specs.declared.plan_lines.PlanDraft.{PlanDraft}
-use Rattle.lks_lines.specs.Numbers.{◌>>=◌}
-use Rattle.lks_lines.specs.Words.{id_in, index_in, block_in, blocks_in}
+use Rattle.lks_words.specs.Numbers.{◌>>=◌}
+use Rattle.lks_words.specs.Words.{id_in, index_in, block_in, blocks_in}
 use Rattle.lks_lines.specs.PlanLines.{with_peers}
 
 -- an honest peer of this number

@@ -7,8 +7,8 @@ use Rattle.lks_base.specs.Checking.{each, has_member, member_fault}
 use Rattle.lks_lines.specs.declared.list_lines.ListKind.{ListKind}
 use Rattle.lks_lines.specs.declared.list_lines.ListKind.TheVariants.{Refs, Friends}
 use Rattle.lks_lines.specs.declared.plan_lines.PlanDraft.{PlanDraft}
-use Rattle.lks_lines.specs.Numbers.{◌>>=◌}
-use Rattle.lks_lines.specs.Words.{each_in, id_in, hash_in}
+use Rattle.lks_words.specs.Numbers.{◌>>=◌}
+use Rattle.lks_words.specs.Words.{each_in, id_in, hash_in}
 use Rattle.lks_lines.specs.PlanLines.{with_peers}
 
 -- the reference list of a peer, or its friends

@@ -9,8 +9,8 @@ use Rattle.lks_base.specs.declared.plans.Plan.{Plan}
 use Rattle.lks_base.specs.declared.plans.Rules.{Rules}
 use Rattle.lks_base.specs.Checking.{is_within, are_bounded, are_ordered, has_au, has_peer, is_fit}
 use Rattle.lks_lines.specs.declared.plan_lines.PlanDraft.{PlanDraft}
-use Rattle.lks_lines.specs.Numbers.{◌>>=◌, number_in}
-use Rattle.lks_lines.specs.Words.{id_in, seed_in, proof_in, kind_in}
+use Rattle.lks_words.specs.Numbers.{◌>>=◌, number_in}
+use Rattle.lks_words.specs.Words.{id_in, seed_in, proof_in, kind_in}
 
 -- a name, a number of at most so much, and the words behind them
 unfoldable pub named : List ℕ → ℕ → List (List ℕ) → Option (ℕ × List (List ℕ))

@@ -4,16 +4,15 @@ ghost use Rattle.std.specs.Prelude.{◌≡◌, ◌==◌, map, length};
 ghost use Rattle.std.specs.List.{find, position};
 ghost use Rattle.std.specs.Option.{option_copied};
 ghost use Rattle.lks_base.specs.Checking.{bytes_of_blocks};
-ghost use Rattle.lks_lines.specs.Words.{Gives};
+ghost use Rattle.lks_words.specs.Words.{Gives};
 ghost use Rattle.lks_lines.specs.CopyLines.{may_hold, copy_at, content_in, with_more, copies_with, holding, draft_with_copy, block_put, copy_damaged, damaged, draft_with_damage};
 
 use crate::plan_lines::PlanDraft;
-use crate::stops::Stop;
-use crate::words::{block, blocks, id, index};
 use lks_base::{
     AuPlan, Blocks, Bytes, Holding, MOST_BLOCK_BYTES, MOST_COPY_BYTES, PeerPlan, Seq, check_copy,
     room_after_blocks,
 };
+use lks_words::{Stop, block, blocks, id, index};
 use std::alloc::Global;
 use std::mem;
 

@@ -1,16 +1,14 @@
 //! Lines that begin a plan: its rules, its AUs and its peers.
 
 ghost use Rattle.std.specs.Prelude.{◌≡◌, ◌≤◌, [], map, IfOk};
-ghost use Rattle.lks_lines.specs.Words.{Gives, Shows};
+ghost use Rattle.lks_words.specs.Words.{Gives, Shows};
 ghost use Rattle.lks_lines.specs.PlanLines.{named, are_good, numbers_in, rules_in, au_in, may_add_au, aus_with, peer_in, begun, with_peers, may_add_peer, draft_with_peer};
 
-use crate::numbers::number;
-use crate::stops::Stop;
-use crate::words::{count, id, kind, proof, seed};
 use lks_base::{
     AuPlan, HashKind, Ids, MOST_AUS, MOST_BLOCKS, MOST_EVENTS, MOST_PEERS, PeerPlan, Plan, Rules,
     Seq, are_bounded, are_ordered, has_au, has_peer, is_fit,
 };
+use lks_words::{Stop, count, id, kind, number, proof, seed};
 use std::alloc::Global;
 use std::mem;
 
@@ -28,9 +26,9 @@ pub struct PlanDraft {
 #[tactic(auto, unfolding(crate::specs::PlanLines::named))]
 fn named_number<'a, 'b>(
     name: &[u8],
-    most: u32,
+    most: u64,
     words: &'a [&'b [u8]],
-) -> Result<(u32, &'a [&'b [u8]]), Stop>
+) -> Result<(u64, &'a [&'b [u8]]), Stop>
     ensures value { Shows (λ x. (x.0, map (λ w. w.now) x.1.now)) result (named name.now most (map (λ w. w.now) words.now)) }
     ensures few { IfOk result (λ x. x.0 ≤ most) }
 {
@@ -56,9 +54,9 @@ fn rule_numbers(words: &[&[u8]]) -> Result<Rules, Stop>
     let (minority, words) = named_number(b"minority", 65_535, words)?;
     let (outer, words) = named_number(b"outer", 65_535, words)?;
     let (repairs, words) = named_number(b"repairs", 65_535, words)?;
-    let (pace, words) = named_number(b"pace", u32::MAX, words)?;
-    let (refractory, words) = named_number(b"refractory", u32::MAX, words)?;
-    let (overdue, words) = named_number(b"overdue", u32::MAX, words)?;
+    let (pace, words) = named_number(b"pace", 4_294_967_295, words)?;
+    let (refractory, words) = named_number(b"refractory", 4_294_967_295, words)?;
+    let (overdue, words) = named_number(b"overdue", 4_294_967_295, words)?;
     let (unknown_pct, words) = named_number(b"unknown", 255, words)?;
     let (debt_pct, words) = named_number(b"debt", 255, words)?;
     let (churn, words) = named_number(b"churn", 65_535, words)?;
@@ -71,9 +69,9 @@ fn rule_numbers(words: &[&[u8]]) -> Result<Rules, Stop>
         minority: minority as u16,
         outer: outer as u16,
         repairs: repairs as u16,
-        pace,
-        refractory,
-        overdue,
+        pace: pace as u32,
+        refractory: refractory as u32,
+        overdue: overdue as u32,
         unknown_pct: unknown_pct as u8,
         debt_pct: debt_pct as u8,
         churn: churn as u16,

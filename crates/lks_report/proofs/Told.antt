@@ -1,9 +1,10 @@
 -- The alarms of a history, and what its entries tell of them.
-use Rattle.std.proofs.Common.{◌≡◌, ◌+◌, ◌∙◌, ap, sym, ℕ, suc, true, false, List, [], ◌∷◌, ◌++◌, take, refl, arith}
-use Rattle.std.specs.Prelude.{Option, Some, None, ◌||◌, slice_get, sum_by}
+use Rattle.std.proofs.Common.{◌≡◌, ◌+◌, ◌∙◌, ap, sym, ℕ, suc, Bool, true, false, List, [], ◌∷◌, ◌++◌, take, refl, arith}
+use Rattle.std.specs.Prelude.{Option, Some, None, ◌||◌, cond, length, slice_get, sum_by, count_by}
 use Rattle.std.specs.List.{list_any, filter_map, cons_option, flat_map, enumerate_from}
 use Rattle.std.proofs.lemmas.Grind.{flat_map-append}
-use Rattle.std.proofs.lemmas.List.Sums.{sum_by-cons}
+use Rattle.std.proofs.lemmas.List.{length-append}
+use Rattle.std.proofs.lemmas.List.Sums.{sum_by-cons, sum_by-append}
 use Rattle.lks_alarm.specs.declared.alarms.Alarm.{Alarm}
 use Rattle.lks_base.specs.declared.entries.Entry.{Entry}
 use Rattle.lks_base.specs.declared.entries.Note.{Note}
@@ -23,27 +24,38 @@ use Rattle.lks_law.specs.Entries.{session_note_of, note_with, note_of, notes_at,
 use Rattle.lks_law.specs.World.{World, Deed, Standing, start, got, message_in, delivered, own_deed_of, deed_of, peer_at, reaction_at, after_step, happens}
 use Rattle.lks_report.specs.Alarms.{is_alarming_end, is_alarm, is_alarming, is_alarmed, has_any}
 use Rattle.lks_report.specs.Scans.{step_actor, actor, ticks_in, tick_at}
+use Rattle.lks_report.specs.Summary.{all_notes}
 use Rattle.lks_report.specs.Text.{alarm_text, closing_alarm, alarm_line, entry_alarms, alarm_lines}
 
 -- the notes tell of these alarms, raised by this peer at this tick
 record Tells (peer tick : ℕ) (notes : List Note) (raised : List Alarm) : Type 0 where
   any : list_any is_alarm notes ≡ has_any raised
+  count : count_by is_alarm notes ≡ length raised
   lines : flat_map (alarm_line peer tick) notes ≡ flat_map alarm_text raised
 
 silent : {peer tick : ℕ} → Tells peer tick [] []
-silent = record { any = refl; lines = refl }
+silent = record { any = refl; count = refl; lines = refl }
+
+-- one note more
+count_more : (note : Note) (b : Bool) (notes : List Note) (n : ℕ) → is_alarm note ≡ b → count_by is_alarm notes ≡ n → count_by is_alarm (note ∷ notes) ≡ cond b 1 0 + n
+count_more note b notes n is counted =
+    sum_by-cons (λ x. cond (is_alarm x) 1 0) note notes
+    ∙ ap (λ (c : Bool). cond c 1 0 + count_by is_alarm notes) is
+    ∙ ap (λ (k : ℕ). cond b 1 0 + k) counted
 
 module _ (peer tick : ℕ) (journal : List Record) where
   alarm_told : (note : Note) (alarm : Alarm) (notes : List Note) (raised : List Alarm) → is_alarm note ≡ true → alarm_line peer tick note ≡ alarm_text alarm
       → Tells peer tick notes raised → Tells peer tick (note ∷ notes) (alarm ∷ raised)
   alarm_told note alarm notes raised is line told = record {
     any = ap (λ b. b || list_any is_alarm notes) is;
+    count = count_more note true notes (length raised) is told.count ∙ omega arith;
     lines = ap (λ (bs : List ℕ). bs ++ flat_map (alarm_line peer tick) notes) line ∙ ap (λ (bs : List ℕ). alarm_text alarm ++ bs) told.lines;
   }
 
   note_told : (note : Note) (notes : List Note) (raised : List Alarm) → is_alarm note ≡ false → alarm_line peer tick note ≡ [] → Tells peer tick notes raised → Tells peer tick (note ∷ notes) raised
   note_told note notes raised is line told = record {
     any = ap (λ b. b || list_any is_alarm notes) is ∙ told.any;
+    count = count_more note false notes (length raised) is told.count ∙ omega arith;
     lines = ap (λ (bs : List ℕ). bs ++ flat_map (alarm_line peer tick) notes) line ∙ told.lines;
   }
 
@@ -145,6 +157,21 @@ told_from w (e ∷ es) =
 pub all_told : (plan : Plan) (history : List Event) → is_alarmed (entries plan history) ≡ has_any (alarms plan history)
 unfolding is_alarmed entries alarms
 all_told plan history = told_from (start plan) history
+
+counted_from : (w : World) (history : List Event) → count_by is_alarm (all_notes (entries_from w history)) ≡ length (alarms_from w history)
+unfolding all_notes
+counted_from w [] = refl
+counted_from w (e ∷ es) =
+    let rest = all_notes (entries_from (happens w e) es) in
+    let parts = sum_by-append (λ x. cond (is_alarm x) 1 0) (entry_of w e).notes rest in
+    let first = (event_told w e).count in
+    let later = counted_from (happens w e) es in
+    let all = length-append (alarms_by w e) (alarms_from (happens w e) es) in
+    parts ∙ omega (arith, first, later, all)
+
+pub all_counted : (plan : Plan) (history : List Event) → count_by is_alarm (all_notes (entries plan history)) ≡ length (alarms plan history)
+unfolding entries alarms
+all_counted plan history = counted_from (start plan) history
 
 -- the alarms of entries that begin at this tick
 abbrev lines_from : ℕ → List Entry → List ℕ

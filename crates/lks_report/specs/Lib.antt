@@ -1,4 +1,5 @@
 pub mod Alarms
 pub mod Scans
+pub mod Summary
 pub mod Text
 pub mod Words

@@ -174,7 +174,7 @@ fn is_alarming_end(outcome: Outcome) -> bool
 }
 
 #[tactic(auto, unfolding(crate::specs::Alarms::is_alarm))]
-fn is_alarm(note: &Note) -> bool
+pub(crate) fn is_alarm(note: &Note) -> bool
     ensures { result ≡ is_alarm note.now }
 {
     match *note {

@@ -1,6 +1,6 @@
 //! Whole reports, byte for byte.
 use crate::tests::What::{Crash, Cut, Forge, Lose, Step, Tick};
-use crate::{has_alarm, report};
+use crate::{has_alarm, report, summary};
 use lks_base::Judged::{Accepted, NotAsked, Refused};
 use lks_base::{
     AuPlan, Blocks, Bytes, Entry, Event, HashKind, Holding, Ids, Note, Outcome, PeerPlan, PeerStep,
@@ -506,6 +506,98 @@ const EACH_ROWS: [Row; 29] = [
     ),
 ];
 
+const REPLACED: Note = Note::Replaced {
+    number: 1,
+    au: 1,
+    block: 5,
+    length: 512,
+};
+
+const DRILL_ROWS: [Row; 7] = [
+    (
+        Step(PeerStep::OpenPoll { peer: 1, au: 1 }),
+        0,
+        0,
+        &[Note::Opened { number: 1, au: 1 }],
+        8,
+    ),
+    (
+        Step(PeerStep::OpenPoll { peer: 1, au: 2 }),
+        0,
+        0,
+        &[Note::Opened { number: 2, au: 2 }],
+        8,
+    ),
+    (
+        Step(PeerStep::OpenPoll { peer: 2, au: 1 }),
+        0,
+        0,
+        &[Note::Opened { number: 1, au: 1 }],
+        8,
+    ),
+    (
+        Step(PeerStep::OpenPoll { peer: 2, au: 2 }),
+        0,
+        0,
+        &[Note::Opened { number: 2, au: 2 }],
+        8,
+    ),
+    (
+        Step(PeerStep::Tally { peer: 1, number: 1 }),
+        0,
+        0,
+        &[
+            REPLACED,
+            REPLACED,
+            REPLACED,
+            Note::Closed {
+                number: 1,
+                outcome: Outcome::Agreed,
+            },
+        ],
+        8,
+    ),
+    (
+        Step(PeerStep::Tally { peer: 1, number: 2 }),
+        0,
+        0,
+        &[Note::Closed {
+            number: 2,
+            outcome: Outcome::Agreed,
+        }],
+        8,
+    ),
+    (
+        Step(PeerStep::Tally { peer: 2, number: 1 }),
+        0,
+        0,
+        &[Note::Closed {
+            number: 1,
+            outcome: Outcome::Split { block: 3 },
+        }],
+        8,
+    ),
+];
+
+/// Seeds and histories of drills, and their lines.
+const DRILLS: [(u64, &[Row], &str); 3] = [
+    (
+        7,
+        &[],
+        "drill 7 events 0 polls 0 agreed 0 replaced 0 alarms 0\n",
+    ),
+    (
+        0,
+        &DRILL_ROWS,
+        "drill 0 events 7 polls 4 agreed 2 replaced 3 alarms 1\n",
+    ),
+    (
+        u64::MAX,
+        &EACH_ROWS,
+        "drill 18446744073709551615 events 29 polls 4 agreed 1 replaced 1 alarms 3\n",
+    ),
+];
+
 const RULES: Rules = Rules {
     inner: 4,
     quorum: 3,
@@ -621,6 +713,18 @@ fn a_failing_sink(rt: HostRuntime) -> Result<(), Fail> {
         assert_eq!(rt; answer, Err(WriteStop::Failed));
         assert_eq!(rt; sink.bytes().len(), taken);
         assert!(rt; AGREED.as_bytes().starts_with(sink.bytes()));
+    }
+    Ok(())
+}
+
+#[test]
+fn the_line_of_a_drill(rt: HostRuntime) -> Result<(), Fail> {
+    let alloc = rt.alloc();
+    for (seed, rows, line) in DRILLS {
+        let history = entries(alloc, rows)?;
+        let mut sink = MemSink::new(alloc, Vec::new(alloc));
+        assert_eq!(rt; summary(alloc, seed, &history, &mut sink), Ok(()));
+        assert_eq!(rt; sink.bytes(), line.as_bytes());
     }
     Ok(())
 }

@@ -5,7 +5,7 @@ use Rattle.std.proofs.lemmas.Bool.{ltb-true, ltb-false}
 use Rattle.std.proofs.lemmas.List.Splits.{slice_split_first, slice_split_none}
 use Rattle.std.proofs.lemmas.List.Sums.{fails_before_first}
 use Rattle.lks_script.specs.declared.drafts.Draft.{Draft}
-use Rattle.lks_lines.specs.Words.{parts}
+use Rattle.lks_words.specs.Words.{parts}
 use Rattle.lks_script.specs.Grammar.{with_line, line_number, end_in, lines_in}
 
 -- the place of the first element that passes

@@ -19,13 +19,15 @@ use Rattle.lks_lines.specs.declared.list_lines.ListKind.TheVariants.{Refs, Frien
 use Rattle.lks_lines.specs.declared.plan_lines.PlanDraft.{PlanDraft}
 use Rattle.lks_script.specs.declared.steps.Script.{Script}
 use Rattle.lks_script.specs.declared.steps.Step.{Step}
-use Rattle.lks_lines.specs.Numbers.{number_in}
-use Rattle.lks_lines.specs.Words.{parts}
+use Rattle.lks_words.specs.Numbers.{number_in}
+use Rattle.lks_words.specs.Words.{parts}
 use Rattle.lks_script.specs.StepRules.{is_step_of, are_steps_of, has_power_for}
 use Rattle.lks_lines.specs.PlanLines.{numbers_in, rules_in, are_good, aus_with, begun, draft_with_peer}
 use Rattle.lks_lines.specs.ListLines.{draft_with_list, draft_with_hash}
 use Rattle.lks_lines.specs.CopyLines.{draft_with_copy, draft_with_damage}
-use Rattle.lks_lines.proofs.Passing.{bind_some, if_some, same_some, number_most, Ready, Peopled, AreAus, passes, begun_ready, aus_good, peer_good, list_good, hash_good, copy_good, damage_good}
+use Rattle.lks_words.proofs.Decimals.{number_most}
+use Rattle.lks_words.proofs.Steps.{bind_some, if_some, same_some}
+use Rattle.lks_lines.proofs.Passing.{Ready, Peopled, AreAus, passes, begun_ready, aus_good, peer_good, list_good, hash_good, copy_good, damage_good}
 use Rattle.lks_script.specs.StepLines.{step_in, steps_with}
 use Rattle.lks_script.specs.Grammar.{title_line, rules_line, au_line, turns_line, peer_line, ruled_line, step_line, later_line, declares_peer, planned_line, stepped_line, line_in, means_nothing, with_line, ended, line_number, end_in, lines_in, script_of, Answers}
 

@@ -17,8 +17,8 @@ use Rattle.lks_lines.specs.declared.list_lines.ListKind.TheVariants.{Refs, Frien
 use Rattle.lks_lines.specs.declared.plan_lines.PlanDraft.{PlanDraft}
 use Rattle.lks_script.specs.declared.steps.Script.{Script}
 use Rattle.lks_script.specs.declared.steps.Step.{Step}
-use Rattle.lks_lines.specs.Numbers.{◌>>=◌, number_in}
-use Rattle.lks_lines.specs.Words.{parts}
+use Rattle.lks_words.specs.Numbers.{◌>>=◌, number_in}
+use Rattle.lks_words.specs.Words.{parts}
 use Rattle.lks_lines.specs.PlanLines.{rules_in, aus_with, begun, draft_with_peer}
 use Rattle.lks_lines.specs.ListLines.{draft_with_list, draft_with_hash}
 use Rattle.lks_lines.specs.CopyLines.{draft_with_copy, draft_with_damage}

@@ -1,7 +1,7 @@
 //! How far a script is read, and what a line makes of it.
 
 ghost use Rattle.std.specs.Prelude.{◌≡◌, map};
-ghost use Rattle.lks_lines.specs.Words.{Gives};
+ghost use Rattle.lks_words.specs.Words.{Gives};
 ghost use Rattle.lks_script.specs.declared.drafts.Draft.TheVariants as drafts;
 ghost use Rattle.lks_script.specs.declared.drafts.Part.TheVariants as parts;
 ghost use Rattle.lks_script.specs.Grammar.{title_line, rules_line, turns_line, au_line, peer_line, ruled_line, in_peers, step_line, later_line, declares_peer, planned_line, stepped_line, line_in, ended};
@@ -10,9 +10,9 @@ use crate::step_lines::add_step;
 use crate::steps::{Script, Step};
 use lks_base::{AuPlan, MOST_EVENTS, Plan, Rules, Seq};
 use lks_lines::{
-    ListKind, PlanDraft, Stop, add_au, add_copy, add_damage, add_hash, add_list, add_peer, begin,
-    number, rules,
+    ListKind, PlanDraft, add_au, add_copy, add_damage, add_hash, add_list, add_peer, begin, rules,
 };
+use lks_words::{Stop, number};
 use std::alloc::Global;
 
 /// What the lines of a plan have come to.
@@ -93,10 +93,10 @@ fn read_turns(
 {
     match (turns, aus.as_slice(), more) {
         (None, [], [word]) => {
-            let turns = number(u32::from(MOST_EVENTS), word).ok_or(Stop::Bad)?;
+            let turns = number(u64::from(MOST_EVENTS), word).ok_or(Stop::Bad)?;
             Ok(Draft::Ruled {
                 rules,
-                turns: Some(turns),
+                turns: Some(turns as u32),
                 aus: Seq::from_vec(Vec::new(alloc)),
             })
         }

@@ -4,13 +4,13 @@ ghost use Rattle.std.specs.Prelude.{◌≡◌, ◌==◌, ◌<◌, ◌∷◌, [],
 ghost use Rattle.std.specs.List.{position};
 ghost use Rattle.lks_base.specs.Checking.{plan_fault};
 ghost use Rattle.lks_script.specs.StepRules.{are_steps_of};
-ghost use Rattle.lks_lines.specs.Words.{Gives, parts};
+ghost use Rattle.lks_words.specs.Words.{Gives, parts};
 ghost use Rattle.lks_script.specs.Grammar.{are_ascii, means_nothing, with_line, line_number, end_in, script_of, Answers};
 
 use crate::drafts::{Draft, into_script, read_line};
 use crate::faults::ScriptFault;
 use crate::steps::Script;
-use lks_lines::{Stop, split};
+use lks_words::{Stop, split};
 use std::alloc::Global;
 
 fn line_end(bytes: &[u8]) -> Option<usize>

@@ -1,12 +1,12 @@
 //! Lines that say what a corrupt peer sends, one function for each message.
 
 ghost use Rattle.std.specs.Prelude.{◌≡◌, map};
-ghost use Rattle.lks_lines.specs.Words.{Gives};
+ghost use Rattle.lks_words.specs.Words.{Gives};
 ghost use Rattle.lks_script.specs.StepLines.{invitation_said, proof_said, request_said, receipt_said, challenge_said, nominees_said, vote_said, repair_said, said_in, say_in};
 
 use crate::steps::Step;
 use lks_base::PeerId;
-use lks_lines::{Stop, answer, block, blocks, id, ids, index, poll};
+use lks_words::{Stop, answer, block, blocks, id, ids, index, poll};
 use std::alloc::Global;
 
 #[tactic(auto, unfolding(crate::specs::StepLines::invitation_said))]

@@ -1,15 +1,14 @@
 //! Lines that say a step.
 
 ghost use Rattle.std.specs.Prelude.{◌≡◌, map};
-ghost use Rattle.lks_lines.specs.Numbers.{number_in};
-ghost use Rattle.lks_lines.specs.Words.{Gives};
+ghost use Rattle.lks_words.specs.Words.{Gives};
 ghost use Rattle.lks_script.specs.StepLines.{open_in, own_poll_in, poll_step_in, in_own_poll, check_in, session_in, work_in, expire_in, tune_in, own_step_in, peer_step_in, tick_in, next_in, lose_in, again_in, settle_in, finish_in, forge_in, crash_in, cut_next_in, cut_again_in, cut_own_in, cut_step_in, cut_in, step_in, steps_with};
 
 use crate::say_lines::say;
 use crate::step_rules::{power_for, step_of};
 use crate::steps::{CutStep, Step};
 use lks_base::{PeerId, PeerStep, Plan, PollName, Seq};
-use lks_lines::{Stop, bytes, count, id, large, number, poll};
+use lks_words::{Stop, bytes, count, id, large, poll, small};
 use std::alloc::Global;
 
 #[tactic(auto, unfolding(crate::specs::StepLines::open_in))]
@@ -284,15 +283,6 @@ fn cut_step(key: &[u8], more: &[&[u8]]) -> Result<CutStep, Stop>
         cut_again(more)
     } else {
         cut_own(key, more)
-    }
-}
-
-fn small(word: &[u8]) -> Result<u8, Stop>
-    ensures { Gives result (number_in 255 word.now) }
-{
-    match number(255, word) {
-        Some(n) => Ok(n as u8),
-        None => Err(Stop::Bad),
     }
 }
 

@@ -2,7 +2,7 @@
 
 use super::*;
 use lks_base::{HashKind, PeerStep, Plan, PollName};
-use lks_lines::{number, split};
+use lks_words::{large, split};
 use std::alloc::Global;
 use std::process::Abort;
 use std::test::*;
@@ -55,7 +55,7 @@ fn read_row(row: &[u8]) -> Option<(u32, &[u8])> {
     let at = row.iter().position(|b| *b == b' ')?;
     let (line, text) = row.split_at(at);
     let (_, text) = text.split_at(1);
-    Some((number(u32::MAX, line)?, text))
+    Some((large(line).ok()?, text))
 }
 
 /// A script of a plan of four peers, and then this text.

@@ -1,18 +1,19 @@
 -- What follows from what each answer says.
-use Rattle.std.proofs.Common.{◌≡◌, ◌≤◌, ◌∙◌, ap, sym, ℕ, List, length, refl, arith}
-use Rattle.std.specs.Prelude.{Option, Some, Ok}
+use Rattle.std.proofs.Common.{◌≡◌, ◌∙◌, ap, sym, ℕ, List, refl, arith}
+use Rattle.std.specs.Prelude.{Option, Some, None, Ok}
 use Rattle.lks_base.specs.declared.plans.PeerPlan.{PeerPlan}
 use Rattle.lks_disk.specs.Face.{Face}
+use Rattle.lks_drill.specs.Drill.{drill_of}
 use Rattle.lks_script.specs.Grammar.{script_of}
-use Rattle.lks_script.specs.declared.steps.Script.{Script}
 use Rattle.lks_world.proofs.ServingLaws.{place_among}
 use Rattle.lks_world.specs.Counts.{ServesHonest}
 use Rattle.lks_world.specs.declared.faults.WorldFault.TheVariants.{Disk}
 use Rattle.lks_watch.specs.Watching.{Ears}
 use Rattle.lockss.specs.Playing.{Devices}
 use Rattle.lockss.specs.Promise.{Promise}
-use Rattle.lockss.specs.Replay.{Replays, NoneRose, Completes}
-use Rattle.lockss.specs.declared.replays.TheConstants.{MOST_BYTES}
+use Rattle.lockss.specs.Runs.{Does, Drills, HasWork, Replays, NoneRose, Completes}
+use Rattle.lockss.specs.declared.commands.Command.{Command}
+use Rattle.lockss.specs.declared.commands.Command.TheVariants.{Replay, Drill}
 use Rattle.lockss.specs.declared.statuses.Status.{Status}
 use Rattle.lockss.specs.declared.statuses.Status.TheVariants.{Done, Alarmed, Usage, BadScript, ReadFault, WriteFault, DiskFault, NoMemory, TooLong}
 
@@ -23,31 +24,61 @@ blames_none f peers disks disks_after peer served none =
     let at = place_among peers disks disks_after risen.place risen.disk risen.now risen.there risen.stays in
     none at.place risen.disk risen.now at.before at.after risen.rose
 
-module _ {D K J B : Type 0} (f : Face D) (e : Ears J B) (taken : K → Option (List ℕ)) (left left_after : Option (List ℕ)) (before after : Devices D K J B) where
-  -- every run whose report was written was a safe one
-  pub promised : (answer : Status) → Replays f e taken left left_after before after answer → Promise f after.disks answer
-  promised Done says = (says.plays.script.plan, says.plays.played.history, says.plays.played.safe)
-  promised Alarmed says = (says.plays.script.plan, says.plays.played.history, says.plays.played.safe)
-  promised WriteFault says = (says.plays.script.plan, says.plays.played.history, says.plays.played.safe)
-  promised Usage says = tt
-  promised (BadScript line) says = tt
-  promised ReadFault says = tt
-  promised (DiskFault peer) says = tt
-  promised NoMemory says = tt
-  promised TooLong says = tt
+module _ {D K J B : Type 0} (f : Face D) (e : Ears J B) (taken : K → Option (List ℕ)) (before after : Devices D K J B) where
+  -- every run of which all was told, or less, was a safe one
 
-  -- where no fault is counted, a script that isn't too long is played
-  module _ (bytes : List ℕ) (script : Script) (tells : left ≡ Some bytes) (few : length bytes ≤ MOST_BYTES) (reads : script_of bytes ≡ Ok script) where
-    pub completes : (answer : Status) → Replays f e taken left left_after before after answer → (answer ≡ ReadFault → ⊥) → (answer ≡ WriteFault → ⊥) → NoneRose f before.disks after.disks → Completes answer
-    completes Done says no_read no_write none = tt
-    completes Alarmed says no_read no_write none = tt
-    completes NoMemory says no_read no_write none = tt
-    completes Usage says no_read no_write none = says
-    completes (BadScript line) says no_read no_write none =
-        let same = (says.are_read.all bytes tells).0 in
-        let bad = sym reads ∙ ap script_of same ∙ says.plays.0 in
-        absurd cc
-    completes ReadFault says no_read no_write none = absurd (no_read refl)
-    completes WriteFault says no_read no_write none = absurd (no_write refl)
-    completes (DiskFault peer) says no_read no_write none = absurd (blames_none f says.plays.script.plan.peers before.disks after.disks peer says.plays.served none)
-    completes TooLong says no_read no_write none = let many = says.0 bytes tells in absurd (omega (arith, many))
+  pub replay_promised : (left left_after : Option (List ℕ)) (answer : Status) → Replays f e taken left left_after before after answer → Promise f after.disks answer
+  replay_promised left left_after Done says = (says.plays.script.plan, says.plays.played.history, says.plays.played.safe)
+  replay_promised left left_after Alarmed says = (says.plays.script.plan, says.plays.played.history, says.plays.played.safe)
+  replay_promised left left_after WriteFault says = (says.plays.script.plan, says.plays.played.history, says.plays.played.safe)
+  replay_promised left left_after Usage says = tt
+  replay_promised left left_after (BadScript line) says = tt
+  replay_promised left left_after ReadFault says = tt
+  replay_promised left left_after (DiskFault peer) says = tt
+  replay_promised left left_after NoMemory says = tt
+  replay_promised left left_after TooLong says = tt
+
+  pub drill_promised : (seed : ℕ) (answer : Status) → Drills f e taken seed before after answer → Promise f after.disks answer
+  drill_promised seed Done says = ((drill_of seed).plan, says.played.history, says.played.safe)
+  drill_promised seed Alarmed says = ((drill_of seed).plan, says.played.history, says.played.safe)
+  drill_promised seed WriteFault says = ((drill_of seed).plan, says.played.history, says.played.safe)
+  drill_promised seed Usage says = tt
+  drill_promised seed (BadScript line) says = tt
+  drill_promised seed ReadFault says = tt
+  drill_promised seed (DiskFault peer) says = tt
+  drill_promised seed NoMemory says = tt
+  drill_promised seed TooLong says = tt
+
+  -- where no fault is counted, a script that isn't too long is played, and so is a drill
+
+  replay_completes : (left left_after : Option (List ℕ)) → HasWork (Some Replay) left → (answer : Status) → Replays f e taken left left_after before after answer → (answer ≡ ReadFault → ⊥) → (answer ≡ WriteFault → ⊥)
+      → NoneRose f before.disks after.disks → Completes answer
+  replay_completes left left_after work Done says no_read no_write none = tt
+  replay_completes left left_after work Alarmed says no_read no_write none = tt
+  replay_completes left left_after work NoMemory says no_read no_write none = tt
+  replay_completes left left_after work Usage says no_read no_write none = says
+  replay_completes left left_after work (BadScript line) says no_read no_write none =
+      let same = (says.are_read.all work.0 work.2).0 in
+      let bad = sym work.4 ∙ ap script_of same ∙ says.plays.0 in
+      absurd cc
+  replay_completes left left_after work ReadFault says no_read no_write none = absurd (no_read refl)
+  replay_completes left left_after work WriteFault says no_read no_write none = absurd (no_write refl)
+  replay_completes left left_after work (DiskFault peer) says no_read no_write none = absurd (blames_none f says.plays.script.plan.peers before.disks after.disks peer says.plays.served none)
+  replay_completes left left_after work TooLong says no_read no_write none = let many = says.0 work.0 work.2 in let few = work.3 in absurd (omega (arith, many, few))
+
+  drill_completes : (seed : ℕ) (answer : Status) → Drills f e taken seed before after answer → (answer ≡ WriteFault → ⊥) → NoneRose f before.disks after.disks → Completes answer
+  drill_completes seed Done says no_write none = tt
+  drill_completes seed Alarmed says no_write none = tt
+  drill_completes seed NoMemory says no_write none = tt
+  drill_completes seed Usage says no_write none = says
+  drill_completes seed (BadScript line) says no_write none = says
+  drill_completes seed ReadFault says no_write none = says
+  drill_completes seed WriteFault says no_write none = absurd (no_write refl)
+  drill_completes seed (DiskFault peer) says no_write none = absurd (blames_none f (drill_of seed).plan.peers before.disks after.disks peer says.served none)
+  drill_completes seed TooLong says no_write none = says
+
+  pub completes : {S : Type 0} (left : S → Option (List ℕ)) (source source_after : S) (o : Option Command) → HasWork o (left source) → (answer : Status) → Does f e taken left o source source_after before after answer
+      → (answer ≡ ReadFault → ⊥) → (answer ≡ WriteFault → ⊥) → NoneRose f before.disks after.disks → Completes answer
+  completes left source source_after None work answer does no_read no_write none = absurd work
+  completes left source source_after (Some Replay) work answer does no_read no_write none = replay_completes (left source) (left source_after) work answer does no_read no_write none
+  completes left source source_after (Some (Drill seed)) work answer does no_read no_write none = drill_completes seed answer does.1 no_write none

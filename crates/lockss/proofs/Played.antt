@@ -20,7 +20,8 @@ use Rattle.lks_world.specs.Counts.{ServesHonest}
 use Rattle.lks_world.specs.Follows.{Follows}
 use Rattle.lks_world.specs.Held.{HaveBatches}
 use Rattle.lks_world.specs.Worlds.{Begins, Seen}
-use Rattle.lockss.specs.Playing.{AreGiven, Devices, HaveWatched, IsSilent, TellsReport, Tells, fault_told, IsPlayed, PlaysIn, Plays, IsServed}
+use Rattle.lockss.specs.Playing.{AreGiven, Devices, HaveWatched, IsSilent, TellsOf, Tells, fault_told, IsPlayed, PlaysIn, Plays, IsServed}
+use Rattle.lockss.specs.declared.playing.Tale.{Tale}
 use Rattle.lockss.specs.declared.statuses.Status.{Status}
 use Rattle.lockss.specs.declared.statuses.Status.TheVariants.{Done, Alarmed, Usage, BadScript, ReadFault, WriteFault, DiskFault, NoMemory, TooLong}
 
@@ -43,7 +44,7 @@ silent_left rung limit (b ∷ bs) silent =
     ∙ sym (ap (λ t. cond t (first ∷ rest) rest) (lt-ltb 0 (limit b) here.1))
 
 -- the world began with the script's plan and no events, and did its steps
-module _ {D K J B : Type 0} (f : Face D) (e : Ears J B) (taken : K → Option (List ℕ)) (s : Script) (before after : Devices D K J B) (first now : Seen D J B) (steps : List Step) (asked : J) (hung : List B)
+module _ {D K J B : Type 0} (f : Face D) (e : Ears J B) (taken : K → Option (List ℕ)) (tale : Tale) (s : Script) (before after : Devices D K J B) (first now : Seen D J B) (steps : List Step) (asked : J) (hung : List B)
     (good : plan_fault s.plan ≡ None) (given : AreGiven f e before) (asked_is : before.judge ≡ Some asked) (hung_is : hung ≡ before.bells) (begins : Begins s.plan asked hung first) (same : steps ≡ s.steps)
     (kept : now.plan ≡ first.plan) (disks_back : after.disks ≡ now.disks) (judge_back : after.judge ≡ Some now.judge) (bells_back : after.bells ≡ now.bells)
     (holds : now.stopped ≡ None → HaveBatches f now.plan now.history now.disks) where
@@ -58,7 +59,7 @@ module _ {D K J B : Type 0} (f : Face D) (e : Ears J B) (taken : K → Option (L
       ap (seen e.rung e.limit) (begins.bells ∙ hung_is) ∙ silent_left e.rung e.limit before.bells given.silent
       ∙ ap (λ (raised : List Alarm). left_of raised (map e.limit before.bells)) (no_alarms first.plan ∙ ap (alarms first.plan) (sym begins.history))
 
-  watched_with : (answer : Status) (told told_after : Option (List ℕ)) → IsPlayed e steps first now told told_after answer → HaveWatched e s.plan now.history before after
+  watched_with : (answer : Status) (told told_after : Option (List ℕ)) → IsPlayed e tale steps first now told told_after answer → HaveWatched e s.plan now.history before after
   watched_with answer told told_after played =
       let w = played.watches in
       let limits = map e.limit before.bells in
@@ -72,7 +73,7 @@ module _ {D K J B : Type 0} (f : Face D) (e : Ears J B) (taken : K → Option (L
         rung = ap (seen e.rung e.limit) bells_back ∙ subst (λ p. seen e.rung e.limit now.bells ≡ left_of (alarms p now.history) limits) begins.plan (w.bells limits rung_first);
       }
 
-  told_with : (answer : Status) → IsPlayed e steps first now (taken before.sink) (taken after.sink) answer → Tells f e taken s before after answer
+  told_with : (answer : Status) → IsPlayed e tale steps first now (taken before.sink) (taken after.sink) answer → Tells f e taken tale s before after answer
   unfolding watched_with
   told_with answer played =
       let verdict = e.verdict first.judge in
@@ -92,10 +93,10 @@ module _ {D K J B : Type 0} (f : Face D) (e : Ears J B) (taken : K → Option (L
               subst (λ p. HaveBatches f p now.history after.disks) (kept ∙ begins.plan)
               (subst (HaveBatches f now.plan now.history) (sym disks_back) (holds played.running));
         };
-        report = subst (λ p. TellsReport p now.history (taken before.sink) (taken after.sink) answer) begins.plan played.report;
+        told = subst (λ p. TellsOf tale p now.history (taken before.sink) (taken after.sink) answer) begins.plan played.told;
       }
 
-  pub played_as : (answer : Status) → PlaysIn e taken steps first now before.sink after.sink answer → Plays f e taken s before after answer
+  pub played_as : (answer : Status) → PlaysIn e taken tale steps first now before.sink after.sink answer → Plays f e taken tale s before after answer
   played_as Done played = told_with Done played
   played_as Alarmed played = told_with Alarmed played
   played_as WriteFault played = told_with WriteFault played

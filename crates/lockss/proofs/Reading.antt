@@ -6,8 +6,8 @@ use Rattle.lks_disk.specs.Face.{Face}
 use Rattle.lks_outside.specs.Streams.{ReadEnds}
 use Rattle.lks_watch.specs.Watching.{Ears}
 use Rattle.lockss.specs.Playing.{Devices}
-use Rattle.lockss.specs.Replay.{AreRead, PlaysBytes, Replays}
-use Rattle.lockss.specs.declared.replays.TheConstants.{MOST_BYTES}
+use Rattle.lockss.specs.Runs.{AreRead, PlaysBytes, Replays}
+use Rattle.lockss.specs.declared.runs.TheConstants.{MOST_BYTES}
 use Rattle.lockss.specs.declared.statuses.Status.{Status}
 use Rattle.lockss.specs.declared.statuses.Status.TheVariants.{Done, Alarmed, Usage, BadScript, ReadFault, WriteFault, DiskFault, NoMemory, TooLong}
 

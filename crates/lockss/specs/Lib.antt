@@ -1,4 +1,5 @@
 pub mod Codes
+pub mod Commands
 pub mod Playing
 pub mod Promise
-pub mod Replay
+pub mod Runs

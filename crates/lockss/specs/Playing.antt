@@ -2,6 +2,7 @@
 use Rattle.std.specs.Prelude.{◌≡◌, ◌≤◌, ◌<◌, ◌⊎◌, ℕ, true, false, List, [], ◌++◌, length, map, All, Option, Some, None}
 use Rattle.lks_alarm.specs.Bells.{left_of, seen}
 use Rattle.lks_alarm.specs.declared.alarms.Alarm.{Alarm}
+use Rattle.lks_base.specs.declared.entries.Entry.{Entry}
 use Rattle.lks_base.specs.declared.events.Event.{Event}
 use Rattle.lks_base.specs.declared.limits.TheConstants.{MOST_PEERS}
 use Rattle.lks_base.specs.declared.plans.Plan.{Plan}
@@ -12,6 +13,7 @@ use Rattle.lks_law.specs.Histories.{IsHistory}
 use Rattle.lks_law.specs.Questions.{questions}
 use Rattle.lks_outside.specs.Streams.{AddsFront}
 use Rattle.lks_report.specs.Alarms.{has_any}
+use Rattle.lks_report.specs.Summary.{summary_text}
 use Rattle.lks_report.specs.Text.{text_of}
 use Rattle.lks_script.specs.declared.steps.Script.{Script}
 use Rattle.lks_script.specs.declared.steps.Step.{Step}
@@ -23,6 +25,8 @@ use Rattle.lks_world.specs.Worlds.{Seen}
 use Rattle.lks_world.specs.declared.faults.WorldFault.{WorldFault}
 use Rattle.lks_world.specs.declared.faults.WorldFault.TheVariants.{Disk, Memory}
 use Rattle.lockss.specs.Promise.{IsSafeRun}
+use Rattle.lockss.specs.declared.playing.Tale.{Tale}
+use Rattle.lockss.specs.declared.playing.Tale.TheVariants.{Report, Summary}
 use Rattle.lockss.specs.declared.statuses.Status.{Status}
 use Rattle.lockss.specs.declared.statuses.Status.TheVariants.{Done, Alarmed, Usage, BadScript, ReadFault, WriteFault, DiskFault, NoMemory, TooLong}
 
@@ -48,8 +52,13 @@ pub record AreGiven {D K J B : Type 0} (f : Face D) (e : Ears J B) (given : Devi
   pub unasked : (j : J) × (given.judge ≡ Some j) × (e.heard j ≡ [])
   pub silent : All (IsSilent e.rung e.limit) given.bells
 
-abbrev pub report_of : Plan → List Event → List ℕ
-report_of plan history = text_of plan (entries plan history)
+-- what is told of the entries of a history: its report, or the one line of a drill
+abbrev pub text_for : Tale → Plan → List Entry → List ℕ
+text_for Report plan told = text_of plan told
+text_for (Summary seed) plan told = summary_text seed told
+
+abbrev pub text_by : Tale → Plan → List Event → List ℕ
+text_by tale plan history = text_for tale plan (entries plan history)
 
 -- What a sink has taken, where it tells: a piece more, or a front of it.
 
@@ -59,17 +68,17 @@ Adds piece before after = (taken : List ℕ) → before ≡ Some taken → after
 abbrev pub AddsLess : List ℕ → Option (List ℕ) → Option (List ℕ) → Type 0
 AddsLess piece before after = (taken : List ℕ) → before ≡ Some taken → AddsFront taken piece after
 
--- the report of a history was written, all of it or less: an alarm was raised in it, or none was
-abbrev pub TellsReport : Plan → List Event → Option (List ℕ) → Option (List ℕ) → Status → Type 0
-TellsReport plan history before after Done = (has_any (alarms plan history) ≡ false) × Adds (report_of plan history) before after
-TellsReport plan history before after Alarmed = (has_any (alarms plan history) ≡ true) × Adds (report_of plan history) before after
-TellsReport plan history before after WriteFault = AddsLess (report_of plan history) before after
-TellsReport plan history before after NoMemory = AddsLess (report_of plan history) before after
-TellsReport plan history before after Usage = ⊥
-TellsReport plan history before after (BadScript line) = ⊥
-TellsReport plan history before after ReadFault = ⊥
-TellsReport plan history before after (DiskFault peer) = ⊥
-TellsReport plan history before after TooLong = ⊥
+-- a history was told, all of it or less: an alarm was raised in it, or none was
+abbrev pub TellsOf : Tale → Plan → List Event → Option (List ℕ) → Option (List ℕ) → Status → Type 0
+TellsOf tale plan history before after Done = (has_any (alarms plan history) ≡ false) × Adds (text_by tale plan history) before after
+TellsOf tale plan history before after Alarmed = (has_any (alarms plan history) ≡ true) × Adds (text_by tale plan history) before after
+TellsOf tale plan history before after WriteFault = AddsLess (text_by tale plan history) before after
+TellsOf tale plan history before after NoMemory = AddsLess (text_by tale plan history) before after
+TellsOf tale plan history before after Usage = ⊥
+TellsOf tale plan history before after (BadScript line) = ⊥
+TellsOf tale plan history before after ReadFault = ⊥
+TellsOf tale plan history before after (DiskFault peer) = ⊥
+TellsOf tale plan history before after TooLong = ⊥
 
 -- The judge is back, judges as before, and has heard what the history asks. Of the bells, those are back in their order that
 -- want more alarms than the history has, and each rang for exactly these.
@@ -83,45 +92,45 @@ pub record HaveWatched {D K J B : Type 0} (e : Ears J B) (plan : Plan) (history 
   pub rung : seen e.rung e.limit after.bells ≡ left_of (alarms plan history) (map e.limit before.bells)
 
 -- a run that was played to its end: its history follows the script, by the verdicts of the judge, is safe, was watched, and is
--- what the report tells
-pub record Tells {D K J B : Type 0} (f : Face D) (e : Ears J B) (taken : K → Option (List ℕ)) (s : Script) (before after : Devices D K J B) (answer : Status) : Type 0 where
+-- what is told
+pub record Tells {D K J B : Type 0} (f : Face D) (e : Ears J B) (taken : K → Option (List ℕ)) (tale : Tale) (s : Script) (before after : Devices D K J B) (answer : Status) : Type 0 where
   pub history : List Event
   pub watched : HaveWatched e s.plan history before after
   pub follows : Follows (e.verdict watched.first) s.plan [] s.steps history
   pub safe : IsSafeRun f after.disks s.plan history
-  pub report : TellsReport s.plan history (taken before.sink) (taken after.sink) answer
+  pub told : TellsOf tale s.plan history (taken before.sink) (taken after.sink) answer
 
--- a world in which all steps were done, and whose report was written or not
-pub record IsPlayed {D J B : Type 0} (e : Ears J B) (steps : List Step) (first now : Seen D J B) (before after : Option (List ℕ)) (answer : Status) : Type 0 where
+-- a world in which all steps were done, and of which all was told or less
+pub record IsPlayed {D J B : Type 0} (e : Ears J B) (tale : Tale) (steps : List Step) (first now : Seen D J B) (before after : Option (List ℕ)) (answer : Status) : Type 0 where
   pub follows : Follows (e.verdict first.judge) first.plan first.history steps now.history
   pub watches : Watches first.plan first.history now.history (watching e first.judge first.bells) (watching e now.judge now.bells)
   pub happened : IsHistory first.plan now.history
   pub running : now.stopped ≡ None
-  pub report : TellsReport first.plan now.history before after answer
+  pub told : TellsOf tale first.plan now.history before after answer
 
 -- or one that was stopped by a fault, and nothing was written
-abbrev pub PlaysIn : {D K J B : Type 0} → Ears J B → (K → Option (List ℕ)) → List Step → Seen D J B → Seen D J B → K → K → Status → Type 0
-PlaysIn e taken steps first now before after Done = IsPlayed e steps first now (taken before) (taken after) Done
-PlaysIn e taken steps first now before after Alarmed = IsPlayed e steps first now (taken before) (taken after) Alarmed
-PlaysIn e taken steps first now before after WriteFault = IsPlayed e steps first now (taken before) (taken after) WriteFault
-PlaysIn e taken steps first now before after (DiskFault peer) = after ≡ before
-PlaysIn e taken steps first now before after NoMemory = (after ≡ before) ⊎ IsPlayed e steps first now (taken before) (taken after) NoMemory
-PlaysIn e taken steps first now before after Usage = ⊥
-PlaysIn e taken steps first now before after (BadScript line) = ⊥
-PlaysIn e taken steps first now before after ReadFault = ⊥
-PlaysIn e taken steps first now before after TooLong = ⊥
+abbrev pub PlaysIn : {D K J B : Type 0} → Ears J B → (K → Option (List ℕ)) → Tale → List Step → Seen D J B → Seen D J B → K → K → Status → Type 0
+PlaysIn e taken tale steps first now before after Done = IsPlayed e tale steps first now (taken before) (taken after) Done
+PlaysIn e taken tale steps first now before after Alarmed = IsPlayed e tale steps first now (taken before) (taken after) Alarmed
+PlaysIn e taken tale steps first now before after WriteFault = IsPlayed e tale steps first now (taken before) (taken after) WriteFault
+PlaysIn e taken tale steps first now before after (DiskFault peer) = after ≡ before
+PlaysIn e taken tale steps first now before after NoMemory = (after ≡ before) ⊎ IsPlayed e tale steps first now (taken before) (taken after) NoMemory
+PlaysIn e taken tale steps first now before after Usage = ⊥
+PlaysIn e taken tale steps first now before after (BadScript line) = ⊥
+PlaysIn e taken tale steps first now before after ReadFault = ⊥
+PlaysIn e taken tale steps first now before after TooLong = ⊥
 
 -- the same of a script and all that is back in its place
-abbrev pub Plays : {D K J B : Type 0} → Face D → Ears J B → (K → Option (List ℕ)) → Script → Devices D K J B → Devices D K J B → Status → Type 0
-Plays f e taken s before after Done = Tells f e taken s before after Done
-Plays f e taken s before after Alarmed = Tells f e taken s before after Alarmed
-Plays f e taken s before after WriteFault = Tells f e taken s before after WriteFault
-Plays f e taken s before after (DiskFault peer) = after.sink ≡ before.sink
-Plays f e taken s before after NoMemory = (after.sink ≡ before.sink) ⊎ Tells f e taken s before after NoMemory
-Plays f e taken s before after Usage = ⊥
-Plays f e taken s before after (BadScript line) = ⊥
-Plays f e taken s before after ReadFault = ⊥
-Plays f e taken s before after TooLong = ⊥
+abbrev pub Plays : {D K J B : Type 0} → Face D → Ears J B → (K → Option (List ℕ)) → Tale → Script → Devices D K J B → Devices D K J B → Status → Type 0
+Plays f e taken tale s before after Done = Tells f e taken tale s before after Done
+Plays f e taken tale s before after Alarmed = Tells f e taken tale s before after Alarmed
+Plays f e taken tale s before after WriteFault = Tells f e taken tale s before after WriteFault
+Plays f e taken tale s before after (DiskFault peer) = after.sink ≡ before.sink
+Plays f e taken tale s before after NoMemory = (after.sink ≡ before.sink) ⊎ Tells f e taken tale s before after NoMemory
+Plays f e taken tale s before after Usage = ⊥
+Plays f e taken tale s before after (BadScript line) = ⊥
+Plays f e taken tale s before after ReadFault = ⊥
+Plays f e taken tale s before after TooLong = ⊥
 
 -- what the fault of a world is to its run
 abbrev pub stopped_as : WorldFault → Status

@@ -1,9 +1,10 @@
 //! The program `lockss`: it plays a script of LOCKSS peers and reports what happened.
 #![tactic(auto)]
 
+mod commands;
 mod fresh;
 mod playing;
-mod replays;
+mod runs;
 mod statuses;
 #[cfg(test)]
 mod tests;
@@ -12,7 +13,7 @@ use fresh::fresh_disks;
 use lks_alarm::ListBell;
 use lks_effort::FirstByteJudge;
 use lks_outside::{StdSink, StdSource};
-pub use replays::run;
+pub use runs::run;
 pub use statuses::Status;
 use std::io::ErrorKind;
 use std::process::ExitCode;
@@ -37,7 +38,7 @@ fn words_of<R: env::Env + AllocGlobal>(rt: &R) -> Result<Vec<String>, Status> {
 fn complain(rt: &impl Eprint, status: Status) -> io::Result<()> {
     match status {
         Status::Done | Status::Alarmed => Ok(()),
-        Status::Usage => eprintln!(rt; "lockss: usage: lockss replay"),
+        Status::Usage => eprintln!(rt; "lockss: usage: lockss replay | drill SEED"),
         Status::BadScript { line } => eprintln!(rt; "lockss: bad script: line {line}"),
         Status::ReadFault => eprintln!(rt; "lockss: read fault"),
         Status::WriteFault => eprintln!(rt; "lockss: write fault"),

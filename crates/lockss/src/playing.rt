@@ -1,22 +1,24 @@
-//! A script is played on disks, and the report of its history is written.
+//! A script is played on disks, and what is told of its history is written.
 
-ghost use Rattle.std.specs.Prelude.{◌≡◌, ◌≢◌, ◌≤◌, true, Some, None, OnOk, IsSome};
+ghost use Rattle.std.specs.Prelude.{◌≡◌, ◌≤◌, ◌++◌, ℕ, List, true, Some, None, OnOk, OnErr, IsErrOf, IsSome};
 ghost use Rattle.lks_base.specs.Checking.{plan_fault};
 ghost use Rattle.lks_law.specs.Histories.{IsHistory};
 ghost use Rattle.lks_outside.specs.Counts.{Rose};
+ghost use Rattle.lks_outside.specs.Streams.{AddsFront};
 ghost use Rattle.lks_script.specs.StepRules.{are_steps_of};
 ghost use Rattle.lks_watch.specs.Watching.{ears, watching, Watches};
 ghost use Rattle.lks_world.specs.Counts.{fault_in, ServesHonest};
 ghost use Rattle.lks_world.specs.Follows.{Follows};
-ghost use Rattle.lockss.specs.Playing.{devices, stopped_as, fault_told, AreGiven, TellsReport, PlaysIn, Plays, IsServed};
+ghost use Rattle.lockss.specs.Playing.{devices, stopped_as, fault_told, text_for, AreGiven, TellsOf, PlaysIn, Plays, IsServed};
 
 use crate::statuses::Status;
 use lks_alarm::Bell;
+use lks_base::{Entry, Plan};
 use lks_blocks::BlockPool;
 use lks_disk::CrashDisk;
 use lks_effort::EffortJudge;
 use lks_outside::{Sink, WriteStop};
-use lks_report::{has_alarm, report};
+use lks_report::{has_alarm, report, summary};
 use lks_script::{Script, Step};
 use lks_world::{Parts, World, WorldFault};
 use std::alloc::Global;
@@ -42,19 +44,46 @@ fn perform_all<R: Wait, D: CrashDisk + Drop, J: EffortJudge, B: Bell>(
     Ok(())
 }
 
-/// Writes the report of what happened in the world.
+/// What is told of a history.
+#[derive(Clone, Copy)]
+pub enum Tale {
+    Report,
+    /// The one line of the drill of this seed.
+    Summary { seed: u64 },
+}
+
+fn write<K: Sink>(
+    alloc: Global,
+    tale: Tale,
+    plan: &Plan,
+    history: &[Entry],
+    sink: &mut K,
+) -> Result<(), WriteStop>
+    ensures whole { (bytes : List ℕ) → K.taken sink.old ≡ Some bytes → OnOk result (K.taken sink.new ≡ Some (bytes ++ text_for tale plan.now history.now)) }
+    ensures part { (bytes : List ℕ) → K.taken sink.old ≡ Some bytes → OnErr result (AddsFront bytes (text_for tale plan.now history.now) (K.taken sink.new)) }
+    ensures failed { IsErrOf result WriteStop.Failed → Rose (K.faults sink.old) (K.faults sink.new) }
+    ensures count { K.faults sink.old ≤ K.faults sink.new }
+{
+    match tale {
+        Tale::Report => report(alloc, plan, history, sink),
+        Tale::Summary { seed } => summary(alloc, seed, history, sink),
+    }
+}
+
+/// Tells what happened in the world.
 fn tell<K: Sink, D: CrashDisk + Drop, J: EffortJudge, B: Bell>(
     alloc: Global,
+    tale: Tale,
     world: &World<'_, D, J, B>,
     sink: &mut K,
 ) -> Status
     ensures happened { IsHistory world.now.plan world.now.history }
-    ensures tells { TellsReport world.now.plan world.now.history (K.taken sink.old) (K.taken sink.new) result }
+    ensures tells { TellsOf tale world.now.plan world.now.history (K.taken sink.old) (K.taken sink.new) result }
     ensures failed { result ≡ Status.WriteFault → Rose (K.faults sink.old) (K.faults sink.new) }
     ensures count { K.faults sink.old ≤ K.faults sink.new }
 {
     let history = world.history();
-    match report(alloc, world.plan(), history, sink) {
+    match write(alloc, tale, world.plan(), history, sink) {
         Ok(()) => {
             if has_alarm(history) {
                 Status::Alarmed
@@ -77,10 +106,11 @@ fn stopped_by(fault: WorldFault) -> Status
     }
 }
 
-/// Does the steps in a world, and writes the report.
+/// Does the steps in a world, and tells what happened.
 fn play_in<R: Wait, K: Sink, D: CrashDisk + Drop, J: EffortJudge, B: Bell>(
     alloc: Global,
     rt: &R,
+    tale: Tale,
     world: &mut World<'_, D, J, B>,
     steps: &[Step],
     sink: &mut K,
@@ -88,13 +118,13 @@ fn play_in<R: Wait, K: Sink, D: CrashDisk + Drop, J: EffortJudge, B: Bell>(
     requires running { world.old.stopped ≡ None }
     requires legal { are_steps_of world.old.plan steps.now ≡ true }
     ensures plan { world.new.plan ≡ world.old.plan }
-    ensures plays { PlaysIn (ears J.heard J.verdict B.rung B.limit) K.taken steps.now world.old world.new sink.old sink.new result }
+    ensures plays { PlaysIn (ears J.heard J.verdict B.rung B.limit) K.taken tale steps.now world.old world.new sink.old sink.new result }
     ensures serves { ServesHonest D.face world.old.plan.peers world.old.disks world.new.disks (fault_told result) }
     ensures failed { result ≡ Status.WriteFault → Rose (K.faults sink.old) (K.faults sink.new) }
     ensures count { K.faults sink.old ≤ K.faults sink.new }
 {
     match perform_all(rt, world, steps) {
-        Ok(()) => tell(alloc, world, sink),
+        Ok(()) => tell(alloc, tale, world, sink),
         Err(fault) => stopped_by(fault),
     }
 }
@@ -116,10 +146,11 @@ fn hand_back<D: Drop, J: Drop, B: Drop>(
 }
 
 /// Plays a script on disks, which are back in their places afterwards, as are the judge and the bells that want more, and
-/// writes the report of its history.
+/// tells what happened.
 pub fn play<R: Wait, K: Sink, D: CrashDisk + Drop, J: EffortJudge, B: Bell>(
     alloc: Global,
     rt: &R,
+    tale: Tale,
     script: Script,
     sink: &mut K,
     disks: &mut Vec<D>,
@@ -129,7 +160,7 @@ pub fn play<R: Wait, K: Sink, D: CrashDisk + Drop, J: EffortJudge, B: Bell>(
     requires good { plan_fault script.plan ≡ None }
     requires legal { are_steps_of script.plan script.steps ≡ true }
     requires given { AreGiven D.face (ears J.heard J.verdict B.rung B.limit) (devices disks.old.items sink.old judge.old bells.old.items) }
-    ensures plays { Plays D.face (ears J.heard J.verdict B.rung B.limit) K.taken script (devices disks.old.items sink.old judge.old bells.old.items) (devices disks.new.items sink.new judge.new bells.new.items) result }
+    ensures plays { Plays D.face (ears J.heard J.verdict B.rung B.limit) K.taken tale script (devices disks.old.items sink.old judge.old bells.old.items) (devices disks.new.items sink.new judge.new bells.new.items) result }
     ensures served { IsServed D.face disks.old.items disks.new.items script result }
     ensures back { IsSome judge.new }
     ensures failed { result ≡ Status.WriteFault → Rose (K.faults sink.old) (K.faults sink.new) }
@@ -151,7 +182,7 @@ pub fn play<R: Wait, K: Sink, D: CrashDisk + Drop, J: EffortJudge, B: Bell>(
             return stopped_by(fault);
         }
     };
-    let status = play_in(alloc, rt, &mut world, steps.as_slice(), sink);
+    let status = play_in(alloc, rt, tale, &mut world, steps.as_slice(), sink);
     hand_back(world.into_parts(), disks, judge, bells);
     status
 }

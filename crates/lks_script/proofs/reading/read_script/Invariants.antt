@@ -1,5 +1,5 @@
 use Rattle.std.proofs.Common.{◌≡◌, ◌+◌, ◌≤◌, length}
-use Rattle.lks_lines.specs.Words.{parts}
+use Rattle.lks_words.specs.Words.{parts}
 use Rattle.lks_script.specs.Grammar.{lines_in, script_of}
 use Rattle.lks_script.proofs.reading.read_script.Given as goal
 

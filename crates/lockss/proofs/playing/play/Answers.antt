@@ -21,7 +21,7 @@ returns-clause-plays g c =
     let e = ears g.J.EffortJudge.heard g.J.EffortJudge.verdict g.B.Bell.rung g.B.Bell.limit in
     let before = devices c.args.disks.now.items c.args.sink.now c.args.judge.now c.args.bells.now.items in
     let after = devices c.hand_back-2.new.disks.items c.play_in-status.new.sink c.hand_back-2.new.judge c.hand_back-2.new.bells.items in
-    played_as g.D.Disk.face e g.K.Sink.taken c.args.script before after c.in-Ok-new.world c.play_in-status.new.world c.as_slice.result.now c.in-Some.asked c.replace-hung.result.items
+    played_as g.D.Disk.face e g.K.Sink.taken c.args.tale c.args.script before after c.in-Ok-new.world c.play_in-status.new.world c.as_slice.result.now c.in-Some.asked c.replace-hung.result.items
     c.requires.good c.requires.given (sym c.take.ensures.value ∙ c.in-Some.is) (ap (λ v. v.items) c.replace-hung.ensures.value) c.in-Ok-new.ensures.begins c.as_slice.ensures c.play_in-status.ensures.plan
     (c.hand_back-2.ensures.disks ∙ c.into_parts.ensures.disks) (c.hand_back-2.ensures.judge ∙ ap Some c.into_parts.ensures.watched.0) (c.hand_back-2.ensures.bells ∙ c.into_parts.ensures.watched.1) c.into_parts.ensures.holds
     c.play_in-status.result c.play_in-status.ensures.plays

@@ -1,0 +1,4 @@
+pub mod Drawing
+pub mod Good
+pub mod Ranges
+pub mod Sizes

@@ -1,8 +1,0 @@
-use Rattle.std.proofs.Common.{ℕ, List, ◌++◌, length, ap}
-use Rattle.std.proofs.lemmas.List.{drop-replicate}
-use Rattle.lks_lines.specs.Words.{zeros}
-use Rattle.lks_lines.proofs.words.filled.Goals as goal
-
-pub returns : goal.returns
-unfolding zeros
-returns c = rw c.copy_from_slice.ensures.after (ap (λ (t : List ℕ). c.args.bytes.now ++ t) (drop-replicate (length c.args.bytes.now) 32 0))

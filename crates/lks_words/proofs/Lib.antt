@@ -1,0 +1,6 @@
+pub mod Steps
+pub mod Digits
+pub mod Each
+pub mod Decimals
+pub mod Splits
+pub mod Kept
