@@ -1,6 +1,6 @@
 -- What follows from what each answer says.
 use Rattle.std.proofs.Common.{◌≡◌, ◌∙◌, ap, sym, ℕ, List, refl, arith}
-use Rattle.std.specs.Prelude.{Option, Some, None, Ok}
+use Rattle.std.specs.Prelude.{Option, Some}
 use Rattle.lks_base.specs.declared.plans.PeerPlan.{PeerPlan}
 use Rattle.lks_disk.specs.Face.{Face}
 use Rattle.lks_drill.specs.Drill.{drill_of}
@@ -11,9 +11,8 @@ use Rattle.lks_world.specs.declared.faults.WorldFault.TheVariants.{Disk}
 use Rattle.lks_watch.specs.Watching.{Ears}
 use Rattle.lockss.specs.Playing.{Devices}
 use Rattle.lockss.specs.Promise.{Promise}
-use Rattle.lockss.specs.Runs.{Does, Drills, HasWork, Replays, NoneRose, Completes}
-use Rattle.lockss.specs.declared.commands.Command.{Command}
-use Rattle.lockss.specs.declared.commands.Command.TheVariants.{Replay, Drill}
+use Rattle.lockss.specs.Runs.{Drills, HasWork, Replays, NoneRose, Completes}
+use Rattle.lockss.specs.declared.commands.Command.TheVariants.{Replay}
 use Rattle.lockss.specs.declared.statuses.Status.{Status}
 use Rattle.lockss.specs.declared.statuses.Status.TheVariants.{Done, Alarmed, Usage, BadScript, ReadFault, WriteFault, DiskFault, NoMemory, TooLong}
 
@@ -51,7 +50,7 @@ module _ {D K J B : Type 0} (f : Face D) (e : Ears J B) (taken : K → Option (L
 
   -- where no fault is counted, a script that isn't too long is played, and so is a drill
 
-  replay_completes : (left left_after : Option (List ℕ)) → HasWork (Some Replay) left → (answer : Status) → Replays f e taken left left_after before after answer → (answer ≡ ReadFault → ⊥) → (answer ≡ WriteFault → ⊥)
+  pub replay_completes : (left left_after : Option (List ℕ)) → HasWork (Some Replay) left → (answer : Status) → Replays f e taken left left_after before after answer → (answer ≡ ReadFault → ⊥) → (answer ≡ WriteFault → ⊥)
       → NoneRose f before.disks after.disks → Completes answer
   replay_completes left left_after work Done says no_read no_write none = tt
   replay_completes left left_after work Alarmed says no_read no_write none = tt
@@ -66,7 +65,7 @@ module _ {D K J B : Type 0} (f : Face D) (e : Ears J B) (taken : K → Option (L
   replay_completes left left_after work (DiskFault peer) says no_read no_write none = absurd (blames_none f says.plays.script.plan.peers before.disks after.disks peer says.plays.served none)
   replay_completes left left_after work TooLong says no_read no_write none = let many = says.0 work.0 work.2 in let few = work.3 in absurd (omega (arith, many, few))
 
-  drill_completes : (seed : ℕ) (answer : Status) → Drills f e taken seed before after answer → (answer ≡ WriteFault → ⊥) → NoneRose f before.disks after.disks → Completes answer
+  pub drill_completes : (seed : ℕ) (answer : Status) → Drills f e taken seed before after answer → (answer ≡ WriteFault → ⊥) → NoneRose f before.disks after.disks → Completes answer
   drill_completes seed Done says no_write none = tt
   drill_completes seed Alarmed says no_write none = tt
   drill_completes seed NoMemory says no_write none = tt
@@ -76,9 +75,3 @@ module _ {D K J B : Type 0} (f : Face D) (e : Ears J B) (taken : K → Option (L
   drill_completes seed WriteFault says no_write none = absurd (no_write refl)
   drill_completes seed (DiskFault peer) says no_write none = absurd (blames_none f (drill_of seed).plan.peers before.disks after.disks peer says.served none)
   drill_completes seed TooLong says no_write none = says
-
-  pub completes : {S : Type 0} (left : S → Option (List ℕ)) (source source_after : S) (o : Option Command) → HasWork o (left source) → (answer : Status) → Does f e taken left o source source_after before after answer
-      → (answer ≡ ReadFault → ⊥) → (answer ≡ WriteFault → ⊥) → NoneRose f before.disks after.disks → Completes answer
-  completes left source source_after None work answer does no_read no_write none = absurd work
-  completes left source source_after (Some Replay) work answer does no_read no_write none = replay_completes (left source) (left source_after) work answer does no_read no_write none
-  completes left source source_after (Some (Drill seed)) work answer does no_read no_write none = drill_completes seed answer does.1 no_write none

@@ -2,6 +2,7 @@
 
 mod crashes;
 mod disks;
+mod drills;
 mod lists;
 mod peers;
 mod sessions;
@@ -564,7 +565,7 @@ fn alarmed<'a>(script: &'a [&'a str], report: &'a [&'a str]) -> Row<'a> {
 }
 
 /// Runs with the program's own judge, and no bells.
-fn replay_plainly<R: Wait>(
+fn run_plainly<R: Wait>(
     alloc: Global,
     rt: &R,
     words: &[String],
@@ -589,7 +590,7 @@ fn check_rows<R: Abort + Wait>(rt: &R, alloc: Global, rows: &[Row<'_>]) -> Resul
         let mut source = MemSource::new(alloc, joined(alloc, row.script)?, [].to_vec(alloc)?);
         let mut sink = MemSink::new(alloc, [].to_vec(alloc)?);
         let mut disks = fresh_disks(alloc)?;
-        let status = replay_plainly(alloc, rt, &words, &mut source, &mut sink, &mut disks)?;
+        let status = run_plainly(alloc, rt, &words, &mut source, &mut sink, &mut disks)?;
         assert_eq!(rt; status, row.status, "row {at}");
         assert_eq!(rt;
             sink.bytes(),
@@ -666,6 +667,12 @@ fn refusals(rt: HostRuntime) -> Result<(), Fail> {
     let rows = [
         misused(&[]),
         misused(&["replay", "x"]),
+        misused(&["race", "0"]),
+        misused(&["race", "65"]),
+        misused(&["drill"]),
+        misused(&["drill", "007"]),
+        misused(&["drill", "18446744073709551616"]),
+        misused(&["--help"]),
         bad(&[], 1),
         bad(&["lockss 1\n"], 2),
         bad(&unended, 9),
@@ -682,7 +689,7 @@ fn refusals(rt: HostRuntime) -> Result<(), Fail> {
         let mut source = MemSource::new(alloc, script, row.failing_reads.to_vec(alloc)?);
         let mut sink = MemSink::new(alloc, row.failing_writes.to_vec(alloc)?);
         let mut disks = fresh_disks(alloc)?;
-        let status = replay_plainly(alloc, &rt, &words, &mut source, &mut sink, &mut disks)?;
+        let status = run_plainly(alloc, &rt, &words, &mut source, &mut sink, &mut disks)?;
         assert_eq!(rt; status, row.status, "row {at}");
         assert!(rt; sink.bytes().is_empty(), "row {at}");
     }
@@ -697,7 +704,7 @@ fn too_long(rt: HostRuntime) -> Result<(), Fail> {
     let mut source = MemSource::new(alloc, bytes, [].to_vec(alloc)?);
     let mut sink = MemSink::new(alloc, [].to_vec(alloc)?);
     let mut disks = fresh_disks(alloc)?;
-    let status = replay_plainly(alloc, &rt, &words, &mut source, &mut sink, &mut disks)?;
+    let status = run_plainly(alloc, &rt, &words, &mut source, &mut sink, &mut disks)?;
     assert_eq!(rt; status, Status::TooLong);
     assert!(rt; sink.bytes().is_empty());
     Ok(())

@@ -44,7 +44,7 @@ fn replay_on<R: Wait>(
     let mut source = MemSource::new(alloc, joined(alloc, script)?, [].to_vec(alloc)?);
     let mut sink = MemSink::new(alloc, [].to_vec(alloc)?);
     let mut disks = failing_disks(alloc, fail, fail_reads)?;
-    let status = replay_plainly(alloc, rt, &words, &mut source, &mut sink, &mut disks)?;
+    let status = run_plainly(alloc, rt, &words, &mut source, &mut sink, &mut disks)?;
     disks.truncate(1);
     Ok((status, disks.pop()))
 }
