@@ -16,11 +16,26 @@ fn line_of<R: Abort + Wait>(rt: &R, alloc: Global, seed: &str) -> Result<Vec<u8>
 #[test]
 fn drills(rt: HostRuntime) -> Result<(), Fail> {
     let lines = [
-        ("1", "drill 1 events 1791 polls 24 agreed 24 replaced 5 alarms 0\n"),
-        ("2", "drill 2 events 1788 polls 24 agreed 24 replaced 4 alarms 0\n"),
-        ("3", "drill 3 events 1785 polls 24 agreed 24 replaced 3 alarms 0\n"),
-        ("5", "drill 5 events 1782 polls 24 agreed 24 replaced 2 alarms 0\n"),
-        ("1", "drill 1 events 1791 polls 24 agreed 24 replaced 5 alarms 0\n"),
+        (
+            "1",
+            "drill 1 events 1791 polls 24 agreed 24 replaced 5 alarms 0\n",
+        ),
+        (
+            "2",
+            "drill 2 events 1788 polls 24 agreed 24 replaced 4 alarms 0\n",
+        ),
+        (
+            "3",
+            "drill 3 events 1785 polls 24 agreed 24 replaced 3 alarms 0\n",
+        ),
+        (
+            "5",
+            "drill 5 events 1782 polls 24 agreed 24 replaced 2 alarms 0\n",
+        ),
+        (
+            "1",
+            "drill 1 events 1791 polls 24 agreed 24 replaced 5 alarms 0\n",
+        ),
     ];
     for (seed, line) in lines.iter() {
         let told = line_of(&rt, rt.alloc(), seed)?;
