@@ -1,0 +1,13 @@
+//! Scripts as text: one line a fact of the plan, and one a step.
+#![tactic(auto)]
+
+mod adding;
+mod laws;
+mod plans;
+mod scripts;
+mod steps;
+#[cfg(test)]
+mod tests;
+
+pub use laws::{every_declaration_reads_back, every_step_reads_back};
+pub use scripts::print_script;
