@@ -23,12 +23,10 @@ use Rattle.lks_words.proofs.Decimals.{number_kept, number_most}
 use Rattle.lks_words.proofs.Splits.{weaker, words_part}
 use Rattle.lks_words.proofs.Kept.{decimal_above, text_above, bytes_fit, bytes_again, block_fits, block_again, blocks_fit, blocks_again, blocks_above, ids_fit, ids_again, answer_again, answer_above}
 use Rattle.lks_words.proofs.Steps.{bind_some, if_some, same_some}
+use Rattle.lks_print.specs.Said.{are_plain, IsKept}
 use Rattle.lks_print.specs.Steps.{spaced, own_key, own_more, cut_key, cut_more, times_words, key_of, more_of}
 
 -- ---- words that read as what they say, and have no spaces and line feeds
-
-abbrev pub are_plain : List (List ℕ) → Bool
-are_plain words = list_all (λ w. are_above 43 w) words
 
 record IsWord {X : Type 0} (said : List ℕ → Option X) (text : X → List ℕ) (x : X) : Type 0 where
   again : said (text x) ≡ Some x
@@ -75,7 +73,7 @@ blocks_word word found e =
     let fit = blocks_fit word found e in
     record { again = blocks_again found fit.0 fit.1; plain = blocks_above found fit.1 }
 
-ids_plain : (ids : List ℕ) → All (λ n. n ≤ 65535) ids → are_plain (map decimal ids) ≡ true
+pub ids_plain : (ids : List ℕ) → All (λ n. n ≤ 65535) ids → are_plain (map decimal ids) ≡ true
 ids_plain [] h = refl
 ids_plain (i ∷ ids) h =
     let few = All-head (λ (n : ℕ). n ≤ 65535) i ids h in
@@ -183,10 +181,6 @@ own_kept key more s e =
     λ h. let a = bind_some (own_poll_in more) (λ x. poll_step_in key x.0 x.1) s h in in_own_poll_kept key a.0 s (own_poll_found more a.0 a.1) a.2))))) e
 
 -- ---- steps of a script
-
-pub record IsKept (s : Step) : Type 0 where
-  pub again : step_in (key_of s) (more_of s) ≡ Some s
-  pub plain : are_plain (key_of s ∷ more_of s) ≡ true
 
 tick_kept : (more : List (List ℕ)) (s : Step) → tick_in more ≡ Some s → IsKept s
 unfolding tick_in step_in key_of more_of

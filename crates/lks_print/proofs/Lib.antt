@@ -1,3 +1,8 @@
+pub mod Belongings
+pub mod FromReading
+pub mod Heads
 pub mod Kept
-pub mod PlanKept
+pub mod Reading
+pub mod RulesAgain
 pub mod Spaced
+pub mod Whole

@@ -1,5 +1,5 @@
--- A line of a plan that was read is printed so that it reads as the same.
-use Rattle.std.proofs.Common.{◌≡◌, ◌&&◌, ℕ, ◌*◌, ◌≤◌, ◌<◌, ◌^◌, Bool, true, cond, leb, List, [], ◌∷◌, Some, None, refl, subst, arith}
+-- Rules in their bounds are printed so that they read as the same.
+use Rattle.std.proofs.Common.{◌≡◌, ◌&&◌, ℕ, ◌*◌, ◌≤◌, ◌<◌, ◌^◌, Bool, true, leb, List, ◌∷◌, Some, refl, arith}
 use Rattle.std.specs.Prelude.{codes}
 use Rattle.std.specs.Fmt.{decimal}
 use Rattle.std.specs.Str.{bytes_eq}
@@ -7,58 +7,24 @@ use Rattle.std.proofs.lemmas.Bool.{and_parts, leb-true, ltb-true}
 use Rattle.lks_base.specs.Checking.{are_bounded, are_ordered, is_within}
 use Rattle.lks_base.specs.Quorums.{obeys_quorum_rule}
 use Rattle.lks_base.specs.declared.limits.TheConstants.{MOST_CIRCLE, MOST_REPAIRS, MOST_TICKS}
-use Rattle.lks_base.specs.declared.names.HashKind.TheVariants.{Sha256}
-use Rattle.lks_base.specs.declared.plans.AuPlan.{AuPlan}
-use Rattle.lks_base.specs.declared.plans.PeerPlan.{PeerPlan}
 use Rattle.lks_base.specs.declared.plans.Rules.{Rules}
-use Rattle.lks_lines.specs.PlanLines.{named, numbers_in, are_good, rules_in, au_in, peer_in}
-use Rattle.lks_words.specs.Numbers.{◌>>=◌, number_in}
-use Rattle.lks_words.specs.Words.{id_in, seed_in, proof_in, kind_in}
-use Rattle.lks_words.proofs.Decimals.{number_kept, number_again}
-use Rattle.lks_words.proofs.Kept.{seed_fits, seed_again, proof_fits, proof_again, kind_again}
-use Rattle.lks_words.proofs.Steps.{bind_some, if_some, same_some}
-use Rattle.lks_print.specs.Scripts.{rules_words, au_words, peer_words}
-
-pub au_kept : (more : List (List ℕ)) (au : AuPlan) → au_in more ≡ Some au → au_in (au_words au) ≡ Some au
-unfolding au_in au_words
-au_kept (w0 ∷ w1 ∷ []) s e =
-    let a0 = bind_some (id_in w0) (λ a. number_in 65535 w1 >>= λ n. Some (record { id = a; count = n })) s e in
-    let a1 = bind_some (number_in 65535 w1) (λ n. Some (record { id = a0.0; count = n })) s a0.2 in
-    subst (λ (au : AuPlan). au_in (au_words au) ≡ Some au) (same_some (record { id = a0.0; count = a1.0 }) s a1.2)
-    (rw (number_kept 65535 a0.0 w0 (omega arith) a0.1, number_kept 65535 a1.0 w1 (omega arith) a1.1) refl)
-au_kept _ s e = absurd cc
-
--- a peer as its line says it, without what other lines say
-abbrev bare : ℕ → Bool → List ℕ → List ℕ → PeerPlan
-bare id corrupt seed proof = record { id = id; corrupt = corrupt; seed = seed; proof = proof; refs = []; friends = []; copies = []; hash = Sha256 }
-
-pub peer_kept : (more : List (List ℕ)) (p : PeerPlan) → peer_in more ≡ Some p → peer_in (peer_words p) ≡ Some p
-unfolding peer_in peer_words
-peer_kept (w0 ∷ w1 ∷ w2 ∷ w3 ∷ []) s e =
-    let a0 = bind_some (id_in w0) (λ p. kind_in w1 >>= λ c. seed_in w2 >>= λ x. proof_in w3 >>= λ y. Some (bare p c x y)) s e in
-    let a1 = bind_some (kind_in w1) (λ c. seed_in w2 >>= λ x. proof_in w3 >>= λ y. Some (bare a0.0 c x y)) s a0.2 in
-    let a2 = bind_some (seed_in w2) (λ x. proof_in w3 >>= λ y. Some (bare a0.0 a1.0 x y)) s a1.2 in
-    let a3 = bind_some (proof_in w3) (λ y. Some (bare a0.0 a1.0 a2.0 y)) s a2.2 in
-    let seed = seed_fits w2 a2.0 a2.1 in
-    subst (λ (p : PeerPlan). peer_in (peer_words p) ≡ Some p) (same_some (bare a0.0 a1.0 a2.0 a3.0) s a3.2)
-    (rw (number_kept 65535 a0.0 w0 (omega arith) a0.1, kind_again a1.0, seed_again a2.0 seed.0 seed.1, proof_again a3.0 (proof_fits w3 a3.0 a3.1)) refl)
-peer_kept _ s e = absurd cc
-
--- ---- rules
+use Rattle.lks_lines.specs.PlanLines.{named, numbers_in, are_good, rules_in}
+use Rattle.lks_words.proofs.Decimals.{number_again}
+use Rattle.lks_print.specs.Scripts.{rules_words}
 
 -- the numbers of rules, each of which its word can be
-record AreSmall (r : Rules) : Type 0 where
-  inner : r.inner ≤ 65535
-  quorum : r.quorum ≤ 65535
-  minority : r.minority ≤ 65535
-  outer : r.outer ≤ 65535
-  repairs : r.repairs ≤ 65535
-  pace : r.pace ≤ 4294967295
-  refractory : r.refractory ≤ 4294967295
-  overdue : r.overdue ≤ 4294967295
-  unknown : r.unknown_pct ≤ 255
-  debt : r.debt_pct ≤ 255
-  churn : r.churn ≤ 65535
+pub record AreSmall (r : Rules) : Type 0 where
+  pub inner : r.inner ≤ 65535
+  pub quorum : r.quorum ≤ 65535
+  pub minority : r.minority ≤ 65535
+  pub outer : r.outer ≤ 65535
+  pub repairs : r.repairs ≤ 65535
+  pub pace : r.pace ≤ 4294967295
+  pub refractory : r.refractory ≤ 4294967295
+  pub overdue : r.overdue ≤ 4294967295
+  pub unknown : r.unknown_pct ≤ 255
+  pub debt : r.debt_pct ≤ 255
+  pub churn : r.churn ≤ 65535
 
 named_again : (name : List ℕ) (most n : ℕ) (rest : List (List ℕ)) → bytes_eq name name ≡ true → most < 2 ^ 64 → n ≤ most → named name most (name ∷ decimal n ∷ rest) ≡ Some (n, rest)
 unfolding named
@@ -117,7 +83,7 @@ in_order r e =
     let p = and_parts (obeys_quorum_rule r.quorum r.minority) (leb r.quorum r.inner) e in
     (ltb-true (2 * r.minority) r.quorum p.0, leb-true r.quorum r.inner p.1)
 
-are_small : (r : Rules) → are_bounded r ≡ true → are_ordered r ≡ true → AreSmall r
+pub are_small : (r : Rules) → are_bounded r ≡ true → are_ordered r ≡ true → AreSmall r
 are_small r bounded ordered =
     let t = in_bounds r bounded in
     let o = in_order r ordered in
@@ -144,15 +110,8 @@ are_small r bounded ordered =
       churn = omega (arith, churn);
     }
 
-good_again : (r : Rules) → are_good r ≡ true → rules_in (rules_words r) ≡ Some r
+pub good_again : (r : Rules) → are_good r ≡ true → rules_in (rules_words r) ≡ Some r
 unfolding rules_in are_good
 good_again r good =
     let p = and_parts (are_bounded r) (are_ordered r) good in
     rw (numbers_again r (are_small r p.0 p.1), good) refl
-
-pub rules_kept : (more : List (List ℕ)) (r : Rules) → rules_in more ≡ Some r → rules_in (rules_words r) ≡ Some r
-unfolding rules_in
-rules_kept more r e =
-    let a = bind_some (numbers_in more) (λ r. cond (are_good r) (Some r) None) r e in
-    let g = if_some (are_good a.0) (Some a.0) r a.2 in
-    subst (λ (r : Rules). rules_in (rules_words r) ≡ Some r) (same_some a.0 r g.1) (good_again a.0 g.0)
