@@ -71,7 +71,7 @@ module _ {X : Type 0} (P : X → Type 0) where
   all_get (z ∷ zs) zero x h e = subst P (same_some z x e) (All-head P z zs h)
   all_get (z ∷ zs) (suc at) x h e = all_get zs at x (All-tail P z zs h) e
 
-  all_set : (xs : List X) (at : ℕ) (x : X) → All P xs → P x → All P (set xs at x)
+  pub all_set : (xs : List X) (at : ℕ) (x : X) → All P xs → P x → All P (set xs at x)
   all_set [] at x h one = h
   all_set (z ∷ zs) zero x h one = All-cons P x zs one (All-tail P z zs h)
   all_set (z ∷ zs) (suc at) x h one = All-cons P z (set zs at x) (All-head P z zs h) (all_set zs at x (All-tail P z zs h) one)

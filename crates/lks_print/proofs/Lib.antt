@@ -1,4 +1,5 @@
 pub mod Belongings
+pub mod Drilled
 pub mod FromReading
 pub mod Heads
 pub mod Kept

@@ -1,6 +1,7 @@
 //! What is printed reads back.
 
 ghost use Rattle.std.specs.Prelude.{◌≡◌, ◌++◌, ◌∷◌, ℕ, List, Some, Ok};
+ghost use Rattle.lks_drill.specs.Drill.{drill_of};
 ghost use Rattle.lks_script.specs.Grammar.{script_of};
 ghost use Rattle.lks_script.specs.StepLines.{step_in};
 ghost use Rattle.lks_script.specs.declared.steps.Script.{Script};
@@ -18,4 +19,9 @@ pub fn every_step_reads_back()
 /// Each script that some bytes say can be said.
 pub fn every_script_read_is_said()
     ensures { (bytes : List ℕ) (script : Script) → script_of bytes ≡ Ok script → IsSaid script }
+{}
+
+/// Each drill can be said.
+pub fn every_drill_is_said()
+    ensures { (seed : ℕ) → IsSaid (drill_of seed) }
 {}
