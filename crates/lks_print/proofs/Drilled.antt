@@ -25,7 +25,7 @@ use Rattle.lks_words.proofs.Splits.{weaker}
 use Rattle.lks_drill.specs.Drill.{peer_numbers, au_numbers, block_of, whole_copy, is_damaged, blocks_of, draw_before, draw_of, holding_of, copies_of, peer_seed, peer_with, peer_of, peers_of, plan_of, audit_of, audits_of, steps_of_drill, drill_of}
 use Rattle.lks_drill.proofs.Good.{good_plan, steps_stand}
 use Rattle.lks_print.specs.Steps.{own_key, own_more, key_of, more_of}
-use Rattle.lks_print.specs.Said.{IsKept, IsSaidPeer, StepsFollow, IsSaid}
+use Rattle.lks_print.specs.Said.{IsSaidStep, IsSaidPeer, StepsFollow, IsSaid}
 use Rattle.lks_print.proofs.FromReading.{all_set}
 
 -- ---- what holds of each element
@@ -127,7 +127,7 @@ id_plain n le = weaker 43 44 (decimal n) (omega arith) (decimal_above n (omega (
 
 -- a step that reads back, and in which no power fails
 record IsPlainStep (step : Step) : Type 0 where
-  kept : IsKept step
+  kept : IsSaidStep step
   powered : fails_power step ≡ false
 
 open_plain : (peer au : ℕ) → peer ≤ 65535 → au ≤ 65535 → IsPlainStep (Peer (OpenPoll peer au))
@@ -149,7 +149,7 @@ steps_follow plan before [] plain stand = tt
 steps_follow plan before (step ∷ steps) plain stand =
     let parts = and_parts (is_step_of plan step) (are_steps_of plan steps) stand in
     let one = All-head IsPlainStep step steps plain in (
-      record { kept = one.kept; stands = and_from (is_step_of plan step) _ parts.0 (has_power before step one.powered) },
+      record { said = one.kept; stands = and_from (is_step_of plan step) _ parts.0 (has_power before step one.powered) },
       steps_follow plan (before ++ step ∷ []) steps (All-tail IsPlainStep step steps plain) parts.1,
     )
 

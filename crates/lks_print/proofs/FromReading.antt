@@ -259,7 +259,7 @@ unfolding steps_with
 steps_kept plan steps longer key more h e =
     let a = bind_some (step_in key more) (λ step. cond (is_step_of plan step && has_power_for steps step) (some (steps ++ step ∷ [])) None) longer e in
     let b = if_some (is_step_of plan a.0 && has_power_for steps a.0) (some (steps ++ a.0 ∷ [])) longer a.2 in
-    subst (StepsFollow plan []) (same_some (steps ++ a.0 ∷ []) longer b.1) (follow_more plan [] steps a.0 h (record { kept = step_kept key more a.0 a.1; stands = b.0 }))
+    subst (StepsFollow plan []) (same_some (steps ++ a.0 ∷ []) longer b.1) (follow_more plan [] steps a.0 h (record { said = step_kept key more a.0 a.1; stands = b.0 }))
 
 -- ---- the script so far
 

@@ -322,7 +322,7 @@ first_step at plan step can =
 first_reads : (at : Part) (plan : PlanDraft) (step : Step) (rest : List ℕ) (script : Script) → CanFollow plan.plan [] step → Reads (Stepped plan.plan (step ∷ [])) rest script → Reads (Planned at plan) (printed.step_line step ++ rest) script
 unfolding printed.step_line
 first_reads at plan step rest script can =
-    words_read (Planned at plan) (Stepped plan.plan (step ∷ [])) (key_of step) (more_of step) rest script (named_step step) can.kept.plain (first_step at plan step can)
+    words_read (Planned at plan) (Stepped plan.plan (step ∷ [])) (key_of step) (more_of step) rest script (named_step step) can.said.plain (first_step at plan step can)
 
 no_steps : (at : Part) (plan : PlanDraft) → Reads (Planned at plan) [] (script_with plan.plan [])
 unfolding lines_in end_in ended

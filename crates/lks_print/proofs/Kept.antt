@@ -23,7 +23,7 @@ use Rattle.lks_words.proofs.Decimals.{number_kept, number_most}
 use Rattle.lks_words.proofs.Splits.{weaker, words_part}
 use Rattle.lks_words.proofs.Kept.{decimal_above, text_above, bytes_fit, bytes_again, block_fits, block_again, blocks_fit, blocks_again, blocks_above, ids_fit, ids_again, answer_again, answer_above}
 use Rattle.lks_words.proofs.Steps.{bind_some, if_some, same_some}
-use Rattle.lks_print.specs.Said.{are_plain, IsKept}
+use Rattle.lks_print.specs.Said.{are_plain, IsSaidStep}
 use Rattle.lks_print.specs.Steps.{spaced, own_key, own_more, cut_key, cut_more, times_words, key_of, more_of}
 
 -- ---- words that read as what they say, and have no spaces and line feeds
@@ -182,31 +182,31 @@ own_kept key more s e =
 
 -- ---- steps of a script
 
-tick_kept : (more : List (List ℕ)) (s : Step) → tick_in more ≡ Some s → IsKept s
+tick_kept : (more : List (List ℕ)) (s : Step) → tick_in more ≡ Some s → IsSaidStep s
 unfolding tick_in step_in key_of more_of
 tick_kept (w0 ∷ []) s e =
     let a0 = bind_some (number_in 4294967295 w0) (λ x0. Some (Tick x0)) s e in
     let k0 = large_word w0 a0.0 a0.1 in
-    subst IsKept (same_some (Tick a0.0) s a0.2) (record { again = rw (k0.again) refl; plain = rw (k0.plain) refl })
+    subst IsSaidStep (same_some (Tick a0.0) s a0.2) (record { again = rw (k0.again) refl; plain = rw (k0.plain) refl })
 tick_kept _ s e = absurd cc
 
-again_kept : (more : List (List ℕ)) (s : Step) → again_in more ≡ Some s → IsKept s
+again_kept : (more : List (List ℕ)) (s : Step) → again_in more ≡ Some s → IsSaidStep s
 unfolding again_in step_in key_of more_of
 again_kept (w0 ∷ []) s e =
     let a0 = bind_some (number_in 4294967295 w0) (λ x0. Some (Again x0)) s e in
     let k0 = large_word w0 a0.0 a0.1 in
-    subst IsKept (same_some (Again a0.0) s a0.2) (record { again = rw (k0.again) refl; plain = rw (k0.plain) refl })
+    subst IsSaidStep (same_some (Again a0.0) s a0.2) (record { again = rw (k0.again) refl; plain = rw (k0.plain) refl })
 again_kept _ s e = absurd cc
 
-crash_kept : (more : List (List ℕ)) (s : Step) → crash_in more ≡ Some s → IsKept s
+crash_kept : (more : List (List ℕ)) (s : Step) → crash_in more ≡ Some s → IsSaidStep s
 unfolding crash_in step_in key_of more_of
 crash_kept (w0 ∷ []) s e =
     let a0 = bind_some (id_in w0) (λ x0. Some (Crash x0)) s e in
     let k0 = id_word w0 a0.0 a0.1 in
-    subst IsKept (same_some (Crash a0.0) s a0.2) (record { again = rw (k0.again) refl; plain = rw (k0.plain) refl })
+    subst IsSaidStep (same_some (Crash a0.0) s a0.2) (record { again = rw (k0.again) refl; plain = rw (k0.plain) refl })
 crash_kept _ s e = absurd cc
 
-forge_kept : (more : List (List ℕ)) (s : Step) → forge_in more ≡ Some s → IsKept s
+forge_kept : (more : List (List ℕ)) (s : Step) → forge_in more ≡ Some s → IsSaidStep s
 unfolding forge_in step_in key_of more_of
 forge_kept (w0 ∷ w1 ∷ w2 ∷ []) s e =
     let a0 = bind_some (id_in w0) (λ x0. id_in w1 >>= λ x1. bytes_in w2 >>= λ x2. Some (Forge x0 x1 x2)) s e in
@@ -215,78 +215,78 @@ forge_kept (w0 ∷ w1 ∷ w2 ∷ []) s e =
     let k0 = id_word w0 a0.0 a0.1 in
     let k1 = id_word w1 a1.0 a1.1 in
     let k2 = bytes_word w2 a2.0 a2.1 in
-    subst IsKept (same_some (Forge a0.0 a1.0 a2.0) s a2.2) (record { again = rw (k0.again, k1.again, k2.again) refl; plain = rw (k0.plain, k1.plain, k2.plain) refl })
+    subst IsSaidStep (same_some (Forge a0.0 a1.0 a2.0) s a2.2) (record { again = rw (k0.again, k1.again, k2.again) refl; plain = rw (k0.plain, k1.plain, k2.plain) refl })
 forge_kept _ s e = absurd cc
 
-lose_kept : (more : List (List ℕ)) (s : Step) → lose_in more ≡ Some s → IsKept s
+lose_kept : (more : List (List ℕ)) (s : Step) → lose_in more ≡ Some s → IsSaidStep s
 unfolding lose_in step_in key_of more_of
-lose_kept [] s e = subst IsKept (same_some Lose s e) (record { again = refl; plain = refl })
+lose_kept [] s e = subst IsSaidStep (same_some Lose s e) (record { again = refl; plain = refl })
 lose_kept _ s e = absurd cc
 
-settle_kept : (more : List (List ℕ)) (s : Step) → settle_in more ≡ Some s → IsKept s
+settle_kept : (more : List (List ℕ)) (s : Step) → settle_in more ≡ Some s → IsSaidStep s
 unfolding settle_in step_in key_of more_of
-settle_kept [] s e = subst IsKept (same_some Settle s e) (record { again = refl; plain = refl })
+settle_kept [] s e = subst IsSaidStep (same_some Settle s e) (record { again = refl; plain = refl })
 settle_kept _ s e = absurd cc
 
-finish_kept : (more : List (List ℕ)) (s : Step) → finish_in more ≡ Some s → IsKept s
+finish_kept : (more : List (List ℕ)) (s : Step) → finish_in more ≡ Some s → IsSaidStep s
 unfolding finish_in step_in key_of more_of
-finish_kept [] s e = subst IsKept (same_some Finish s e) (record { again = refl; plain = refl })
+finish_kept [] s e = subst IsSaidStep (same_some Finish s e) (record { again = refl; plain = refl })
 finish_kept _ s e = absurd cc
 
-invitation_kept : (f t n : ℕ) → IsWord id_in decimal f → IsWord id_in decimal t → IsWord poll_in decimal n → (more : List (List ℕ)) (s : Step) → invitation_said f t n more ≡ Some s → IsKept s
+invitation_kept : (f t n : ℕ) → IsWord id_in decimal f → IsWord id_in decimal t → IsWord poll_in decimal n → (more : List (List ℕ)) (s : Step) → invitation_said f t n more ≡ Some s → IsSaidStep s
 unfolding invitation_said say_in said_in step_in key_of more_of
 invitation_kept f t n kf kt kn (w0 ∷ []) s e =
     let a0 = bind_some (id_in w0) (λ x0. Some (SayPoll f t n x0)) s e in
     let k0 = id_word w0 a0.0 a0.1 in
-    subst IsKept (same_some (SayPoll f t n a0.0) s a0.2) (record { again = rw (kf.again, kt.again, kn.again, k0.again) refl; plain = rw (kf.plain, kt.plain, kn.plain, k0.plain) refl })
+    subst IsSaidStep (same_some (SayPoll f t n a0.0) s a0.2) (record { again = rw (kf.again, kt.again, kn.again, k0.again) refl; plain = rw (kf.plain, kt.plain, kn.plain, k0.plain) refl })
 invitation_kept f t n kf kt kn _ s e = absurd cc
 
-proof_kept : (f t n : ℕ) → IsWord id_in decimal f → IsWord id_in decimal t → IsWord poll_in decimal n → (more : List (List ℕ)) (s : Step) → proof_said f t n more ≡ Some s → IsKept s
+proof_kept : (f t n : ℕ) → IsWord id_in decimal f → IsWord id_in decimal t → IsWord poll_in decimal n → (more : List (List ℕ)) (s : Step) → proof_said f t n more ≡ Some s → IsSaidStep s
 unfolding proof_said say_in said_in step_in key_of more_of
 proof_kept f t n kf kt kn [] s e =
-    subst IsKept (same_some (SayProof f t n) s e) (record { again = rw (kf.again, kt.again, kn.again) refl; plain = rw (kf.plain, kt.plain, kn.plain) refl })
+    subst IsSaidStep (same_some (SayProof f t n) s e) (record { again = rw (kf.again, kt.again, kn.again) refl; plain = rw (kf.plain, kt.plain, kn.plain) refl })
 proof_kept f t n kf kt kn _ s e = absurd cc
 
-request_kept : (f t n : ℕ) → IsWord id_in decimal f → IsWord id_in decimal t → IsWord poll_in decimal n → (more : List (List ℕ)) (s : Step) → request_said f t n more ≡ Some s → IsKept s
+request_kept : (f t n : ℕ) → IsWord id_in decimal f → IsWord id_in decimal t → IsWord poll_in decimal n → (more : List (List ℕ)) (s : Step) → request_said f t n more ≡ Some s → IsSaidStep s
 unfolding request_said say_in said_in step_in key_of more_of
 request_kept f t n kf kt kn (w0 ∷ []) s e =
     let a0 = bind_some (index_in w0) (λ x0. Some (SayRequest f t n x0)) s e in
     let k0 = index_word w0 a0.0 a0.1 in
-    subst IsKept (same_some (SayRequest f t n a0.0) s a0.2) (record { again = rw (kf.again, kt.again, kn.again, k0.again) refl; plain = rw (kf.plain, kt.plain, kn.plain, k0.plain) refl })
+    subst IsSaidStep (same_some (SayRequest f t n a0.0) s a0.2) (record { again = rw (kf.again, kt.again, kn.again, k0.again) refl; plain = rw (kf.plain, kt.plain, kn.plain, k0.plain) refl })
 request_kept f t n kf kt kn _ s e = absurd cc
 
-receipt_kept : (f t n : ℕ) → IsWord id_in decimal f → IsWord id_in decimal t → IsWord poll_in decimal n → (more : List (List ℕ)) (s : Step) → receipt_said f t n more ≡ Some s → IsKept s
+receipt_kept : (f t n : ℕ) → IsWord id_in decimal f → IsWord id_in decimal t → IsWord poll_in decimal n → (more : List (List ℕ)) (s : Step) → receipt_said f t n more ≡ Some s → IsSaidStep s
 unfolding receipt_said say_in said_in step_in key_of more_of
 receipt_kept f t n kf kt kn [] s e =
-    subst IsKept (same_some (SayReceipt f t n) s e) (record { again = rw (kf.again, kt.again, kn.again) refl; plain = rw (kf.plain, kt.plain, kn.plain) refl })
+    subst IsSaidStep (same_some (SayReceipt f t n) s e) (record { again = rw (kf.again, kt.again, kn.again) refl; plain = rw (kf.plain, kt.plain, kn.plain) refl })
 receipt_kept f t n kf kt kn _ s e = absurd cc
 
-challenge_kept : (f t n : ℕ) → IsWord id_in decimal f → IsWord id_in decimal t → IsWord poll_in decimal n → (more : List (List ℕ)) (s : Step) → challenge_said f t n more ≡ Some s → IsKept s
+challenge_kept : (f t n : ℕ) → IsWord id_in decimal f → IsWord id_in decimal t → IsWord poll_in decimal n → (more : List (List ℕ)) (s : Step) → challenge_said f t n more ≡ Some s → IsSaidStep s
 unfolding challenge_said say_in said_in step_in key_of more_of
 challenge_kept f t n kf kt kn (w0 ∷ []) s e =
     let a0 = bind_some (answer_in w0) (λ x0. Some (SayChallenge f t n x0)) s e in
     let k0 = answer_word w0 a0.0 a0.1 in
-    subst IsKept (same_some (SayChallenge f t n a0.0) s a0.2) (record { again = rw (kf.again, kt.again, kn.again, k0.again) refl; plain = rw (kf.plain, kt.plain, kn.plain, k0.plain) refl })
+    subst IsSaidStep (same_some (SayChallenge f t n a0.0) s a0.2) (record { again = rw (kf.again, kt.again, kn.again, k0.again) refl; plain = rw (kf.plain, kt.plain, kn.plain, k0.plain) refl })
 challenge_kept f t n kf kt kn _ s e = absurd cc
 
-repair_kept : (f t n : ℕ) → IsWord id_in decimal f → IsWord id_in decimal t → IsWord poll_in decimal n → (more : List (List ℕ)) (s : Step) → repair_said f t n more ≡ Some s → IsKept s
+repair_kept : (f t n : ℕ) → IsWord id_in decimal f → IsWord id_in decimal t → IsWord poll_in decimal n → (more : List (List ℕ)) (s : Step) → repair_said f t n more ≡ Some s → IsSaidStep s
 unfolding repair_said say_in said_in step_in key_of more_of
 repair_kept f t n kf kt kn (w0 ∷ w1 ∷ []) s e =
     let a0 = bind_some (index_in w0) (λ x0. block_in w1 >>= λ x1. Some (SayRepair f t n x0 x1)) s e in
     let a1 = bind_some (block_in w1) (λ x1. Some (SayRepair f t n a0.0 x1)) s a0.2 in
     let k0 = index_word w0 a0.0 a0.1 in
     let k1 = block_word w1 a1.0 a1.1 in
-    subst IsKept (same_some (SayRepair f t n a0.0 a1.0) s a1.2) (record { again = rw (kf.again, kt.again, kn.again, k0.again, k1.again) refl; plain = rw (kf.plain, kt.plain, kn.plain, k0.plain, k1.plain) refl })
+    subst IsSaidStep (same_some (SayRepair f t n a0.0 a1.0) s a1.2) (record { again = rw (kf.again, kt.again, kn.again, k0.again, k1.again) refl; plain = rw (kf.plain, kt.plain, kn.plain, k0.plain, k1.plain) refl })
 repair_kept f t n kf kt kn _ s e = absurd cc
 
-nominees_kept : (f t n : ℕ) → IsWord id_in decimal f → IsWord id_in decimal t → IsWord poll_in decimal n → (more : List (List ℕ)) (s : Step) → nominees_said f t n more ≡ Some s → IsKept s
+nominees_kept : (f t n : ℕ) → IsWord id_in decimal f → IsWord id_in decimal t → IsWord poll_in decimal n → (more : List (List ℕ)) (s : Step) → nominees_said f t n more ≡ Some s → IsSaidStep s
 unfolding nominees_said say_in said_in step_in key_of more_of
 nominees_kept f t n kf kt kn more s e =
     let a = bind_some (each_in id_in more) (λ ids. Some (SayNominate f t n ids)) s e in
     let fit = ids_fit more a.0 a.1 in
-    subst IsKept (same_some (SayNominate f t n a.0) s a.2) (record { again = rw (kf.again, kt.again, kn.again, ids_again a.0 fit) refl; plain = rw (kf.plain, kt.plain, kn.plain, ids_plain a.0 fit) refl })
+    subst IsSaidStep (same_some (SayNominate f t n a.0) s a.2) (record { again = rw (kf.again, kt.again, kn.again, ids_again a.0 fit) refl; plain = rw (kf.plain, kt.plain, kn.plain, ids_plain a.0 fit) refl })
 
-vote_kept : (f t n : ℕ) → IsWord id_in decimal f → IsWord id_in decimal t → IsWord poll_in decimal n → (more : List (List ℕ)) (s : Step) → vote_said f t n more ≡ Some s → IsKept s
+vote_kept : (f t n : ℕ) → IsWord id_in decimal f → IsWord id_in decimal t → IsWord poll_in decimal n → (more : List (List ℕ)) (s : Step) → vote_said f t n more ≡ Some s → IsSaidStep s
 unfolding vote_said say_in said_in step_in key_of more_of
 vote_kept f t n kf kt kn (w0 ∷ of ∷ w1 ∷ []) s e =
     let a0 = bind_some (id_in w0) (λ a. blocks_in w1 >>= λ bs. cond (bytes_eq of (codes "of")) (Some (SayVote f t n a bs)) None) s e in
@@ -294,10 +294,10 @@ vote_kept f t n kf kt kn (w0 ∷ of ∷ w1 ∷ []) s e =
     let a2 = if_some (bytes_eq of (codes "of")) (Some (SayVote f t n a0.0 a1.0)) s a1.2 in
     let k0 = id_word w0 a0.0 a0.1 in
     let k1 = blocks_word w1 a1.0 a1.1 in
-    subst IsKept (same_some (SayVote f t n a0.0 a1.0) s a2.1) (record { again = rw (kf.again, kt.again, kn.again, k0.again, k1.again) refl; plain = rw (kf.plain, kt.plain, kn.plain, k0.plain, k1.plain) refl })
+    subst IsSaidStep (same_some (SayVote f t n a0.0 a1.0) s a2.1) (record { again = rw (kf.again, kt.again, kn.again, k0.again, k1.again) refl; plain = rw (kf.plain, kt.plain, kn.plain, k0.plain, k1.plain) refl })
 vote_kept f t n kf kt kn _ s e = absurd cc
 
-said_kept : (what : List ℕ) (f t n : ℕ) → IsWord id_in decimal f → IsWord id_in decimal t → IsWord poll_in decimal n → (more : List (List ℕ)) (s : Step) → said_in what f t n more ≡ Some s → IsKept s
+said_kept : (what : List ℕ) (f t n : ℕ) → IsWord id_in decimal f → IsWord id_in decimal t → IsWord poll_in decimal n → (more : List (List ℕ)) (s : Step) → said_in what f t n more ≡ Some s → IsSaidStep s
 unfolding said_in
 said_kept what f t n kf kt kn more s e =
     either (bytes_eq what (codes "poll")) (invitation_said f t n more) _ s (invitation_kept f t n kf kt kn more s) (
@@ -309,7 +309,7 @@ said_kept what f t n kf kt kn more s e =
     either (bytes_eq what (codes "vote")) (vote_said f t n more) _ s (vote_kept f t n kf kt kn more s) (
     either (bytes_eq what (codes "repair")) (repair_said f t n more) None s (repair_kept f t n kf kt kn more s) (λ h. absurd cc)))))))) e
 
-say_kept : (more : List (List ℕ)) (s : Step) → say_in more ≡ Some s → IsKept s
+say_kept : (more : List (List ℕ)) (s : Step) → say_in more ≡ Some s → IsSaidStep s
 unfolding say_in
 say_kept (from ∷ what ∷ to ∷ number ∷ more) s e =
     let f = bind_some (id_in from) (λ f. id_in to >>= λ t. poll_in number >>= λ n. said_in what f t n more) s e in
@@ -319,17 +319,17 @@ say_kept (from ∷ what ∷ to ∷ number ∷ more) s e =
 say_kept _ s e = absurd cc
 
 -- once without a count, and else with it
-times_kept : (n : ℕ) (once : Bool) → eqb n 1 ≡ once → IsWord (number_in 65535) decimal n → IsKept (Next n)
+times_kept : (n : ℕ) (once : Bool) → eqb n 1 ≡ once → IsWord (number_in 65535) decimal n → IsSaidStep (Next n)
 unfolding next_in step_in key_of more_of times_words
 times_kept n true is w = record { again = rw is (ap (λ (k : ℕ). Some (Next k)) (sym (eqb-true n 1 is))); plain = rw is refl }
 times_kept n false is w = record { again = rw (is, w.again) refl; plain = rw (is, w.plain) refl }
 
-next_kept : (more : List (List ℕ)) (s : Step) → next_in more ≡ Some s → IsKept s
+next_kept : (more : List (List ℕ)) (s : Step) → next_in more ≡ Some s → IsSaidStep s
 unfolding next_in step_in key_of more_of times_words
-next_kept [] s e = subst IsKept (same_some (Next 1) s e) (record { again = refl; plain = refl })
+next_kept [] s e = subst IsSaidStep (same_some (Next 1) s e) (record { again = refl; plain = refl })
 next_kept (w0 ∷ []) s e =
     let a = bind_some (number_in 65535 w0) (λ n. Some (Next n)) s e in
-    subst IsKept (same_some (Next a.0) s a.2) (times_kept a.0 (eqb a.0 1) refl (small_word w0 a.0 a.1))
+    subst IsSaidStep (same_some (Next a.0) s a.2) (times_kept a.0 (eqb a.0 1) refl (small_word w0 a.0 a.1))
 next_kept _ s e = absurd cc
 
 -- ---- what is cut off
@@ -378,7 +378,7 @@ cut_step_kept key more s e =
     either (bytes_eq key (codes "next")) (cut_next_in more) _ s (cut_next_kept more s) (
     either (bytes_eq key (codes "again")) (cut_again_in more) _ s (cut_again_kept more s) (cut_own_kept key more s)) e
 
-cut_kept : (more : List (List ℕ)) (s : Step) → cut_in more ≡ Some s → IsKept s
+cut_kept : (more : List (List ℕ)) (s : Step) → cut_in more ≡ Some s → IsSaidStep s
 unfolding cut_in step_in key_of more_of
 cut_kept (w0 ∷ w1 ∷ key ∷ more) s e =
     let a0 = bind_some (number_in 255 w0) (λ k. number_in 255 w1 >>= λ c. cut_step_in key more >>= λ x. Some (Cut k c x)) s e in
@@ -387,7 +387,7 @@ cut_kept (w0 ∷ w1 ∷ key ∷ more) s e =
     let k0 = byte_word w0 a0.0 a0.1 in
     let k1 = byte_word w1 a1.0 a1.1 in
     let k2 = cut_step_kept key more a2.0 a2.1 in
-    subst IsKept (same_some (Cut a0.0 a1.0 a2.0) s a2.2) (record { again = rw (k0.again, k1.again, k2.again) refl; plain = rw (k0.plain, k1.plain, k2.plain) refl })
+    subst IsSaidStep (same_some (Cut a0.0 a1.0 a2.0) s a2.2) (record { again = rw (k0.again, k1.again, k2.again) refl; plain = rw (k0.plain, k1.plain, k2.plain) refl })
 cut_kept _ s e = absurd cc
 
 -- ---- a peer's own step as a step of the script
@@ -406,16 +406,16 @@ as_own (peers.Check peer) = refl
 as_own (peers.Tune peer quorum minority repairs) = refl
 as_own (peers.Deliver envelope judged) = refl
 
-peer_kept : (key : List ℕ) (more : List (List ℕ)) (s : Step) → peer_step_in key more ≡ Some s → IsKept s
+peer_kept : (key : List ℕ) (more : List (List ℕ)) (s : Step) → peer_step_in key more ≡ Some s → IsSaidStep s
 unfolding peer_step_in key_of more_of
 peer_kept key more s e =
     let a = bind_some (own_step_in key more) (λ x. Some (Peer x)) s e in
     let k = own_kept key more a.0 a.1 in
-    subst IsKept (same_some (Peer a.0) s a.2) (record { again = as_own a.0 ∙ ap (λ (o : Option PeerStep). o >>= λ x. Some (Peer x)) k.again; plain = k.plain })
+    subst IsSaidStep (same_some (Peer a.0) s a.2) (record { again = as_own a.0 ∙ ap (λ (o : Option PeerStep). o >>= λ x. Some (Peer x)) k.again; plain = k.plain })
 
 -- ---- all forms
 
-pub step_kept : (key : List ℕ) (more : List (List ℕ)) (s : Step) → step_in key more ≡ Some s → IsKept s
+pub step_kept : (key : List ℕ) (more : List (List ℕ)) (s : Step) → step_in key more ≡ Some s → IsSaidStep s
 unfolding step_in
 step_kept key more s e =
     either (bytes_eq key (codes "tick")) (tick_in more) _ s (tick_kept more s) (
@@ -436,7 +436,7 @@ weaker_each (w ∷ words) h =
     and_from (are_above 32 w) _ (weaker 32 43 w (omega arith) p.0) (weaker_each words p.1)
 
 -- its line is split into its words
-pub step_parts : (s : Step) → IsKept s → parts 32 (key_of s ++ spaced (more_of s)) ≡ key_of s ∷ more_of s
+pub step_parts : (s : Step) → IsSaidStep s → parts 32 (key_of s ++ spaced (more_of s)) ≡ key_of s ∷ more_of s
 step_parts s kept =
     let p = and_parts (are_above 43 (key_of s)) (are_plain (more_of s)) kept.plain in
     words_part (key_of s) (more_of s) (weaker 32 43 (key_of s) (omega arith) p.0) (weaker_each (more_of s) p.1)

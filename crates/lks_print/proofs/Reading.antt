@@ -82,7 +82,7 @@ none_behind (step ∷ steps) = ap (λ (more : List Step). step ∷ more) (none_b
 
 pub one_more : (plan : Plan) (before : List Step) (step : Step) → CanFollow plan before step → steps_with plan before (key_of step) (more_of step) ≡ Some (before ++ step ∷ [])
 unfolding steps_with
-one_more plan before step can = rw (can.kept.again, can.stands) refl
+one_more plan before step can = rw (can.said.again, can.stands) refl
 
 named_own : (step : PeerStep) → leb 1 (length (own_key step)) ≡ true
 unfolding own_key
@@ -123,7 +123,7 @@ named_step (Cut calls choice step) = refl
 step_reads : (plan : Plan) (before : List Step) (step : Step) (rest : List ℕ) (script : Script) → CanFollow plan before step → Reads (Stepped plan (before ++ step ∷ [])) rest script → Reads (Stepped plan before) (printed.step_line step ++ rest) script
 unfolding printed.step_line line_in stepped_line step_line
 step_reads plan before step rest script can =
-    words_read (Stepped plan before) (Stepped plan (before ++ step ∷ [])) (key_of step) (more_of step) rest script (named_step step) can.kept.plain
+    words_read (Stepped plan before) (Stepped plan (before ++ step ∷ [])) (key_of step) (more_of step) rest script (named_step step) can.said.plain
     (ap (λ (o : Option (List Step)). option_map (λ (longer : List Step). Stepped plan longer) o) (one_more plan before step can))
 
 -- nothing behind the last step

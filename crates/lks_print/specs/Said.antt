@@ -18,8 +18,8 @@ use Rattle.lks_print.specs.Steps.{key_of, more_of}
 abbrev pub are_plain : List (List ℕ) → Bool
 are_plain words = list_all (λ w. are_above 43 w) words
 
--- a step that its words say
-pub record IsKept (step : Step) : Type 0 where
+-- a step whose words say it
+pub record IsSaidStep (step : Step) : Type 0 where
   pub again : step_in (key_of step) (more_of step) ≡ Some step
   pub plain : are_plain (key_of step ∷ more_of step) ≡ true
 
@@ -33,13 +33,15 @@ pub record IsSaidPeer (p : PeerPlan) : Type 0 where
 
 -- the step can be said behind these
 pub record CanFollow (plan : Plan) (before : List Step) (step : Step) : Type 0 where
-  pub kept : IsKept step
+  pub said : IsSaidStep step
   pub stands : (is_step_of plan step && has_power_for before step) ≡ true
 
+-- each step can be said behind those before it
 abbrev pub StepsFollow : Plan → List Step → List Step → Type 0
 StepsFollow plan before [] = Unit {0}
 StepsFollow plan before (step ∷ steps) = CanFollow plan before step × StepsFollow plan (before ++ step ∷ []) steps
 
+-- a script that can be said
 pub record IsSaid (s : Script) : Type 0 where
   pub good : plan_fault s.plan ≡ None
   pub peers : All IsSaidPeer s.plan.peers
