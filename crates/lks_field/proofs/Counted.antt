@@ -1,10 +1,14 @@
 -- Lists behind their count: as fields, and as a loop reads them.
 use Rattle.std.proofs.Common.{◌≡◌, ℕ, zero, suc, ◌+◌, ◌-◌, ◌<◌, ◌≤◌, List, [], ◌∷◌, ◌++◌, length, Result, Ok, Err, refl, sym, ap, subst, ◌∙◌, append_assoc, arith}
+use Rattle.std.specs.Prelude.{Bool, true, false, All}
 use Rattle.std.specs.List.{flat_map, AllByRecursion}
 use Rattle.std.proofs.lemmas.List.{append-nil}
 use Rattle.std.proofs.lemmas.List.Concat.{flat_map-cons}
-use Rattle.lks_field.specs.Reading.{◌>>=◌, many_at}
-use Rattle.lks_field.proofs.Takes.{IsBytes, Takes, Takes-then, IsField, bind_ok, ok_is}
+use Rattle.std.proofs.lemmas.List.Elements.{All-from_recursion, recursion_from_All}
+use Rattle.lks_field.specs.declared.fault.FieldFault.{FieldFault}
+use Rattle.lks_field.specs.Reading.{◌>>=◌, bytes_at, many_at, sized_at, list_at, Unless, FailsBut}
+use Rattle.lks_field.proofs.Steps.{Reader}
+use Rattle.lks_field.proofs.Takes.{IsBytes, Takes, Takes-then, IsField, bind_ok, ok_is, field_as, run_field}
 
 -- ---- fields
 
@@ -29,17 +33,17 @@ module _ {X E : Type 0} (reader : List ℕ → Result (X × List ℕ) E) (spell 
       let regrouped : flat_map spell (x ∷ xs) ++ rest ≡ spell x ++ (flat_map spell xs ++ rest) = ap (λ (t : List ℕ). t ++ rest) (flat_map-cons spell x xs) ∙ append_assoc (spell x) (flat_map spell xs) rest in
       ap (many_at reader (suc (length xs))) regrouped ∙ rw (field.again x (flat_map spell xs ++ rest) fits.0, many_again xs rest fits.1) refl
 
-  pub many_field : (n : ℕ) → IsField (many_at reader n) (flat_map spell) (λ xs. (length xs ≡ n) × AllByRecursion Fits xs)
+  many_field : (n : ℕ) → IsField (many_at reader n) (flat_map spell) (λ xs. (length xs ≡ n) × AllByRecursion Fits xs)
   many_field n = record {
     takes = many_takes n;
     again = λ xs rest h. subst (λ (k : ℕ). many_at reader k (flat_map spell xs ++ rest) ≡ Ok (xs, rest)) h.0 (many_again xs rest h.1);
   }
 
 -- a number, and what has that size
-module _ {X E : Type 0} (number : List ℕ → Result (ℕ × List ℕ) E) (spell : ℕ → List ℕ) (Small : ℕ → Type 0) (number_is : IsField number spell Small)
-    (items : ℕ → List ℕ → Result (X × List ℕ) E) (size : X → ℕ) (text : X → List ℕ) (Fits : X → Type 0) (items_are : (n : ℕ) → IsField (items n) text (λ x. (size x ≡ n) × Fits x)) where
-  pub sized_field : IsField (λ bytes. number bytes >>= λ n. items n.0 n.1) (λ x. spell (size x) ++ text x) (λ x. Small (size x) × Fits x)
-  sized_field = record { takes = takes; again = again }
+module _ {X E : Type 0} {number : Reader ℕ E} {spell : ℕ → List ℕ} {Small : ℕ → Type 0} (number_is : IsField number spell Small) {items : ℕ → Reader X E} (size : X → ℕ) {text : X → List ℕ} {Fits : X → Type 0}
+    (items_are : (n : ℕ) → IsField (items n) text (λ x. (size x ≡ n) × Fits x)) where
+  counted_field : IsField (λ bytes. number bytes >>= λ n. items n.0 n.1) (λ x. spell (size x) ++ text x) (λ x. Small (size x) × Fits x)
+  counted_field = record { takes = takes; again = again }
     where
       takes : (bytes : List ℕ) (x : X × List ℕ) → IsBytes bytes → (number bytes >>= λ n. items n.0 n.1) ≡ Ok x → Takes bytes (spell (size x.0) ++ text x.0) x.1 × (Small (size x.0) × Fits x.0)
       takes bytes x fits e =
@@ -53,7 +57,37 @@ module _ {X E : Type 0} (number : List ℕ → Result (ℕ × List ℕ) E) (spel
       again x rest h =
           rw (append_assoc (spell (size x)) (text x) rest, number_is.again (size x) (text x ++ rest) h.0) ((items_are (size x)).again x rest (refl, h.1))
 
+-- bytes behind their length
+pub sized_field : {number : Reader ℕ FieldFault} {spell : ℕ → List ℕ} {Small : ℕ → Type 0} → IsField number spell Small → IsField (sized_at number) (λ x. spell (length x) ++ x) (λ x. Small (length x))
+unfolding sized_at
+sized_field {Small = Small} number_is =
+    field_as (λ x h. h.0) (λ x h. (h, tt)) (counted_field number_is {items = bytes_at} length {text = λ x. x} {Fits = λ x. Unit {0}} (λ n. field_as (λ x h. (h, tt)) (λ x h. h.0) (run_field n)))
+
+-- values behind their count
+pub list_field : {X E : Type 0} {count : Reader ℕ E} {spell_count : ℕ → List ℕ} {Few : ℕ → Type 0} {one : Reader X E} {spell : X → List ℕ} {Fits : X → Type 0} → IsField count spell_count Few → IsField one spell Fits
+    → IsField (list_at count one) (λ xs. spell_count (length xs) ++ flat_map spell xs) (λ xs. Few (length xs) × All Fits xs)
+unfolding list_at
+list_field {one = one} {spell = spell} {Fits = Fits} count_is one_is =
+    field_as (λ xs h. (h.0, All-from_recursion Fits xs h.1)) (λ xs h. (h.0, recursion_from_All Fits xs h.1))
+    (counted_field count_is {items = many_at one} length {text = flat_map spell} {Fits = AllByRecursion Fits} (many_field one spell Fits one_is))
+
 -- ---- loops
+
+-- a call that stops at a fault
+pub stops : {X Y E : Type 0} (free : E → Bool) (fault : E) (one : Result X E) (total : Result Y E) → (one ≡ Err fault → total ≡ Err fault) → FailsBut free fault one → FailsBut free fault total
+stops free fault one total on failed = by_test (free fault) failed
+  where
+    by_test : (b : Bool) → Unless b (one ≡ Err fault) → Unless b (total ≡ Err fault)
+    by_test true h = tt
+    by_test false h = on h
+
+-- the same of a call that takes no memory
+pub fails : {X E : Type 0} (free : E → Bool) (fault : E) (read : Result X E) → read ≡ Err fault → FailsBut free fault read
+fails free fault read e = by_test (free fault)
+  where
+    by_test : (b : Bool) → Unless b (read ≡ Err fault)
+    by_test true = tt
+    by_test false = e
 
 module _ {X E : Type 0} (reader : List ℕ → Result (X × List ℕ) E) where
   -- what was read before, and what is still read

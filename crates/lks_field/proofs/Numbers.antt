@@ -1,13 +1,15 @@
 -- Big-endian numbers as fields.
-use Rattle.std.proofs.Common.{◌≡◌, ℕ, ◌^◌, ◌<◌, ◌≤◌, false, cond, ltb, List, ◌++◌, length, take, drop, Result, Ok, Err, refl, sym, subst, arith}
+use Rattle.std.proofs.Common.{◌≡◌, ℕ, zero, suc, ◌^◌, ◌<◌, ◌≤◌, false, eqb, ltb, List, [], ◌∷◌, ◌++◌, length, take, drop, Ok, refl, sym, subst, arith}
 use Rattle.std.specs.Int.{Width, w16, w32, byte_len, from_be_bytes, to_be_bytes}
 use Rattle.std.proofs.lemmas.Bool.{ltb-false, le-ltb}
 use Rattle.std.proofs.lemmas.List.{take_at, drop_at, take-append-drop, length-append, length-take}
 use Rattle.std.proofs.lemmas.Nat.{be_bytes_2, be_bytes_4, from_be_bytes-to_be_bytes_2, from_be_bytes-to_be_bytes_4}
 use Rattle.lks_field.specs.declared.fault.FieldFault.{FieldFault}
 use Rattle.lks_field.specs.declared.fault.FieldFault.TheVariants.{Short, Value}
-use Rattle.lks_field.specs.Reading.{number_at, upto_at}
-use Rattle.lks_field.proofs.Takes.{IsBytes, IsBytes-take, IsBytes-drop, Takes, IsField, bind_ok, guard_ok}
+use Rattle.lks_field.specs.Reading.{byte_at, number_at, upto_at}
+use Rattle.lks_field.specs.Spelling.{flag}
+use Rattle.lks_field.proofs.Steps.{Reader, guarded_field}
+use Rattle.lks_field.proofs.Takes.{IsBytes, IsBytes-take, IsBytes-drop, Takes, IsField, guard_ok, field_as, byte_field}
 
 pub record IsWide (w : Width) (limit : ℕ) : Type 0 where
   pub len : (n : ℕ) → length (to_be_bytes w n) ≡ byte_len w
@@ -56,18 +58,18 @@ pub be32_field : IsField (number_at w32) (to_be_bytes w32) (λ n. n < 2 ^ 32)
 be32_field = number_field w32 (2 ^ 32) wide32
 
 -- a limit below that of the field itself
-pub upto_field : (most limit : ℕ) (reader : List ℕ → Result (ℕ × List ℕ) FieldFault) (spell : ℕ → List ℕ) → most < limit → IsField reader spell (λ n. n < limit) → IsField (upto_at most reader) spell (λ n. n ≤ most)
+upto_field : (most limit : ℕ) {reader : Reader ℕ FieldFault} {spell : ℕ → List ℕ} → most < limit → IsField reader spell (λ n. n < limit) → IsField (upto_at most reader) spell (λ n. n ≤ most)
 unfolding upto_at
-upto_field most limit reader spell lt field = record { takes = takes; again = again }
-  where
-    takes : (bytes : List ℕ) (x : ℕ × List ℕ) → IsBytes bytes → upto_at most reader bytes ≡ Ok x → Takes bytes (spell x.0) x.1 × (x.0 ≤ most)
-    takes bytes x fits e =
-        let a = bind_ok (reader bytes) (λ n. cond (ltb most n.0) (Err Value) (Ok n)) x e in
-        let g = guard_ok (ltb most a.0.0) Value a.0 x a.2 in
-        let t = field.takes bytes a.0 fits a.1 in
-        subst (λ (y : ℕ × List ℕ). Takes bytes (spell y.0) y.1 × (y.0 ≤ most)) g.1 (t.0, ltb-false _ _ g.0)
+upto_field most limit lt field = field_as (λ n h. ltb-false most n h.1) (λ n le. (omega (arith, lt, le), le-ltb most n le)) (guarded_field Value (λ n. ltb most n) field)
 
-    again : (n : ℕ) (rest : List ℕ) → n ≤ most → upto_at most reader (spell n ++ rest) ≡ Ok (n, rest)
-    again n rest le =
-        let small : ltb most n ≡ false = le-ltb _ _ le in
-        rw (field.again n rest (omega arith), small) refl
+pub u8_upto : (most : ℕ) → most < 256 → IsField (upto_at most byte_at) (λ b. b ∷ []) (λ n. n ≤ most)
+u8_upto most lt = upto_field most 256 lt byte_field
+
+pub be16_upto : (most : ℕ) → most < 2 ^ 16 → IsField (upto_at most (number_at w16)) (to_be_bytes w16) (λ n. n ≤ most)
+be16_upto most lt = upto_field most (2 ^ 16) lt be16_field
+
+-- a number that is the byte of yes or no
+pub flag_is : (n : ℕ) → n ≤ 1 → n ≡ flag (eqb n 1)
+flag_is zero le = refl
+flag_is (suc zero) le = refl
+flag_is (suc (suc n)) le = absurd (omega arith)

@@ -1,10 +1,10 @@
 -- What a field takes from the front of the bytes, and that what was written is read again.
-use Rattle.std.proofs.Common.{◌≡◌, ℕ, suc, ◌+◌, ◌<◌, ◌≤◌, Bool, true, false, cond, ltb, List, [], ◌∷◌, ◌++◌, length, get_or, take, drop, Result, Ok, Err, refl, sym, ap, subst, ◌∙◌, append_assoc, arith, inl, inr}
-use Rattle.std.proofs.lemmas.Bool.{cases_lt, ltb-false, le-ltb}
+use Rattle.std.proofs.Common.{◌≡◌, ℕ, suc, ◌+◌, ◌<◌, ◌≤◌, Bool, true, false, cond, eqb, ltb, List, [], ◌∷◌, ◌++◌, length, get_or, take, drop, Result, Ok, Err, refl, sym, ap, subst, ◌∙◌, append_assoc, arith, inl, inr}
+use Rattle.std.proofs.lemmas.Bool.{cases_lt, eq-eqb, eqb-true, ltb-false, le-ltb}
 use Rattle.std.proofs.lemmas.List.{take_at, drop_at, take-append-drop, length-append, length-take, get_or-drop, get_or-take, get_or_past}
 use Rattle.lks_field.specs.declared.fault.FieldFault.{FieldFault}
-use Rattle.lks_field.specs.declared.fault.FieldFault.TheVariants.{Short}
-use Rattle.lks_field.specs.Reading.{◌>>=◌, told, byte_at, bytes_at, hash_at}
+use Rattle.lks_field.specs.declared.fault.FieldFault.TheVariants.{Short, Value}
+use Rattle.lks_field.specs.Reading.{◌>>=◌, told, byte_at, given_at, bytes_at, hash_at}
 
 abbrev pub IsBytes : List ℕ → Type 0
 IsBytes bytes = (i : ℕ) → get_or bytes i 0 < 256
@@ -55,10 +55,17 @@ pub record IsField {X E : Type 0} (reader : List ℕ → Result (X × List ℕ) 
   pub again : (x : X) (rest : List ℕ) → Fits x → reader (spell x ++ rest) ≡ Ok (x, rest)
 
 -- the same with its fault told as another
-pub told_field : {X D E : Type 0} (f : D → E) (reader : List ℕ → Result (X × List ℕ) D) (spell : X → List ℕ) (Fits : X → Type 0) → IsField reader spell Fits → IsField (λ bytes. told f (reader bytes)) spell Fits
-told_field f reader spell Fits field = record {
+pub told_field : {X D E : Type 0} {reader : List ℕ → Result (X × List ℕ) D} {spell : X → List ℕ} {Fits : X → Type 0} (f : D → E) → IsField reader spell Fits → IsField (λ bytes. told f (reader bytes)) spell Fits
+told_field {reader = reader} f field = record {
   takes = λ bytes x fits e. field.takes bytes x fits (told_ok f (reader bytes) x e);
   again = λ x rest h. ap (told f) (field.again x rest h);
+}
+
+-- the same under a fact that says as much
+pub field_as : {X E : Type 0} {reader : List ℕ → Result (X × List ℕ) E} {spell : X → List ℕ} {F G : X → Type 0} → ((x : X) → F x → G x) → ((x : X) → G x → F x) → IsField reader spell F → IsField reader spell G
+field_as there back field = record {
+  takes = λ bytes x fits e. let t = field.takes bytes x fits e in (t.0, there x.0 t.1);
+  again = λ x rest h. field.again x rest (back x h);
 }
 
 -- ---- bytes
@@ -70,6 +77,19 @@ byte_field = record { takes = takes; again = λ b rest h. refl }
     takes [] x fits e = absurd cc
     takes (b ∷ rest) x fits e =
         subst (λ (y : ℕ × List ℕ). Takes (b ∷ rest) (y.0 ∷ []) y.1 × (y.0 < 256)) (ok_is {E = FieldFault} (b, rest) x e) (record { parts = refl; rest_fits = λ i. fits (suc i) }, fits 0)
+
+pub given_field : (given : ℕ) → IsField (given_at given) (λ x. given ∷ []) (λ x. Unit {0})
+unfolding given_at
+given_field given = record { takes = takes; again = λ x rest h. rw (eq-eqb given given refl) refl }
+  where
+    takes : (bytes : List ℕ) (x : Unit {0} × List ℕ) → IsBytes bytes → given_at given bytes ≡ Ok x → Takes bytes (given ∷ []) x.1 × Unit {0}
+    takes [] x fits e = absurd cc
+    takes (b ∷ rest) x fits e = by_test (eqb b given) refl e
+      where
+        by_test : (same : Bool) → eqb b given ≡ same → cond same (Ok (tt, rest)) (Err Value) ≡ Ok x → Takes (b ∷ rest) (given ∷ []) x.1 × Unit {0}
+        by_test true same found =
+            subst (λ (y : Unit {0} × List ℕ). Takes (b ∷ rest) (given ∷ []) y.1 × Unit {0}) (ok_is {E = FieldFault} (tt, rest) x found) (record { parts = ap (λ (k : ℕ). k ∷ rest) (eqb-true b given same); rest_fits = λ i. fits (suc i) }, tt)
+        by_test false same found = absurd cc
 
 pub run_field : (n : ℕ) → IsField (bytes_at n) (λ x. x) (λ x. length x ≡ n)
 run_field n = record { takes = takes; again = again }
@@ -90,10 +110,3 @@ run_field n = record { takes = takes; again = again }
 pub hash_field : IsField hash_at (λ x. x) (λ x. length x ≡ 32)
 unfolding hash_at
 hash_field = run_field 32
-
--- the same under a fact that says as much
-pub field_as : {X E : Type 0} (reader : List ℕ → Result (X × List ℕ) E) (spell : X → List ℕ) (F G : X → Type 0) → ((x : X) → F x → G x) → ((x : X) → G x → F x) → IsField reader spell F → IsField reader spell G
-field_as reader spell F G there back field = record {
-  takes = λ bytes x fits e. let t = field.takes bytes x fits e in (t.0, there x.0 t.1);
-  again = λ x rest h. field.again x rest (back x h);
-}

@@ -2,6 +2,7 @@
 #![tactic(auto)]
 
 mod fault;
+mod lists;
 mod memory;
 mod reading;
 mod writing;
@@ -9,7 +10,7 @@ mod writing;
 pub use fault::FieldFault;
 pub use memory::OutOfMemory;
 pub use reading::Fields;
-pub use writing::{put_be16, put_be32, put_bytes, put_u8};
+pub use writing::{put_be16, put_be32, put_bytes, put_hashes, put_numbers, put_sized, put_u8};
 
 #[cfg(test)]
 mod tests;

@@ -2,7 +2,7 @@
 
 ghost use Rattle.std.specs.Prelude.{◌≡◌, ℕ, List, drop, OnErr, IsErrOf};
 ghost use Rattle.std.specs.Int.{w16, w32};
-ghost use Rattle.lks_field.specs.Reading.{Reads, ReadsBy, byte_at, bytes_at, hash_at, number_at, upto_at, end_of};
+ghost use Rattle.lks_field.specs.Reading.{Reads, ReadsBy, byte_at, given_at, bytes_at, hash_at, number_at, upto_at, end_of};
 
 use crate::fault::FieldFault;
 use std::marker::Model;
@@ -35,6 +35,33 @@ impl<'a> Fields<'a> {
         };
         self.bytes = rest;
         Ok(*byte)
+    }
+
+    /// A byte of at most `most`. One above that is taken all the same.
+    #[tactic(auto, unfolding(crate::specs::Reading::upto_at))]
+    pub fn get_u8_upto(&mut self, most: u8) -> Result<u8, FieldFault>
+        ensures read { Reads result self.new (upto_at most byte_at self.old) }
+        ensures short { IsErrOf result FieldFault.Short → self.new ≡ self.old }
+        ensures value { IsErrOf result FieldFault.Value → self.new ≡ drop 1 self.old }
+    {
+        let byte = self.get_u8()?;
+        if byte > most {
+            return Err(FieldFault::Value);
+        }
+        Ok(byte)
+    }
+
+    /// The byte `given`. Another one is taken all the same.
+    #[tactic(auto, unfolding(crate::specs::Reading::given_at))]
+    pub fn get_given(&mut self, given: u8) -> Result<(), FieldFault>
+        ensures read { Reads result self.new (given_at given self.old) }
+        ensures short { IsErrOf result FieldFault.Short → self.new ≡ self.old }
+        ensures value { IsErrOf result FieldFault.Value → self.new ≡ drop 1 self.old }
+    {
+        if self.get_u8()? != given {
+            return Err(FieldFault::Value);
+        }
+        Ok(())
     }
 
     /// A number of two bytes, the higher one first.

@@ -1,4 +1,3 @@
-pub mod Stops
 pub mod Parts
 pub mod Laws
 pub mod Lengths

@@ -8,7 +8,7 @@ use Rattle.lks_base.specs.declared.messages.Message.{Message}
 use Rattle.lks_base.specs.declared.messages.Message.TheVariants as messages
 use Rattle.lks_base.specs.declared.names.HashKind.{HashKind}
 use Rattle.lks_field.proofs.Takes.{bind_ok, guard_ok, ok_is, told_ok}
-use Rattle.lks_field.specs.Reading.{◌>>=◌, byte_at, bytes_at, hash_at, number_at, upto_at, many_at, end_of}
+use Rattle.lks_field.specs.Reading.{◌>>=◌, byte_at, bytes_at, hash_at, number_at, upto_at, many_at, sized_at, list_at, end_of}
 use Rattle.lks_field.specs.declared.fault.FieldFault.{FieldFault}
 use Rattle.lks_field.specs.declared.fault.FieldFault.TheVariants.{Short, Value}
 use Rattle.lks_message.specs.Faults.{told_as, field}
@@ -22,61 +22,65 @@ use Rattle.lks_message.specs.declared.heading.Heading.TheVariants.{Poll, PollCha
 abbrev Tells : {X E : Type 0} → (List ℕ → Result (X × List ℕ) E) → (X → Type 0) → Type 0
 Tells {X} reader P = (bytes : List ℕ) (x : X × List ℕ) → reader bytes ≡ Ok x → P x.0
 
-upto_tells : (most : ℕ) (reader : List ℕ → Result (ℕ × List ℕ) FieldFault) → Tells (λ bytes. field (upto_at most reader bytes)) (λ n. n ≤ most)
+upto_tells : (most : ℕ) (reader : List ℕ → Result (ℕ × List ℕ) FieldFault) → Tells (upto_at most reader) (λ n. n ≤ most)
 unfolding upto_at
 upto_tells most reader bytes x e =
-    let read = told_ok told_as (upto_at most reader bytes) x e in
-    let a = bind_ok (reader bytes) (λ n. if ltb most n.0 then Err Value else Ok n) x read in
+    let a = bind_ok (reader bytes) (λ n. if ltb most n.0 then Err Value else Ok n) x e in
     let g = guard_ok (ltb most a.0.0) Value a.0 x a.2 in
     subst (λ (y : ℕ × List ℕ). y.0 ≤ most) g.1 (ltb-false _ _ g.0)
 
-run_tells : (n : ℕ) → Tells (λ bytes. field (bytes_at n bytes)) (λ x. length x ≡ n)
+run_tells : (n : ℕ) → Tells (bytes_at n) (λ x. length x ≡ n)
 run_tells n bytes x e =
-    let g = guard_ok (ltb (length bytes) n) Short (take n bytes, drop n bytes) x (told_ok told_as (bytes_at n bytes) x e) in
+    let g = guard_ok (ltb (length bytes) n) Short (take n bytes, drop n bytes) x e in
     let long = ltb-false _ _ g.0 in
     let len : length (take n bytes) ≡ n = omega (arith, length-take n bytes, long) in
     subst (λ (y : List ℕ × List ℕ). length y.0 ≡ n) g.1 len
 
-many_length : {X : Type 0} (reader : List ℕ → Result (X × List ℕ) FieldFault) (n : ℕ) → Tells (many_at reader n) (λ xs. length xs ≡ n)
+many_tells : {X : Type 0} (reader : List ℕ → Result (X × List ℕ) FieldFault) (n : ℕ) → Tells (many_at reader n) (λ xs. length xs ≡ n)
 unfolding many_at
-many_length {X} reader zero bytes x e = subst (λ (y : List X × List ℕ). length y.0 ≡ 0) (ok_is {E = FieldFault} ([], bytes) x e) refl
-many_length {X} reader (suc n) bytes x e =
+many_tells {X} reader zero bytes x e = subst (λ (y : List X × List ℕ). length y.0 ≡ 0) (ok_is {E = FieldFault} ([], bytes) x e) refl
+many_tells {X} reader (suc n) bytes x e =
     let a = bind_ok (reader bytes) (λ first. many_at reader n first.1 >>= λ others. Ok (first.0 ∷ others.0, others.1)) x e in
     let b = bind_ok (many_at reader n a.0.1) (λ others. Ok (a.0.0 ∷ others.0, others.1)) x a.2 in
     let made : List X × List ℕ = (a.0.0 ∷ b.0.0, b.0.1) in
-    subst (λ (y : List X × List ℕ). length y.0 ≡ suc n) (ok_is {E = FieldFault} made x b.2) (ap suc (many_length reader n a.0.1 b.0 b.1))
-
-many_tells : {X : Type 0} (reader : List ℕ → Result (X × List ℕ) FieldFault) (n : ℕ) → Tells (λ bytes. field (many_at reader n bytes)) (λ xs. length xs ≡ n)
-many_tells reader n bytes x e = many_length reader n bytes x (told_ok told_as (many_at reader n bytes) x e)
+    subst (λ (y : List X × List ℕ). length y.0 ≡ suc n) (ok_is {E = FieldFault} made x b.2) (ap suc (many_tells reader n a.0.1 b.0 b.1))
 
 -- a count and as many items
-sized_tells : {X : Type 0} (number : List ℕ → Result (ℕ × List ℕ) MsgFault) (most : ℕ) → Tells number (λ n. n ≤ most) → (items : ℕ → List ℕ → Result (List X × List ℕ) MsgFault)
-    → ((n : ℕ) → Tells (items n) (λ xs. length xs ≡ n)) → Tells (λ bytes. number bytes >>= λ n. items n.0 n.1) (λ xs. length xs ≤ most)
-sized_tells number most few items sized bytes x e =
-    let a = bind_ok (number bytes) (λ n. items n.0 n.1) x e in
-    let count = few bytes a.0 a.1 in
+counted_tells : {X : Type 0} (most : ℕ) (number : List ℕ → Result (ℕ × List ℕ) FieldFault) (items : ℕ → List ℕ → Result (List X × List ℕ) FieldFault)
+    → ((n : ℕ) → Tells (items n) (λ xs. length xs ≡ n)) → Tells (λ bytes. upto_at most number bytes >>= λ n. items n.0 n.1) (λ xs. length xs ≤ most)
+counted_tells most number items sized bytes x e =
+    let a = bind_ok (upto_at most number bytes) (λ n. items n.0 n.1) x e in
+    let count = upto_tells most number bytes a.0 a.1 in
     let len = sized a.0.0 a.0.1 x a.2 in
     omega (arith, count, len)
 
+sized_tells : (most : ℕ) (number : List ℕ → Result (ℕ × List ℕ) FieldFault) → Tells (λ bytes. field (sized_at (upto_at most number) bytes)) (λ x. length x ≤ most)
+unfolding sized_at
+sized_tells most number bytes x e = counted_tells most number bytes_at run_tells bytes x (told_ok told_as (sized_at (upto_at most number) bytes) x e)
+
+list_tells : {X : Type 0} (most : ℕ) (number : List ℕ → Result (ℕ × List ℕ) FieldFault) (reader : List ℕ → Result (X × List ℕ) FieldFault) → Tells (λ bytes. field (list_at (upto_at most number) reader bytes)) (λ xs. length xs ≤ most)
+unfolding list_at
+list_tells most number reader bytes x e = counted_tells most number (many_at reader) (many_tells reader) bytes x (told_ok told_as (list_at (upto_at most number) reader bytes) x e)
+
 proof_tells : Tells proof_at (λ x. length x ≤ MOST_PROOF_BYTES)
 unfolding proof_at
-proof_tells = sized_tells (λ bytes. field (upto_at MOST_PROOF_BYTES byte_at bytes)) MOST_PROOF_BYTES (upto_tells MOST_PROOF_BYTES byte_at) (λ n bytes. field (bytes_at n bytes)) run_tells
+proof_tells = sized_tells MOST_PROOF_BYTES byte_at
 
 nominees_tell : Tells nominees_at (λ x. length x ≤ MOST_NOMINEES)
 unfolding nominees_at
-nominees_tell = sized_tells (λ bytes. field (upto_at MOST_NOMINEES byte_at bytes)) MOST_NOMINEES (upto_tells MOST_NOMINEES byte_at) (λ n bytes. field (many_at (number_at w16) n bytes)) (many_tells (number_at w16))
+nominees_tell = list_tells MOST_NOMINEES byte_at (number_at w16)
 
 hashes_tell : Tells hashes_at (λ x. length x ≤ MOST_BLOCKS)
 unfolding hashes_at
-hashes_tell = sized_tells (λ bytes. field (upto_at MOST_BLOCKS (number_at w16) bytes)) MOST_BLOCKS (upto_tells MOST_BLOCKS (number_at w16)) (λ n bytes. field (many_at hash_at n bytes)) (many_tells hash_at)
+hashes_tell = list_tells MOST_BLOCKS (number_at w16) hash_at
 
 block_tells : Tells block_at (λ n. n ≤ LAST_BLOCK)
 unfolding block_at
-block_tells = upto_tells LAST_BLOCK (number_at w16)
+block_tells bytes x e = upto_tells LAST_BLOCK (number_at w16) bytes x (told_ok told_as (upto_at LAST_BLOCK (number_at w16) bytes) x e)
 
 content_tells : Tells content_at (λ x. length x ≤ MOST_BLOCK_BYTES)
 unfolding content_at
-content_tells = sized_tells (λ bytes. field (upto_at MOST_BLOCK_BYTES (number_at w16) bytes)) MOST_BLOCK_BYTES (upto_tells MOST_BLOCK_BYTES (number_at w16)) (λ n bytes. field (bytes_at n bytes)) run_tells
+content_tells = sized_tells MOST_BLOCK_BYTES (number_at w16)
 
 -- ---- messages
 

@@ -1,17 +1,23 @@
 -- How a field's fault is told of a message.
-use Rattle.std.specs.Prelude.{Result}
+use Rattle.std.specs.Prelude.{Bool, true, false, Result}
 use Rattle.lks_field.specs.declared.fault.FieldFault.{FieldFault}
 use Rattle.lks_field.specs.declared.fault.FieldFault.TheVariants as fields
 use Rattle.lks_field.specs.Reading.{told}
 use Rattle.lks_message.specs.declared.fault.MsgFault.{MsgFault}
-use Rattle.lks_message.specs.declared.fault.MsgFault.TheVariants.{Short, Limit, Trailing}
+use Rattle.lks_message.specs.declared.fault.MsgFault.TheVariants.{Short, Limit, Trailing, Memory}
 
 -- the fault of a message that a fault of a field is
 abbrev pub told_as : FieldFault → MsgFault
 told_as fields.Short = Short
 told_as fields.Value = Limit
 told_as fields.Long = Trailing
+told_as fields.Memory = Memory
 
 -- what is read of a field, with its fault told so
 abbrev pub field : {X : Type 0} → Result X FieldFault → Result X MsgFault
 field read = told told_as read
+
+-- whether it is want of memory
+abbrev pub is_memory : MsgFault → Bool
+is_memory Memory = true
+is_memory fault = false

@@ -1,17 +1,17 @@
 -- Reading a message from left to right, with the first fault that is met.
-use Rattle.std.specs.Prelude.{◌≡◌, ◌==◌, ℕ, List, Result, Ok, Err, if◌then◌else◌}
+use Rattle.std.specs.Prelude.{◌==◌, ℕ, List, Result, Ok, Err, if◌then◌else◌}
 use Rattle.std.specs.Int.{w16, w32}
 use Rattle.lks_base.specs.declared.limits.TheConstants.{LAST_BLOCK, MOST_BLOCKS, MOST_BLOCK_BYTES, MOST_NOMINEES, MOST_PROOF_BYTES}
 use Rattle.lks_base.specs.declared.messages.Message.{Message}
 use Rattle.lks_base.specs.declared.messages.Message.TheVariants as messages
 use Rattle.lks_base.specs.declared.names.HashKind.{HashKind}
 use Rattle.lks_base.specs.declared.names.HashKind.TheVariants.{Sha256, Sha512_256}
-use Rattle.lks_field.specs.Reading.{◌>>=◌, byte_at, bytes_at, hash_at, number_at, upto_at, many_at, end_of}
+use Rattle.lks_field.specs.Reading.{◌>>=◌, byte_at, given_at, hash_at, number_at, upto_at, sized_at, list_at, end_of, tagged, GivesBut, ReadsBut}
 use Rattle.lks_message.specs.declared.fault.MsgFault.{MsgFault}
-use Rattle.lks_message.specs.declared.fault.MsgFault.TheVariants.{Version, Tag, Limit, Memory}
+use Rattle.lks_message.specs.declared.fault.MsgFault.TheVariants.{Version, Tag}
 use Rattle.lks_message.specs.declared.heading.Heading.{Heading}
 use Rattle.lks_message.specs.declared.heading.Heading.TheVariants.{Poll, PollChallenge, PollProof, Nominate, Vote, RepairRequest, Repair, Receipt}
-use Rattle.lks_message.specs.Faults.{field}
+use Rattle.lks_message.specs.Faults.{told_as, field, is_memory}
 
 -- ---- version and tag
 
@@ -32,19 +32,12 @@ first_heading tag =
 unfoldable pub second_heading : ℕ → Result Heading MsgFault
 second_heading tag = if tag == 3 then Ok (PollProof Sha512_256) else Err Tag
 
--- the tag decides under its version
-abbrev pub tagged : (ℕ → Result Heading MsgFault) → List ℕ → Result (Heading × List ℕ) MsgFault
-tagged heading_of bytes = do
-  tag ← field (byte_at bytes)
-  heading ← heading_of tag.0
-  Ok (heading, tag.1)
-
 -- version and tag: the version is judged before the tag is read
 unfoldable pub heading_at : List ℕ → Result (Heading × List ℕ) MsgFault
 heading_at bytes = do
   version ← field (byte_at bytes)
-  if version.0 == 1 then tagged first_heading version.1
-      else if version.0 == 2 then tagged second_heading version.1
+  if version.0 == 1 then tagged told_as first_heading version.1
+      else if version.0 == 2 then tagged told_as second_heading version.1
       else Err Version
 
 -- ---- fields
@@ -52,27 +45,19 @@ heading_at bytes = do
 -- the second kind is spelled by a byte, the first by none
 unfoldable pub kind_at : HashKind → List ℕ → Result (Unit {0} × List ℕ) MsgFault
 kind_at Sha256 bytes = Ok (tt, bytes)
-kind_at Sha512_256 bytes = do
-  kind ← field (byte_at bytes)
-  if kind.0 == 2 then Ok (tt, kind.1) else Err Limit
+kind_at Sha512_256 bytes = field (given_at 2 bytes)
 
--- a proof of effort behind its length
+-- a proof of effort behind its length, a byte
 unfoldable pub proof_at : List ℕ → Result (List ℕ × List ℕ) MsgFault
-proof_at bytes = do
-  n ← field (upto_at MOST_PROOF_BYTES byte_at bytes)
-  field (bytes_at n.0 n.1)
+proof_at bytes = field (sized_at (upto_at MOST_PROOF_BYTES byte_at) bytes)
 
--- nominees behind their count
+-- nominees behind their count, a byte
 unfoldable pub nominees_at : List ℕ → Result (List ℕ × List ℕ) MsgFault
-nominees_at bytes = do
-  n ← field (upto_at MOST_NOMINEES byte_at bytes)
-  field (many_at (number_at w16) n.0 n.1)
+nominees_at bytes = field (list_at (upto_at MOST_NOMINEES byte_at) (number_at w16) bytes)
 
 -- hashes behind their count
 unfoldable pub hashes_at : List ℕ → Result (List (List ℕ) × List ℕ) MsgFault
-hashes_at bytes = do
-  n ← field (upto_at MOST_BLOCKS (number_at w16) bytes)
-  field (many_at hash_at n.0 n.1)
+hashes_at bytes = field (list_at (upto_at MOST_BLOCKS (number_at w16)) hash_at bytes)
 
 -- the number of a block
 unfoldable pub block_at : List ℕ → Result (ℕ × List ℕ) MsgFault
@@ -80,9 +65,7 @@ block_at bytes = field (upto_at LAST_BLOCK (number_at w16) bytes)
 
 -- the bytes of a block behind their length
 unfoldable pub content_at : List ℕ → Result (List ℕ × List ℕ) MsgFault
-content_at bytes = do
-  n ← field (upto_at MOST_BLOCK_BYTES (number_at w16) bytes)
-  field (bytes_at n.0 n.1)
+content_at bytes = field (sized_at (upto_at MOST_BLOCK_BYTES (number_at w16)) bytes)
 
 -- ---- messages, behind their number
 
@@ -154,17 +137,10 @@ decode_of bytes = do
 
 -- ---- what the code answers
 
--- The fault is the one of reading, or memory ran out.
-abbrev pub Fails : {X : Type 0} → MsgFault → Result X MsgFault → Type 0
-Fails Memory read = Unit {0}
-Fails fault read = read ≡ Err fault
-
 -- The answer is that of reading, unless memory ran out.
 abbrev pub Gives : {X : Type 0} → Result X MsgFault → Result X MsgFault → Type 0
-Gives (Ok x) read = read ≡ Ok x
-Gives (Err fault) read = Fails fault read
+Gives result read = GivesBut is_memory (λ x. x) result read
 
 -- The same where bytes are left.
 abbrev pub Reads : {X : Type 0} → Result X MsgFault → List ℕ → Result (X × List ℕ) MsgFault → Type 0
-Reads (Ok x) left read = read ≡ Ok (x, left)
-Reads (Err fault) left read = Fails fault read
+Reads result left read = ReadsBut is_memory (λ x. x) result left read

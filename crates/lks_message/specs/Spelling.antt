@@ -1,21 +1,16 @@
 -- The one spelling of each message.
-use Rattle.std.specs.Prelude.{◌≡◌, ℕ, ◌<◌, ◌≤◌, ◌^◌, Bool, true, false, List, [], ◌∷◌, ◌++◌, length, All}
-use Rattle.std.specs.List.{flat_map}
+use Rattle.std.specs.Prelude.{◌≡◌, ℕ, ◌<◌, ◌≤◌, ◌^◌, List, [], ◌∷◌, ◌++◌, length, All}
 use Rattle.std.specs.Int.{w16, w32, to_be_bytes}
 use Rattle.lks_base.specs.declared.limits.TheConstants.{LAST_BLOCK, MOST_BLOCKS, MOST_BLOCK_BYTES, MOST_NOMINEES, MOST_PROOF_BYTES}
 use Rattle.lks_base.specs.declared.messages.Message.{Message}
 use Rattle.lks_base.specs.declared.messages.Message.TheVariants.{Poll, PollChallenge, PollProof, Nominate, Vote, RepairRequest, Repair, Receipt}
 use Rattle.lks_base.specs.declared.names.HashKind.{HashKind}
 use Rattle.lks_base.specs.declared.names.HashKind.TheVariants.{Sha256, Sha512_256}
+pub use Rattle.lks_field.specs.Spelling.{flag, number_bytes as nominee_bytes, hash_bytes, sized_bytes as content_bytes}
 
 -- what each message begins with: its version, its tag and the number of its poll
 abbrev pub start : ℕ → ℕ → ℕ → List ℕ
 start version tag number = version ∷ tag ∷ to_be_bytes w32 number
-
--- the byte of yes or no
-abbrev pub flag : Bool → ℕ
-flag false = 0
-flag true = 1
 
 -- the version that spells proofs of this kind
 abbrev pub version_of : HashKind → ℕ
@@ -30,18 +25,6 @@ kind_bytes Sha512_256 = 2 ∷ []
 -- a proof behind its length
 abbrev pub proof_bytes : List ℕ → List ℕ
 proof_bytes proof = length proof ∷ proof
-
--- nominees behind their count
-abbrev pub nominee_bytes : List ℕ → List ℕ
-nominee_bytes nominees = length nominees ∷ flat_map (to_be_bytes w16) nominees
-
--- hashes behind their count
-abbrev pub hash_bytes : List (List ℕ) → List ℕ
-hash_bytes hashes = to_be_bytes w16 (length hashes) ++ flat_map (λ h. h) hashes
-
--- the bytes of a block behind their length
-abbrev pub content_bytes : List ℕ → List ℕ
-content_bytes bytes = to_be_bytes w16 (length bytes) ++ bytes
 
 -- the one spelling of a message
 unfoldable pub spelling : Message → List ℕ

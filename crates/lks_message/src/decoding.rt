@@ -1,9 +1,6 @@
 //! Bytes to messages.
 
 ghost use Rattle.std.specs.Prelude.{◌≡◌, IfOk};
-ghost use Rattle.std.specs.Int.{w16};
-ghost use Rattle.lks_field.specs.Reading.{byte_at, upto_at, many_at, hash_at, number_at};
-ghost use Rattle.lks_message.specs.Faults.{field};
 ghost use Rattle.lks_message.specs.Spelling.{spelling, IsInLimits};
 ghost use Rattle.lks_message.specs.Reading.{Reads, Gives, kind_at, proof_at, nominees_at, hashes_at, block_at, content_at, poll_at, challenge_at, poll_proof_at, nominate_at, vote_at, request_at, repair_at, message_at, decode_of};
 
@@ -16,17 +13,6 @@ use lks_base::{
 use lks_field::Fields;
 use std::alloc::Global;
 
-#[tactic(auto, unfolding(lks_field::specs::Reading::upto_at))]
-fn byte_upto(most: u8, fields: &mut Fields<'_>) -> Result<u8, MsgFault>
-    ensures { Reads result fields.new (field (upto_at most byte_at fields.old)) }
-{
-    let byte = fields.get_u8()?;
-    if byte > most {
-        return Err(MsgFault::Limit);
-    }
-    Ok(byte)
-}
-
 #[tactic(auto, unfolding(crate::specs::Reading::kind_at))]
 fn kind_of(kind: HashKind, fields: &mut Fields<'_>) -> Result<(), MsgFault>
     ensures { Reads result fields.new (kind_at kind fields.old) }
@@ -34,57 +20,30 @@ fn kind_of(kind: HashKind, fields: &mut Fields<'_>) -> Result<(), MsgFault>
     if !kind.second() {
         return Ok(());
     }
-    if fields.get_u8()? != 2 {
-        return Err(MsgFault::Limit);
-    }
-    Ok(())
+    Ok(fields.get_given(2)?)
 }
 
-#[tactic(auto, unfolding(crate::specs::Reading::proof_at))]
+#[tactic(auto, unfolding(crate::specs::Reading::proof_at, lks_field::specs::Reading::sized_at))]
 fn proof_of(alloc: Global, fields: &mut Fields<'_>) -> Result<Bytes, MsgFault>
     ensures { Reads result fields.new (proof_at fields.old) }
 {
-    let length = byte_upto(MOST_PROOF_BYTES, fields)?;
+    let length = fields.get_u8_upto(MOST_PROOF_BYTES)?;
     let proof = fields.get_bytes(length as usize)?;
     Ok(Bytes::from_vec(Vec::from_slice(alloc, proof)?))
-}
-
-fn many_numbers(alloc: Global, count: u8, fields: &mut Fields<'_>) -> Result<Ids, MsgFault>
-    ensures { Reads result fields.new (field (many_at (number_at w16) count fields.old)) }
-{
-    let mut numbers = Vec::new(alloc);
-    for _ in 0..count {
-        let number = fields.get_be16()?;
-        numbers.push(number)?;
-    }
-    Ok(Ids::from_vec(numbers))
 }
 
 #[tactic(auto, unfolding(crate::specs::Reading::nominees_at))]
 fn nominees_of(alloc: Global, fields: &mut Fields<'_>) -> Result<Ids, MsgFault>
     ensures { Reads result fields.new (nominees_at fields.old) }
 {
-    let count = byte_upto(MOST_NOMINEES, fields)?;
-    many_numbers(alloc, count, fields)
-}
-
-fn many_hashes(alloc: Global, count: u16, fields: &mut Fields<'_>) -> Result<Hashes, MsgFault>
-    ensures { Reads result fields.new (field (many_at hash_at count fields.old)) }
-{
-    let mut hashes = Vec::new(alloc);
-    for _ in 0..count {
-        let hash = fields.get_hash()?;
-        hashes.push(hash)?;
-    }
-    Ok(Hashes::from_vec(hashes))
+    Ok(Ids::from_vec(fields.get_numbers(alloc, MOST_NOMINEES)?))
 }
 
 #[tactic(auto, unfolding(crate::specs::Reading::hashes_at))]
 fn hashes_of(alloc: Global, fields: &mut Fields<'_>) -> Result<Hashes, MsgFault>
     ensures { Reads result fields.new (hashes_at fields.old) }
 {
-    let count = fields.get_upto(MOST_BLOCKS)?;
-    many_hashes(alloc, count, fields)
+    Ok(Hashes::from_vec(fields.get_hashes(alloc, MOST_BLOCKS)?))
 }
 
 #[tactic(auto, unfolding(crate::specs::Reading::block_at))]
@@ -98,9 +57,7 @@ fn block_of(fields: &mut Fields<'_>) -> Result<u16, MsgFault>
 fn content_of(alloc: Global, fields: &mut Fields<'_>) -> Result<Bytes, MsgFault>
     ensures { Reads result fields.new (content_at fields.old) }
 {
-    let length = fields.get_upto(MOST_BLOCK_BYTES)?;
-    let content = fields.get_bytes(length as usize)?;
-    Ok(Bytes::from_vec(Vec::from_slice(alloc, content)?))
+    Ok(Bytes::from_vec(fields.get_sized(alloc, MOST_BLOCK_BYTES)?))
 }
 
 #[tactic(auto, unfolding(crate::specs::Reading::poll_at))]
@@ -115,7 +72,7 @@ fn poll_of(number: u32, fields: &mut Fields<'_>) -> Result<Message, MsgFault>
 fn challenge_of(number: u32, fields: &mut Fields<'_>) -> Result<Message, MsgFault>
     ensures { Reads result fields.new (challenge_at number fields.old) }
 {
-    let yes = byte_upto(1, fields)?;
+    let yes = fields.get_u8_upto(1)?;
     Ok(Message::PollChallenge {
         number,
         yes: yes == 1,

@@ -2,11 +2,11 @@
 
 ghost use Rattle.std.specs.Prelude.{◌≡◌, ◌≤◌, ◌++◌, length, OnOk, IfOk};
 ghost use Rattle.lks_base.specs.declared.limits.TheConstants.{MOST_BLOCKS, MOST_BLOCK_BYTES, MOST_FORGED_BYTES, MOST_NOMINEES, MOST_PROOF_BYTES};
-ghost use Rattle.lks_message.specs.Spelling.{start, version_of, kind_bytes, proof_bytes, nominee_bytes, hash_bytes, content_bytes, spelling, IsWithin, IsSized};
+ghost use Rattle.lks_message.specs.Spelling.{start, version_of, kind_bytes, proof_bytes, spelling, IsWithin, IsSized};
 ghost use Rattle.lks_message.specs.Reading.{decode_of};
 
 use lks_base::{HashKind, Message, OutOfMemory};
-use lks_field::{put_be16, put_be32, put_bytes, put_u8};
+use lks_field::{put_be16, put_be32, put_bytes, put_hashes, put_numbers, put_sized, put_u8};
 use std::alloc::Global;
 
 type Written = Result<(), lks_field::OutOfMemory>;
@@ -25,36 +25,6 @@ fn put_proof(out: &mut Vec<u8>, proof: &[u8]) -> Written
 {
     put_u8(out, proof.len() as u8)?;
     put_bytes(out, proof)
-}
-
-fn put_nominees(out: &mut Vec<u8>, nominees: &[u16]) -> Written
-    requires { length nominees.now ≤ MOST_NOMINEES }
-    ensures { OnOk result (out.new.items ≡ out.old.items ++ nominee_bytes nominees.now) }
-{
-    put_u8(out, nominees.len() as u8)?;
-    for nominee in nominees {
-        put_be16(out, *nominee)?;
-    }
-    Ok(())
-}
-
-fn put_hashes(out: &mut Vec<u8>, hashes: &[[u8; 32]]) -> Written
-    requires { length hashes.now ≤ MOST_BLOCKS }
-    ensures { OnOk result (out.new.items ≡ out.old.items ++ hash_bytes hashes.now) }
-{
-    put_be16(out, hashes.len() as u16)?;
-    for hash in hashes {
-        put_bytes(out, hash)?;
-    }
-    Ok(())
-}
-
-fn put_content(out: &mut Vec<u8>, bytes: &[u8]) -> Written
-    requires { length bytes.now ≤ MOST_BLOCK_BYTES }
-    ensures { OnOk result (out.new.items ≡ out.old.items ++ content_bytes bytes.now) }
-{
-    put_be16(out, bytes.len() as u16)?;
-    put_bytes(out, bytes)
 }
 
 fn version_byte(kind: HashKind) -> u8
@@ -118,7 +88,7 @@ fn put_nominate(out: &mut Vec<u8>, number: u32, nominees: &[u16]) -> Written
     ensures sized { IsSized (Message.Nominate number nominees.now) }
 {
     put_start(out, 1, 4, number)?;
-    put_nominees(out, nominees)
+    put_numbers(out, nominees)
 }
 
 #[tactic(auto, unfolding(crate::specs::Spelling::spelling))]
@@ -150,7 +120,7 @@ fn put_repair(out: &mut Vec<u8>, number: u32, block: u16, bytes: &[u8]) -> Writt
 {
     put_start(out, 1, 7, number)?;
     put_be16(out, block)?;
-    put_content(out, bytes)
+    put_sized(out, bytes)
 }
 
 #[tactic(auto, unfolding(crate::specs::Spelling::spelling))]

@@ -5,7 +5,7 @@ ghost use Rattle.lks_message.specs.Faults.{told_as};
 ghost use Rattle.lks_message.specs.declared.fault.MsgFault.TheVariants.{Memory};
 
 use lks_field::FieldFault;
-use std::alloc::{AllocError, AllocFailed};
+use std::alloc::AllocError;
 
 /// The first fault from left to right, or want of memory.
 #[derive(Clone, Copy, Debug, PartialEq, Eq)]
@@ -31,6 +31,7 @@ impl From<FieldFault> for MsgFault {
             FieldFault::Short => MsgFault::Short,
             FieldFault::Value => MsgFault::Limit,
             FieldFault::Long => MsgFault::Trailing,
+            FieldFault::Memory => MsgFault::Memory,
         }
     }
 }
@@ -39,14 +40,6 @@ impl From<AllocError> for MsgFault {
     ghost from_gives = { λ _ e. e ≡ Memory };
 
     fn from(_error: AllocError) -> MsgFault {
-        MsgFault::Memory
-    }
-}
-
-impl<T: Drop> From<AllocFailed<T>> for MsgFault {
-    ghost from_gives = { λ _ e. e ≡ Memory };
-
-    fn from(_failed: AllocFailed<T>) -> MsgFault {
         MsgFault::Memory
     }
 }

@@ -20,11 +20,12 @@ use Rattle.lks_script.specs.StepRules.{is_step_of, fails_power, has_power_for, a
 use Rattle.lks_words.specs.Texts.{are_above, AreFew}
 use Rattle.lks_words.specs.Words.{id_in}
 use Rattle.lks_words.proofs.Decimals.{number_again}
-use Rattle.lks_words.proofs.Kept.{decimal_above}
+use Rattle.lks_words.proofs.Kept.{bytes_append, bytes_replicate, decimal_above}
 use Rattle.lks_words.proofs.Splits.{weaker}
 use Rattle.lks_drill.specs.Drill.{peer_numbers, au_numbers, block_of, whole_copy, is_damaged, blocks_of, draw_before, draw_of, holding_of, copies_of, peer_seed, peer_with, peer_of, peers_of, plan_of, audit_of, audits_of, steps_of_drill, drill_of}
 use Rattle.lks_drill.proofs.Good.{good_plan, steps_stand}
-use Rattle.lks_print.specs.Steps.{own_key, own_more, key_of, more_of}
+use Rattle.lks_print.specs.Steps.{key_of, more_of}
+use Rattle.lks_words.specs.Steps.{own_key, own_more}
 use Rattle.lks_print.specs.Said.{IsSaidStep, IsSaidPeer, StepsFollow, IsSaid}
 use Rattle.lks_print.proofs.FromReading.{all_set}
 
@@ -41,16 +42,6 @@ all_range P end a zero le h = All-nil P
 all_range P end a (suc n) le h = All-cons P a (range_with_len (a + 1) n) (h a (omega (arith, le))) (all_range P end (a + 1) n (omega (arith, le)) h)
 
 -- ---- bytes
-
-bytes_replicate : (n b : ℕ) → b < 256 → IsBytes (replicate n b)
-bytes_replicate zero b lt i = omega arith
-bytes_replicate (suc n) b lt zero = lt
-bytes_replicate (suc n) b lt (suc i) = bytes_replicate n b lt i
-
-bytes_append : (a b : List ℕ) → IsBytes a → IsBytes b → IsBytes (a ++ b)
-bytes_append [] b p q i = q i
-bytes_append (x ∷ a) b p q zero = p zero
-bytes_append (x ∷ a) b p q (suc i) = bytes_append a b (λ k. p (suc k)) q i
 
 byte_fits : (i n : ℕ) → byte_at i n < 256
 byte_fits zero n = mod-lt n (omega arith)

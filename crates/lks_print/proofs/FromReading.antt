@@ -1,5 +1,5 @@
 -- A script that was read is said: its values are in their limits, and each of its steps can stand behind those before it.
-use Rattle.std.proofs.Common.{◌≡◌, ◌&&◌, ◌⊎◌, inl, inr, ℕ, zero, suc, ◌+◌, ◌-◌, Bool, true, false, cond, eqb, is_none, List, [], ◌∷◌, ◌++◌, length, set, Option, Some, None, Result, Ok, Err, refl, sym, subst, append_assoc}
+use Rattle.std.proofs.Common.{◌≡◌, ◌&&◌, inl, inr, ℕ, zero, suc, ◌+◌, ◌-◌, Bool, cond, eqb, is_none, List, [], ◌∷◌, ◌++◌, length, set, Option, Some, None, Ok, sym, subst, append_assoc}
 use Rattle.std.specs.Prelude.{codes, nat_le, slice_get}
 use Rattle.std.specs.List.{All, find, position}
 use Rattle.std.specs.Option.{option_map}
@@ -29,25 +29,15 @@ use Rattle.lks_script.specs.declared.steps.Step.{Step}
 use Rattle.lks_script.specs.StepRules.{is_step_of, has_power_for}
 use Rattle.lks_script.specs.StepLines.{step_in, steps_with}
 use Rattle.lks_script.specs.Grammar.{title_line, rules_line, au_line, turns_line, peer_line, ruled_line, step_line, later_line, declares_peer, planned_line, stepped_line, line_in, means_nothing, with_line, ended, line_number, end_in, lines_in, script_of}
-use Rattle.lks_script.proofs.Sound.{plan_is_good}
+use Rattle.lks_script.proofs.Sound.{found_script, found_draft, plan_is_good}
 use Rattle.lks_words.specs.Numbers.{◌>>=◌, number_in}
 use Rattle.lks_words.specs.Texts.{AreFew}
 use Rattle.lks_words.specs.Words.{parts, each_in, id_in, index_in, block_in, hash_in, kind_in, seed_in, proof_in}
 use Rattle.lks_words.proofs.Decimals.{number_most}
 use Rattle.lks_words.proofs.Kept.{seed_fits, proof_fits, block_fits, blocks_fit}
-use Rattle.lks_words.proofs.Steps.{bind_some, if_some, some, same_some}
+use Rattle.lks_words.proofs.Steps.{bind_some, map_some, if_some, if_else, some, same_some}
 use Rattle.lks_print.proofs.Kept.{step_kept}
 use Rattle.lks_print.specs.Said.{IsSaidPeer, CanFollow, StepsFollow, IsSaid}
-
--- ---- steps that found something
-
-map_some : {A B : Type 0} (f : A → B) (o : Option A) (y : B) → option_map f o ≡ Some y → (x : A) × (o ≡ Some x) × (f x ≡ y)
-map_some f (Some x) y e = (x, refl, cc)
-map_some f None y e = absurd cc
-
-if_else : {A : Type 0} (b : Bool) (x y : Option A) (z : A) → cond b x y ≡ Some z → ((b ≡ true) × (x ≡ Some z)) ⊎ ((b ≡ false) × (y ≡ Some z))
-if_else true x y z e = inl (refl, e)
-if_else false x y z e = inr (refl, e)
 
 -- ---- what holds of each element
 
@@ -408,14 +398,6 @@ ended_read (Planned at plan) script h e =
 ended_read (Stepped plan steps) script h e =
     let made : Script = record { plan = plan; steps = steps } in
     subst IsRead (same_some made script e) (h.0, h.1)
-
-found_script : (o : Option Script) (n : ℕ) (script : Script) → elim o as (λ _. Result Script ℕ) [ Some s ↦ Ok s | None ↦ Err n ] ≡ Ok script → o ≡ Some script
-found_script (Some s) n script e = cc
-found_script None n script e = absurd cc
-
-found_draft : (o : Option Draft) (f : Draft → Result Script ℕ) (n : ℕ) (script : Script) → elim o as (λ _. Result Script ℕ) [ Some d ↦ f d | None ↦ Err n ] ≡ Ok script → (d : Draft) × (o ≡ Some d) × (f d ≡ Ok script)
-found_draft (Some d) f n script e = (d, refl, e)
-found_draft None f n script e = absurd cc
 
 end_read : (k : ℕ) (draft : Draft) (last : List ℕ) (script : Script) → Drafted draft → end_in k draft last ≡ Ok script → IsRead script
 unfolding end_in

@@ -36,7 +36,8 @@ use Rattle.lks_words.proofs.Decimals.{number_again}
 use Rattle.lks_words.proofs.Kept.{decimal_above, hex_above, text_above, kind_above, seed_again, proof_again, kind_again}
 use Rattle.lks_words.proofs.Splits.{weaker}
 use Rattle.lks_print.specs.Steps as printed
-use Rattle.lks_print.specs.Steps.{line_of, own_key, key_of, more_of}
+use Rattle.lks_print.specs.Steps.{line_of, key_of, more_of}
+use Rattle.lks_words.specs.Steps.{own_key}
 use Rattle.lks_print.specs.Scripts as text
 use Rattle.lks_print.specs.Scripts.{rules_words, au_words, peer_words}
 use Rattle.lks_print.specs.Said.{are_plain}

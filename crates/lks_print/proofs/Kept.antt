@@ -24,7 +24,8 @@ use Rattle.lks_words.proofs.Splits.{weaker, words_part}
 use Rattle.lks_words.proofs.Kept.{decimal_above, text_above, bytes_fit, bytes_again, block_fits, block_again, blocks_fit, blocks_again, blocks_above, ids_fit, ids_again, answer_again, answer_above}
 use Rattle.lks_words.proofs.Steps.{bind_some, if_some, same_some}
 use Rattle.lks_print.specs.Said.{are_plain, IsSaidStep}
-use Rattle.lks_print.specs.Steps.{spaced, own_key, own_more, cut_key, cut_more, times_words, key_of, more_of}
+use Rattle.lks_print.specs.Steps.{cut_key, cut_more, times_words, key_of, more_of}
+use Rattle.lks_words.specs.Steps.{spaced, own_key, own_more}
 
 -- ---- words that read as what they say, and have no spaces and line feeds
 

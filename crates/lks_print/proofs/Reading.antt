@@ -19,7 +19,8 @@ use Rattle.lks_words.specs.Words.{parts}
 use Rattle.lks_words.specs.Texts.{are_above}
 use Rattle.lks_words.proofs.Splits.{lacks, weaker, above_append, above_behind, words_part}
 use Rattle.lks_print.specs.Steps as printed
-use Rattle.lks_print.specs.Steps.{spaced, line_of, own_key, key_of, more_of}
+use Rattle.lks_print.specs.Steps.{line_of, key_of, more_of}
+use Rattle.lks_words.specs.Steps.{spaced, own_key}
 use Rattle.lks_print.specs.Said.{are_plain}
 use Rattle.lks_print.specs.Said.{CanFollow, StepsFollow}
 

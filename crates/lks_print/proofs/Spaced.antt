@@ -2,7 +2,7 @@
 use Rattle.std.proofs.Common.{◌≡◌, ℕ, List, [], ◌∷◌, ◌++◌, map, refl, ap}
 use Rattle.std.specs.Fmt.{decimal}
 use Rattle.lks_words.specs.Printing.{behind}
-use Rattle.lks_print.specs.Steps.{spaced}
+use Rattle.lks_words.specs.Steps.{spaced}
 
 pub ids_spaced : (ids : List ℕ) → behind 32 decimal ids ≡ spaced (map decimal ids)
 ids_spaced [] = refl

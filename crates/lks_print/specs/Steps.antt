@@ -1,49 +1,16 @@
 -- How a step is printed: the word that names it, and those behind it.
 use Rattle.std.specs.Prelude.{ℕ, ◌==◌, if◌then◌else◌, List, [], ◌∷◌, ◌++◌, map, codes}
 use Rattle.std.specs.Fmt.{decimal}
-use Rattle.lks_base.specs.declared.events.PeerStep.{PeerStep}
-use Rattle.lks_base.specs.declared.events.PeerStep.TheVariants as peers
 use Rattle.lks_script.specs.declared.steps.CutStep.{CutStep}
 use Rattle.lks_script.specs.declared.steps.CutStep.TheVariants as cut
 use Rattle.lks_script.specs.declared.steps.Step.{Step}
 use Rattle.lks_script.specs.declared.steps.Step.TheVariants.{Peer, Tick, Next, Lose, Again, Settle, Finish, Forge, SayPoll, SayProof, SayRequest, SayReceipt, SayChallenge, SayNominate, SayVote, SayRepair, Crash, Cut}
-use Rattle.lks_words.specs.Printing.{behind, hex_or_hyphen, blocks_text, answer_text}
-
--- words behind a space each
-abbrev pub spaced : List (List ℕ) → List ℕ
-spaced words = behind 32 (λ w. w) words
+use Rattle.lks_words.specs.Printing.{hex_or_hyphen, blocks_text, answer_text}
+use Rattle.lks_words.specs.Steps.{spaced, own_key, own_more}
 
 -- a line of these words, with its line feed
 unfoldable pub line_of : List ℕ → List (List ℕ) → List ℕ
 line_of key more = key ++ spaced more ++ 10 ∷ []
-
--- the word that names a peer's own step; no script says a delivery
-unfoldable pub own_key : PeerStep → List ℕ
-own_key (peers.OpenPoll peer au) = codes "open"
-own_key (peers.Widen peer number) = codes "outer"
-own_key (peers.Shut peer number) = codes "shut"
-own_key (peers.Tally peer number) = codes "tally"
-own_key (peers.Nudge peer number) = codes "nudge"
-own_key (peers.GiveUp peer number) = codes "give-up"
-own_key (peers.Work peer poll) = codes "work"
-own_key (peers.Expire peer poll) = codes "expire"
-own_key (peers.Check peer) = codes "check"
-own_key (peers.Tune peer quorum minority repairs) = codes "tune"
-own_key (peers.Deliver envelope judged) = codes "deliver"
-
--- the words behind it
-unfoldable pub own_more : PeerStep → List (List ℕ)
-own_more (peers.OpenPoll peer au) = decimal peer ∷ decimal au ∷ []
-own_more (peers.Widen peer number) = decimal peer ∷ decimal number ∷ []
-own_more (peers.Shut peer number) = decimal peer ∷ decimal number ∷ []
-own_more (peers.Tally peer number) = decimal peer ∷ decimal number ∷ []
-own_more (peers.Nudge peer number) = decimal peer ∷ decimal number ∷ []
-own_more (peers.GiveUp peer number) = decimal peer ∷ decimal number ∷ []
-own_more (peers.Work peer poll) = decimal peer ∷ decimal poll.poller ∷ decimal poll.number ∷ []
-own_more (peers.Expire peer poll) = decimal peer ∷ decimal poll.poller ∷ decimal poll.number ∷ []
-own_more (peers.Check peer) = decimal peer ∷ []
-own_more (peers.Tune peer quorum minority repairs) = decimal peer ∷ decimal quorum ∷ decimal minority ∷ decimal repairs ∷ []
-own_more (peers.Deliver envelope judged) = decimal envelope ∷ []
 
 -- what the power cuts off
 unfoldable pub cut_key : CutStep → List ℕ

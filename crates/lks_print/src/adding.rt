@@ -4,7 +4,7 @@ ghost use Rattle.std.specs.Prelude.{◌≡◌, ◌++◌, ◌∷◌, OnOk, map};
 ghost use Rattle.std.specs.Fmt.{decimal};
 ghost use Rattle.hex.specs.Hex.{encode_lower};
 ghost use Rattle.lks_words.specs.Printing.{hex_or_hyphen, blocks_text, answer_text, kind_text};
-ghost use Rattle.lks_print.specs.Steps.{spaced};
+ghost use Rattle.lks_words.specs.Steps.{spaced};
 
 use lks_base::Blocks;
 use lks_words::{

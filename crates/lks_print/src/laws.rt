@@ -8,7 +8,8 @@ ghost use Rattle.lks_script.specs.declared.steps.Script.{Script};
 ghost use Rattle.lks_script.specs.declared.steps.Step.{Step};
 ghost use Rattle.lks_words.specs.Words.{parts};
 ghost use Rattle.lks_print.specs.Said.{IsSaid};
-ghost use Rattle.lks_print.specs.Steps.{spaced, key_of, more_of};
+ghost use Rattle.lks_print.specs.Steps.{key_of, more_of};
+ghost use Rattle.lks_words.specs.Steps.{spaced};
 
 /// Each step that a script can say is printed as words that say it, and the printed line is split into these words.
 pub fn every_step_reads_back()

@@ -3,7 +3,8 @@
 ghost use Rattle.std.specs.Prelude.{◌≡◌, ◌++◌, ◌∷◌, [], OnOk, codes, map};
 ghost use Rattle.std.specs.Fmt.{decimal};
 ghost use Rattle.std.specs.List.{flat_map};
-ghost use Rattle.lks_print.specs.Steps.{spaced, line_of};
+ghost use Rattle.lks_print.specs.Steps.{line_of};
+ghost use Rattle.lks_words.specs.Steps.{spaced};
 ghost use Rattle.lks_print.specs.Scripts.{named_text, rules_words, rules_line, au_line, peer_line, hash_line, list_line, copy_line, belongings, plan_text};
 
 use crate::adding::{add_block, add_blocks, add_hex, add_ids, add_kind, add_number, add_word};

@@ -4,89 +4,22 @@ ghost use Rattle.std.specs.Prelude.{◌≡◌, ◌++◌, ◌∷◌, [], OnOk, co
 ghost use Rattle.std.specs.Fmt.{decimal};
 ghost use Rattle.lks_words.specs.Printing.{hex_or_hyphen, blocks_text, answer_text};
 ghost use Rattle.std.specs.List.{flat_map};
-ghost use Rattle.lks_print.specs.Steps.{spaced, own_key, own_more, cut_key, cut_more, times_words, said_words, key_of, more_of, step_line};
+ghost use Rattle.lks_print.specs.Steps.{cut_key, cut_more, times_words, said_words, key_of, more_of, step_line};
+ghost use Rattle.lks_words.specs.Steps.{spaced, own_key, own_more};
 
 use crate::adding::{add_answer, add_block, add_blocks, add_ids, add_number, add_word};
-use lks_base::{AuId, Blocks, PeerId, PeerStep, PollName};
+use lks_base::{AuId, Blocks, PeerId, PeerStep};
 use lks_script::{CutStep, Step};
-use lks_words::put_text;
+use lks_words::{put_step_rest, put_text, step_key};
 use std::alloc::{AllocError, Global};
 
-#[tactic(auto, unfolding(crate::specs::Steps::own_key))]
-fn own_key(step: &PeerStep) -> &'static [u8]
-    ensures { result.now ≡ own_key step.now }
-{
-    match step {
-        PeerStep::OpenPoll { .. } => b"open",
-        PeerStep::Widen { .. } => b"outer",
-        PeerStep::Shut { .. } => b"shut",
-        PeerStep::Tally { .. } => b"tally",
-        PeerStep::Nudge { .. } => b"nudge",
-        PeerStep::GiveUp { .. } => b"give-up",
-        PeerStep::Work { .. } => b"work",
-        PeerStep::Expire { .. } => b"expire",
-        PeerStep::Check { .. } => b"check",
-        PeerStep::Tune { .. } => b"tune",
-        PeerStep::Deliver { .. } => b"deliver",
-    }
-}
-
-fn add_own_poll(
-    alloc: Global,
-    out: &mut Vec<u8>,
-    peer: PeerId,
-    number: u32,
-) -> Result<(), AllocError>
-    ensures { OnOk result (out.new.items ≡ out.old.items ++ spaced (decimal peer ∷ decimal number ∷ [])) }
-{
-    add_number(alloc, out, u64::from(peer))?;
-    add_number(alloc, out, u64::from(number))
-}
-
-fn add_session(
-    alloc: Global,
-    out: &mut Vec<u8>,
-    peer: PeerId,
-    poll: &PollName,
-) -> Result<(), AllocError>
-    ensures { OnOk result (out.new.items ≡ out.old.items ++ spaced (decimal peer ∷ decimal poll.now.poller ∷ decimal poll.now.number ∷ [])) }
-{
-    add_number(alloc, out, u64::from(peer))?;
-    add_number(alloc, out, u64::from(poll.poller))?;
-    add_number(alloc, out, u64::from(poll.number))
-}
-
-#[tactic(auto, unfolding(crate::specs::Steps::own_more))]
+/// The words behind the one that names the step.
 fn add_own(alloc: Global, out: &mut Vec<u8>, step: &PeerStep) -> Result<(), AllocError>
     ensures { OnOk result (out.new.items ≡ out.old.items ++ spaced (own_more step.now)) }
 {
-    match step {
-        PeerStep::OpenPoll { peer, au } => {
-            add_number(alloc, out, u64::from(*peer))?;
-            add_number(alloc, out, u64::from(*au))
-        }
-        PeerStep::Widen { peer, number }
-        | PeerStep::Shut { peer, number }
-        | PeerStep::Tally { peer, number }
-        | PeerStep::Nudge { peer, number }
-        | PeerStep::GiveUp { peer, number } => add_own_poll(alloc, out, *peer, *number),
-        PeerStep::Work { peer, poll } | PeerStep::Expire { peer, poll } => {
-            add_session(alloc, out, *peer, poll)
-        }
-        PeerStep::Check { peer } => add_number(alloc, out, u64::from(*peer)),
-        PeerStep::Tune {
-            peer,
-            quorum,
-            minority,
-            repairs,
-        } => {
-            add_number(alloc, out, u64::from(*peer))?;
-            add_number(alloc, out, u64::from(*quorum))?;
-            add_number(alloc, out, u64::from(*minority))?;
-            add_number(alloc, out, u64::from(*repairs))
-        }
-        PeerStep::Deliver { envelope, .. } => add_number(alloc, out, u64::from(*envelope)),
-    }
+    let mut rest = String::new(alloc);
+    put_step_rest(&mut rest, step)?;
+    put_text(out, rest.as_bytes())
 }
 
 #[tactic(auto, unfolding(crate::specs::Steps::cut_key, crate::specs::Steps::cut_more))]
@@ -100,7 +33,7 @@ fn add_cut(alloc: Global, out: &mut Vec<u8>, step: &CutStep) -> Result<(), Alloc
             add_number(alloc, out, u64::from(*envelope))
         }
         CutStep::Peer(step) => {
-            add_word(out, own_key(step))?;
+            add_word(out, step_key(step).as_bytes())?;
             add_own(alloc, out, step)
         }
     }
@@ -166,7 +99,7 @@ fn key(step: &Step) -> &'static [u8]
     ensures { result.now ≡ key_of step.now }
 {
     match step {
-        Step::Peer(step) => own_key(step),
+        Step::Peer(step) => step_key(step).as_bytes(),
         Step::Tick { .. } => b"tick",
         Step::Next { .. } => b"next",
         Step::Lose => b"lose",

@@ -1,28 +1,29 @@
 -- What is read is spelled so, and what is spelled so is read.
-use Rattle.std.proofs.Common.{◌≡◌, ℕ, ◌+◌, ◌<◌, ◌≤◌, Bool, Option, None, Some, is_some, List, [], ◌∷◌, ◌++◌, length, get_or, Result, Ok, Err, refl, sym, ap, subst, ◌∙◌, arith, inl, inr}
+use Rattle.std.proofs.Common.{◌≡◌, ℕ, ◌+◌, ◌<◌, Bool, Option, None, Some, is_some, List, ◌++◌, length, get_or, Result, Ok, Err, refl, sym, ap, subst, ◌∙◌, arith, inl, inr}
 use Rattle.std.specs.Prelude.{IfOk, IfSome, All}
-use Rattle.std.specs.Int.{w16, to_be_bytes}
 use Rattle.std.proofs.lemmas.Bool.{cases_lt}
-use Rattle.std.proofs.lemmas.List.{append-nil, get_or_default}
-use Rattle.lks_base.specs.declared.limits.TheConstants.{MOST_CIRCLE, MOST_NOMINEES, MOST_REPAIRS}
+use Rattle.std.proofs.lemmas.List.{get_or_default}
+use Rattle.lks_base.specs.declared.limits.TheConstants.{MOST_CIRCLE, MOST_NOMINEES}
 use Rattle.lks_base.specs.declared.records.Record.{Record}
 use Rattle.lks_base.specs.declared.records.Record.TheVariants as records
 use Rattle.lks_base.specs.declared.names.HashKind.{HashKind}
 use Rattle.lks_base.specs.declared.names.HashKind.TheVariants.{Sha256, Sha512_256}
 use Rattle.lks_base.specs.declared.names.Limits.{Limits}
-use Rattle.lks_field.specs.Reading.{◌>>=◌, end_of}
-use Rattle.lks_field.proofs.Takes.{IsBytes, Takes, IsField, bind_ok, ok_is}
+use Rattle.lks_field.specs.Reading.{◌>>=◌}
+use Rattle.lks_field.proofs.Takes.{IsBytes, Takes, IsField, bind_ok}
+use Rattle.lks_field.proofs.Steps.{Reader, IsTail, reads_then, reads_end, Goes, goes_then}
+use Rattle.lks_field.proofs.Counted.{list_field}
+use Rattle.lks_field.proofs.Whole.{whole_takes, whole_again}
 use Rattle.lks_record.specs.declared.fault.RecFault.{RecFault}
 use Rattle.lks_record.specs.declared.heading.Opening.{Opening}
 use Rattle.lks_record.specs.declared.heading.Opening.TheVariants.{Plain, Limited, OfKind}
 use Rattle.lks_record.specs.declared.heading.Heading.{Heading}
 use Rattle.lks_record.specs.declared.heading.Heading.TheVariants.{Deposit, PollOpened, Nominated, OuterOpened, VoteIn, Shut, Asked, RepairBad, Replaced, Closed, Overdue, Joined, Committed, Voted, Served, Ended, Tuned}
-use Rattle.lks_record.specs.Faults.{field}
-use Rattle.lks_record.specs.Spelling.{opening_form, joined_form, spelling, batch_spelling, limit_bytes, AreLimits, HasLimits, IsInLimits, IsBatch}
-use Rattle.lks_record.specs.Reading.{Gives, is_limited, kind_in, limits_at, repairs_at, heading_at, deposit_at, opened_at, nominated_at, outer_at, vote_in_at, shut_at, asked_at, repair_bad_at, replaced_at, closed_at, overdue_at, joined_at, committed_at, voted_at, served_at, ended_at, tuned_at, body_at, record_at, from_one_at, batch_at, decode_of}
-use Rattle.lks_record.proofs.Steps.{Reader, IsTail, reads_then, reads_end, Goes, goes_then}
+use Rattle.lks_record.specs.Faults.{told_as}
+use Rattle.lks_record.specs.Spelling.{opening_form, joined_form, spelling, batch_spelling, AreLimits, HasLimits, IsInLimits, IsBatch}
+use Rattle.lks_record.specs.Reading.{Gives, is_limited, kind_in, heading_at, deposit_at, opened_at, nominated_at, outer_at, vote_in_at, shut_at, asked_at, repair_bad_at, replaced_at, closed_at, overdue_at, joined_at, committed_at, voted_at, served_at, ended_at, tuned_at, body_at, record_at, batch_at, decode_of}
 use Rattle.lks_record.proofs.Headings.{opened_form, told_form, heading_bytes, heading_takes, heading_again}
-use Rattle.lks_record.proofs.Parts.{id_field, long_field, nonce_field, flag_field, block_field, repairs_field, from_one_field, kind_field, optional_field, content_field, peers_field, hashes_field, blocks_field, poll_field, limits_field, outcome_field, list_field}
+use Rattle.lks_record.proofs.Parts.{id_field, long_field, nonce_field, flag_field, block_field, repairs_field, from_one_field, kind_field, optional_field, content_field, peers_field, hashes_field, blocks_field, poll_field, limits_field, outcome_field}
 
 -- ---- openings
 
@@ -71,7 +72,7 @@ joined_is (Some repairs) = refl
 
 -- ---- records: what is read is spelled so
 
-abbrev ReadsAs : Heading → Reader Record → Type 0
+abbrev ReadsAs : Heading → Reader Record RecFault → Type 0
 ReadsAs h reader = IsTail spelling IsInLimits (heading_bytes h) (Unit {0}) reader
 
 deposit_reads : ReadsAs Deposit deposit_at
@@ -83,7 +84,7 @@ opened_reads : (opening : Opening) → ReadsAs (PollOpened opening) (opened_at o
 unfolding opened_at spelling
 opened_reads opening =
     reads_then _ long_field (λ number. reads_then _ id_field (λ au. reads_then _ nonce_field (λ nonce. reads_then _ (peers_field MOST_CIRCLE (omega arith)) (λ inner. reads_then _ long_field (λ tick.
-    reads_then _ (optional_field limits_at limit_bytes AreLimits limits_field (is_limited opening)) (λ limits. reads_then _ (kind_field (kind_in opening)) (λ kind. reads_end (records.PollOpened number au nonce inner tick limits kind)
+    reads_then _ (optional_field limits_field (is_limited opening)) (λ limits. reads_then _ (kind_field (kind_in opening)) (λ kind. reads_end (records.PollOpened number au nonce inner tick limits kind)
     (λ h. (rw (opening_is opening limits kind h.0.1.0 h.1) refl, ((h.0.0.0.1.0, has_limits opening limits kind h.0.1.0 h.1 h.0.1.1), (h.0.0.0.0.0.0.1, h.0.0.0.0.0.1, h.0.0.0.0.1, h.0.0.0.1.1, h.0.0.1)))))))))))
 
 nominated_reads : ReadsAs Nominated nominated_at
@@ -125,7 +126,7 @@ overdue_reads = reads_then _ id_field (λ au. reads_then _ long_field (λ tick. 
 joined_reads : (told : Bool) → ReadsAs (Joined told) (joined_at told)
 unfolding joined_at spelling
 joined_reads told =
-    reads_then _ poll_field (λ poll. reads_then _ id_field (λ au. reads_then _ long_field (λ tick. reads_then _ flag_field (λ low. reads_then _ (optional_field repairs_at (to_be_bytes w16) (λ n. n ≤ MOST_REPAIRS) repairs_field told) (λ repairs.
+    reads_then _ poll_field (λ poll. reads_then _ id_field (λ au. reads_then _ long_field (λ tick. reads_then _ flag_field (λ low. reads_then _ (optional_field repairs_field told) (λ repairs.
     reads_end (records.Joined poll au tick low repairs) (λ h. (rw (joined_is repairs, h.1.0) refl, (h.1.1, (h.0.0.0.0.1, h.0.0.0.1, h.0.0.1)))))))))
 
 committed_reads : (as_kind : HashKind) → ReadsAs (Committed as_kind) (committed_at as_kind)
@@ -188,7 +189,7 @@ record_again (records.Deposit au blocks) rest h = (goes_then _ (goes_then _ (beg
 record_again (records.PollOpened number au nonce inner tick limits kind) rest h =
     let opening = opening_of limits kind in
     rw (form_told limits kind) ((goes_then _ (goes_then _ (goes_then _ (goes_then _ (goes_then _ (goes_then _ (goes_then _ (begins (PollOpened opening)) long_field number h.1.0) id_field au h.1.1) nonce_field nonce h.1.2) (peers_field MOST_CIRCLE (omega arith)) inner (h.0.0, h.1.3)) long_field tick h.1.4)
-    (optional_field limits_at limit_bytes AreLimits limits_field (is_limited opening)) limits (limits_told limits kind h.0.1)) (kind_field (kind_in opening)) kind (kind_told limits kind)).at rest)
+    (optional_field limits_field (is_limited opening)) limits (limits_told limits kind h.0.1)) (kind_field (kind_in opening)) kind (kind_told limits kind)).at rest)
 record_again (records.Nominated number voter nominees) rest h = (goes_then _ (goes_then _ (goes_then _ (begins Nominated) long_field number h.1.0) id_field voter h.1.1) (peers_field MOST_NOMINEES (omega arith)) nominees (h.0, h.1.2)).at rest
 record_again (records.OuterOpened number outer) rest h = (goes_then _ (goes_then _ (begins OuterOpened) long_field number h.1.0) (peers_field MOST_CIRCLE (omega arith)) outer (h.0, h.1.1)).at rest
 record_again (records.VoteIn number voter hashes) rest h = (goes_then _ (goes_then _ (goes_then _ (begins VoteIn) long_field number h.1.0) id_field voter h.1.1) hashes_field hashes (h.0, h.1.2)).at rest
@@ -200,7 +201,7 @@ record_again (records.Closed number outcome tick) rest h = (goes_then _ (goes_th
 record_again (records.Overdue au tick) rest h = (goes_then _ (goes_then _ (begins Overdue) id_field au h.1.0) long_field tick h.1.1).at rest
 record_again (records.Joined poll au tick low repairs) rest h =
     rw (joined_is repairs) ((goes_then _ (goes_then _ (goes_then _ (goes_then _ (goes_then _ (begins (Joined (is_some repairs))) poll_field poll h.1.0) id_field au h.1.1) long_field tick h.1.2) flag_field low tt)
-    (optional_field repairs_at (to_be_bytes w16) (λ n. n ≤ MOST_REPAIRS) repairs_field (is_some repairs)) repairs (refl, h.0)).at rest)
+    (optional_field repairs_field (is_some repairs)) repairs (refl, h.0)).at rest)
 record_again (records.Committed poll nonce version kind) rest h = (goes_then _ (goes_then _ (goes_then _ (goes_then _ (begins (Committed kind)) poll_field poll h.1.0) nonce_field nonce h.1.1) long_field version h.1.2) (kind_field kind) kind refl).at rest
 record_again (records.Voted poll hashes) rest h = (goes_then _ (goes_then _ (begins Voted) poll_field poll h.1.0) hashes_field hashes (h.0, h.1.1)).at rest
 record_again (records.Served poll block) rest h = (goes_then _ (goes_then _ (begins Served) poll_field poll h.1) block_field block h.0).at rest
@@ -214,29 +215,17 @@ record_field = record { takes = record_takes; again = record_again }
 
 batch_field : IsField batch_at batch_spelling IsBatch
 unfolding batch_at
-batch_field = list_field (from_one_at 65535) (to_be_bytes w16) (λ n. (1 ≤ n) × (n ≤ 65535)) (from_one_field 65535 (omega arith)) record_at spelling IsInLimits record_field
-
--- nothing is left
-ended : (rest : List ℕ) (x : Unit {0}) → field (end_of rest) ≡ Ok x → rest ≡ []
-ended [] x e = refl
-ended (b ∷ rest) x e = absurd cc
+batch_field = list_field (from_one_field 65535 (omega arith)) record_field
 
 -- what is read is spelled so
 pub read_spells : (bytes : List ℕ) (list : List Record) → IsBytes bytes → decode_of bytes ≡ Ok list → IsBatch list × (bytes ≡ batch_spelling list)
 unfolding decode_of
-read_spells bytes list fits e =
-    let a = bind_ok (batch_at bytes) (λ x. field (end_of x.1) >>= λ end. Ok x.0) list e in
-    let b = bind_ok (field (end_of a.0.1)) (λ end. Ok a.0.0) list a.2 in
-    let t = batch_field.takes bytes a.0 fits a.1 in
-    let whole : bytes ≡ batch_spelling a.0.0 = t.0.parts ∙ ap (λ (rest : List ℕ). batch_spelling a.0.0 ++ rest) (ended a.0.1 b.0 b.1) ∙ append-nil (batch_spelling a.0.0) in
-    subst (λ (y : List Record). IsBatch y × (bytes ≡ batch_spelling y)) (ok_is {E = RecFault} a.0.0 list b.2) (t.1, whole)
+read_spells bytes list fits e = whole_takes told_as batch_field bytes list fits e
 
 -- what is spelled so is read
 pub spelling_read : (list : List Record) → IsBatch list → decode_of (batch_spelling list) ≡ Ok list
 unfolding decode_of
-spelling_read list h =
-    let bare : batch_at (batch_spelling list) ≡ Ok (list, []) = ap batch_at (sym (append-nil (batch_spelling list))) ∙ batch_field.again list [] h in
-    ap (λ (r : Result (List Record × List ℕ) RecFault). r >>= λ x. field (end_of x.1) >>= λ end. Ok x.0) bare
+spelling_read list h = whole_again told_as batch_field list h
 
 -- ---- at the call
 

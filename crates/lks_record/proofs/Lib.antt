@@ -1,5 +1,3 @@
-pub mod Loops
-pub mod Steps
 pub mod Parts
 pub mod Headings
 pub mod Laws

@@ -1,5 +1,5 @@
 -- Reading a batch from left to right, with the first fault that is met.
-use Rattle.std.specs.Prelude.{◌≡◌, ◌==◌, ℕ, Bool, true, false, not, Option, None, Some, List, Result, Ok, Err, nat_lt, if◌then◌else◌}
+use Rattle.std.specs.Prelude.{◌==◌, ℕ, Bool, true, false, not, Option, None, Some, List, Result, Ok, Err, nat_lt, if◌then◌else◌}
 use Rattle.std.specs.Int.{w16, w32}
 use Rattle.lks_base.specs.declared.limits.TheConstants.{LAST_BLOCK, MOST_BLOCKS, MOST_BLOCK_BYTES, MOST_CIRCLE, MOST_NOMINEES, MOST_REPAIRS}
 use Rattle.lks_base.specs.declared.records.Record.{Record}
@@ -11,14 +11,14 @@ use Rattle.lks_base.specs.declared.names.PollName.{PollName}
 use Rattle.lks_base.specs.declared.names.Outcome.{Outcome}
 use Rattle.lks_base.specs.declared.names.Outcome.TheVariants as outcomes
 use Rattle.lks_base.specs.Quorums.{obeys_quorum_rule}
-use Rattle.lks_field.specs.Reading.{◌>>=◌, byte_at, bytes_at, hash_at, number_at, upto_at, many_at, end_of}
+use Rattle.lks_field.specs.Reading.{◌>>=◌, byte_at, given_at, hash_at, number_at, upto_at, sized_at, list_at, end_of, tagged, FailsBut, GivesBut, ReadsBut}
 use Rattle.lks_record.specs.declared.fault.RecFault.{RecFault}
-use Rattle.lks_record.specs.declared.fault.RecFault.TheVariants.{Form, Tag, Limit, Memory}
+use Rattle.lks_record.specs.declared.fault.RecFault.TheVariants.{Form, Tag, Limit}
 use Rattle.lks_record.specs.declared.heading.Opening.{Opening}
 use Rattle.lks_record.specs.declared.heading.Opening.TheVariants.{Plain, Limited, OfKind}
 use Rattle.lks_record.specs.declared.heading.Heading.{Heading}
 use Rattle.lks_record.specs.declared.heading.Heading.TheVariants.{Deposit, PollOpened, Nominated, OuterOpened, VoteIn, Shut, Asked, RepairBad, Replaced, Closed, Overdue, Joined, Committed, Voted, Served, Ended, Tuned}
-use Rattle.lks_record.specs.Faults.{field}
+use Rattle.lks_record.specs.Faults.{told_as, field, is_memory}
 
 -- ---- form and tag
 
@@ -56,20 +56,13 @@ second_heading tag =
 unfoldable pub third_heading : ℕ → Result Heading RecFault
 third_heading tag = if tag == 2 then Ok (PollOpened OfKind) else Err Tag
 
--- the tag decides under its form
-abbrev pub tagged : (ℕ → Result Heading RecFault) → List ℕ → Result (Heading × List ℕ) RecFault
-tagged heading_of bytes = do
-  tag ← field (byte_at bytes)
-  heading ← heading_of tag.0
-  Ok (heading, tag.1)
-
 -- form and tag: the form is judged before the tag is read
 unfoldable pub heading_at : List ℕ → Result (Heading × List ℕ) RecFault
 heading_at bytes = do
   form ← field (byte_at bytes)
-  if form.0 == 1 then tagged first_heading form.1
-      else if form.0 == 2 then tagged second_heading form.1
-      else if form.0 == 3 then tagged third_heading form.1
+  if form.0 == 1 then tagged told_as first_heading form.1
+      else if form.0 == 2 then tagged told_as second_heading form.1
+      else if form.0 == 3 then tagged told_as third_heading form.1
       else Err Form
 
 -- ---- fields
@@ -100,15 +93,11 @@ from_one_at most bytes = do
 
 -- at most so many peers behind their count, a byte
 unfoldable pub peers_at : ℕ → List ℕ → Result (List ℕ × List ℕ) RecFault
-peers_at most bytes = do
-  n ← field (upto_at most byte_at bytes)
-  many_at id_at n.0 n.1
+peers_at most bytes = field (list_at (upto_at most byte_at) (number_at w16) bytes)
 
 -- hashes behind their count
 unfoldable pub hashes_at : List ℕ → Result (List (List ℕ) × List ℕ) RecFault
-hashes_at bytes = do
-  n ← field (upto_at MOST_BLOCKS (number_at w16) bytes)
-  many_at nonce_at n.0 n.1
+hashes_at bytes = field (list_at (upto_at MOST_BLOCKS (number_at w16)) hash_at bytes)
 
 -- the number of a block
 unfoldable pub block_at : List ℕ → Result (ℕ × List ℕ) RecFault
@@ -116,15 +105,11 @@ block_at bytes = field (upto_at LAST_BLOCK (number_at w16) bytes)
 
 -- the bytes of a block behind their length
 unfoldable pub content_at : List ℕ → Result (List ℕ × List ℕ) RecFault
-content_at bytes = do
-  n ← field (upto_at MOST_BLOCK_BYTES (number_at w16) bytes)
-  field (bytes_at n.0 n.1)
+content_at bytes = field (sized_at (upto_at MOST_BLOCK_BYTES (number_at w16)) bytes)
 
--- blocks behind their count
+-- blocks behind their count, one at least
 unfoldable pub blocks_at : List ℕ → Result (List (List ℕ) × List ℕ) RecFault
-blocks_at bytes = do
-  n ← from_one_at MOST_BLOCKS bytes
-  many_at content_at n.0 n.1
+blocks_at bytes = list_at (from_one_at MOST_BLOCKS) content_at bytes
 
 -- the name of a poll
 unfoldable pub poll_at : List ℕ → Result (PollName × List ℕ) RecFault
@@ -161,8 +146,8 @@ optional_at reader true bytes = do
 unfoldable pub kind_at : HashKind → List ℕ → Result (HashKind × List ℕ) RecFault
 kind_at Sha256 bytes = Ok (Sha256, bytes)
 kind_at Sha512_256 bytes = do
-  kind ← field (byte_at bytes)
-  if kind.0 == 2 then Ok (Sha512_256, kind.1) else Err Limit
+  known ← field (given_at 2 bytes)
+  Ok (Sha512_256, known.1)
 
 -- the greatest block that may follow a code
 abbrev pub last_block : ℕ → ℕ
@@ -361,9 +346,7 @@ record_at bytes = do
 
 -- records behind their count, one at least
 unfoldable pub batch_at : List ℕ → Result (List Record × List ℕ) RecFault
-batch_at bytes = do
-  n ← from_one_at 65535 bytes
-  many_at record_at n.0 n.1
+batch_at bytes = list_at (from_one_at 65535) record_at bytes
 
 -- the batch that all of the bytes spell, or their first fault
 unfoldable pub decode_of : List ℕ → Result (List Record) RecFault
@@ -376,18 +359,15 @@ decode_of bytes = do
 
 -- The fault is the one of reading, or memory ran out.
 abbrev pub Fails : {X : Type 0} → RecFault → Result X RecFault → Type 0
-Fails Memory read = Unit {0}
-Fails fault read = read ≡ Err fault
+Fails fault read = FailsBut is_memory fault read
 
 -- The answer, seen by view, is that of reading, unless memory ran out.
 abbrev pub Gives : {X Y : Type 0} → (X → Y) → Result X RecFault → Result Y RecFault → Type 0
-Gives view (Ok x) read = read ≡ Ok (view x)
-Gives view (Err fault) read = Fails fault read
+Gives view result read = GivesBut is_memory view result read
 
 -- The same where bytes are left.
 abbrev pub ReadsBy : {X Y : Type 0} → (X → Y) → Result X RecFault → List ℕ → Result (Y × List ℕ) RecFault → Type 0
-ReadsBy view (Ok x) left read = read ≡ Ok (view x, left)
-ReadsBy view (Err fault) left read = Fails fault read
+ReadsBy view result left read = ReadsBut is_memory view result left read
 
 -- the same of an answer that is seen as it is
 abbrev pub Reads : {X : Type 0} → Result X RecFault → List ℕ → Result (X × List ℕ) RecFault → Type 0

@@ -1,5 +1,5 @@
 -- The one spelling of each record and each batch.
-use Rattle.std.specs.Prelude.{◌≡◌, ℕ, ◌<◌, ◌≤◌, ◌^◌, Bool, true, false, Option, None, Some, IfSome, List, [], ◌∷◌, ◌++◌, length, All}
+use Rattle.std.specs.Prelude.{◌≡◌, ℕ, ◌<◌, ◌≤◌, ◌^◌, Bool, true, Option, None, Some, IfSome, List, [], ◌∷◌, ◌++◌, length, All}
 use Rattle.std.specs.List.{flat_map}
 use Rattle.std.specs.Int.{w16, w32, to_be_bytes}
 use Rattle.lks_base.specs.declared.limits.TheConstants.{LAST_BLOCK, MOST_BLOCKS, MOST_BLOCK_BYTES, MOST_CIRCLE, MOST_NOMINEES, MOST_REPAIRS}
@@ -12,6 +12,8 @@ use Rattle.lks_base.specs.declared.names.PollName.{PollName}
 use Rattle.lks_base.specs.declared.names.Outcome.{Outcome}
 use Rattle.lks_base.specs.declared.names.Outcome.TheVariants.{Agreed, Inquorate, Split, NoSupplier}
 use Rattle.lks_base.specs.Quorums.{obeys_quorum_rule}
+use Rattle.lks_field.specs.Spelling.{flag}
+pub use Rattle.lks_field.specs.Spelling.{number_bytes as peer_bytes, hash_bytes, sized_bytes as content_bytes}
 
 -- what each record begins with: its form and its tag
 abbrev pub start : ℕ → ℕ → List ℕ
@@ -35,25 +37,12 @@ committed_form Sha512_256 = 2
 
 -- the byte of yes or no
 abbrev pub flag_bytes : Bool → List ℕ
-flag_bytes false = 0 ∷ []
-flag_bytes true = 1 ∷ []
+flag_bytes told = flag told ∷ []
 
 -- the second kind has a byte, the first none
 abbrev pub kind_bytes : HashKind → List ℕ
 kind_bytes Sha256 = []
 kind_bytes Sha512_256 = 2 ∷ []
-
--- peers behind their count, a byte
-abbrev pub peer_bytes : List ℕ → List ℕ
-peer_bytes peers = length peers ∷ flat_map (to_be_bytes w16) peers
-
--- hashes behind their count
-abbrev pub hash_bytes : List (List ℕ) → List ℕ
-hash_bytes hashes = to_be_bytes w16 (length hashes) ++ flat_map (λ h. h) hashes
-
--- the bytes of a block behind their length
-abbrev pub content_bytes : List ℕ → List ℕ
-content_bytes bytes = to_be_bytes w16 (length bytes) ++ bytes
 
 -- blocks behind their count
 abbrev pub block_bytes : List (List ℕ) → List ℕ

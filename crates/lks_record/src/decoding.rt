@@ -277,7 +277,7 @@ fn many_records(alloc: Global, count: u16, fields: &mut Fields<'_>) -> Result<Ve
     Ok(list)
 }
 
-#[tactic(auto, unfolding(crate::specs::Reading::batch_at))]
+#[tactic(auto, unfolding(crate::specs::Reading::batch_at, lks_field::specs::Reading::list_at))]
 fn batch_of(alloc: Global, fields: &mut Fields<'_>) -> Result<Vec<Record>, RecFault>
     ensures { ReadsBy (λ v. v.items) result fields.new (batch_at fields.old) }
 {

@@ -7,11 +7,11 @@ ghost use Rattle.lks_record.specs.Reading.{decode_of};
 ghost use Rattle.lks_record.specs.Sizes.{most_batch_bytes};
 
 use crate::writing::{
-    Written, put_blocks, put_content, put_flag, put_hashes, put_kind, put_limits,
-    put_optional_limits, put_optional_repairs, put_outcome, put_peers, put_poll, put_start,
+    Written, put_blocks, put_flag, put_kind, put_limits, put_optional_limits, put_optional_repairs,
+    put_outcome, put_poll, put_start,
 };
 use lks_base::{Bytes, HashKind, Limits, OutOfMemory, Outcome, PollName, Record};
-use lks_field::{put_be16, put_be32, put_bytes};
+use lks_field::{put_be16, put_be32, put_bytes, put_hashes, put_numbers, put_sized};
 use std::alloc::Global;
 
 fn form_of_opening(limits: Option<Limits>, kind: HashKind) -> u8
@@ -73,7 +73,7 @@ fn put_opened(
     put_be32(out, number)?;
     put_be16(out, au)?;
     put_bytes(out, nonce)?;
-    put_peers(out, inner)?;
+    put_numbers(out, inner)?;
     put_be32(out, tick)?;
     put_optional_limits(out, limits)?;
     put_kind(out, kind)
@@ -88,7 +88,7 @@ fn put_nominated(out: &mut Vec<u8>, number: u32, voter: u16, nominees: &[u16]) -
     put_start(out, 1, 3)?;
     put_be32(out, number)?;
     put_be16(out, voter)?;
-    put_peers(out, nominees)
+    put_numbers(out, nominees)
 }
 
 #[tactic(auto, unfolding(crate::specs::Spelling::spelling))]
@@ -99,7 +99,7 @@ fn put_outer(out: &mut Vec<u8>, number: u32, outer: &[u16]) -> Written
 {
     put_start(out, 1, 4)?;
     put_be32(out, number)?;
-    put_peers(out, outer)
+    put_numbers(out, outer)
 }
 
 #[tactic(auto, unfolding(crate::specs::Spelling::spelling))]
@@ -155,7 +155,7 @@ fn put_replaced(out: &mut Vec<u8>, number: u32, au: u16, block: u16, bytes: &[u8
     put_be32(out, number)?;
     put_be16(out, au)?;
     put_be16(out, block)?;
-    put_content(out, bytes)
+    put_sized(out, bytes)
 }
 
 #[tactic(auto, unfolding(crate::specs::Spelling::spelling))]

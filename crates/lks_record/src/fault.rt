@@ -31,6 +31,7 @@ impl From<FieldFault> for RecFault {
             FieldFault::Short => RecFault::Short,
             FieldFault::Value => RecFault::Limit,
             FieldFault::Long => RecFault::Trailing,
+            FieldFault::Memory => RecFault::Memory,
         }
     }
 }

@@ -1,8 +1,7 @@
 //! Reading the fields that records share.
 
 ghost use Rattle.std.specs.Prelude.{◌≡◌};
-ghost use Rattle.lks_field.specs.Reading.{byte_at, upto_at, many_at};
-ghost use Rattle.lks_record.specs.Faults.{field};
+ghost use Rattle.lks_field.specs.Reading.{many_at};
 ghost use Rattle.lks_record.specs.Reading.{Reads, id_at, long_at, nonce_at, flag_at, from_one_at, peers_at, hashes_at, block_at, content_at, blocks_at, poll_at, minority_at, limits_at, repairs_at, optional_at, kind_at, outcome_at};
 
 use crate::fault::RecFault;
@@ -12,17 +11,6 @@ use lks_base::{
 };
 use lks_field::Fields;
 use std::alloc::Global;
-
-#[tactic(auto, unfolding(lks_field::specs::Reading::upto_at))]
-fn byte_upto(most: u8, fields: &mut Fields<'_>) -> Result<u8, RecFault>
-    ensures { Reads result fields.new (field (upto_at most byte_at fields.old)) }
-{
-    let byte = fields.get_u8()?;
-    if byte > most {
-        return Err(RecFault::Limit);
-    }
-    Ok(byte)
-}
 
 /// The number of a peer or an AU.
 #[tactic(auto, unfolding(crate::specs::Reading::id_at))]
@@ -52,7 +40,7 @@ pub fn nonce_of(fields: &mut Fields<'_>) -> Result<[u8; 32], RecFault>
 pub fn flag_of(fields: &mut Fields<'_>) -> Result<bool, RecFault>
     ensures { Reads result fields.new (flag_at fields.old) }
 {
-    let flag = byte_upto(1, fields)?;
+    let flag = fields.get_u8_upto(1)?;
     Ok(flag == 1)
 }
 
@@ -68,42 +56,18 @@ pub fn from_one_of(most: u16, fields: &mut Fields<'_>) -> Result<u16, RecFault>
     Ok(number)
 }
 
-fn many_ids(alloc: Global, count: u8, fields: &mut Fields<'_>) -> Result<Ids, RecFault>
-    ensures { Reads result fields.new (many_at id_at count fields.old) }
-{
-    let mut ids = Vec::new(alloc);
-    for _ in 0..count {
-        let id = id_of(fields)?;
-        ids.push(id)?;
-    }
-    Ok(Ids::from_vec(ids))
-}
-
 #[tactic(auto, unfolding(crate::specs::Reading::peers_at))]
 pub fn peers_of(alloc: Global, most: u8, fields: &mut Fields<'_>) -> Result<Ids, RecFault>
     ensures { Reads result fields.new (peers_at most fields.old) }
 {
-    let count = byte_upto(most, fields)?;
-    many_ids(alloc, count, fields)
-}
-
-fn many_hashes(alloc: Global, count: u16, fields: &mut Fields<'_>) -> Result<Hashes, RecFault>
-    ensures { Reads result fields.new (many_at nonce_at count fields.old) }
-{
-    let mut hashes = Vec::new(alloc);
-    for _ in 0..count {
-        let hash = nonce_of(fields)?;
-        hashes.push(hash)?;
-    }
-    Ok(Hashes::from_vec(hashes))
+    Ok(Ids::from_vec(fields.get_numbers(alloc, most)?))
 }
 
 #[tactic(auto, unfolding(crate::specs::Reading::hashes_at))]
 pub fn hashes_of(alloc: Global, fields: &mut Fields<'_>) -> Result<Hashes, RecFault>
     ensures { Reads result fields.new (hashes_at fields.old) }
 {
-    let count = fields.get_upto(MOST_BLOCKS)?;
-    many_hashes(alloc, count, fields)
+    Ok(Hashes::from_vec(fields.get_hashes(alloc, MOST_BLOCKS)?))
 }
 
 #[tactic(auto, unfolding(crate::specs::Reading::block_at))]
@@ -118,9 +82,7 @@ pub fn block_of(fields: &mut Fields<'_>) -> Result<u16, RecFault>
 pub fn content_of(alloc: Global, fields: &mut Fields<'_>) -> Result<Bytes, RecFault>
     ensures { Reads result fields.new (content_at fields.old) }
 {
-    let length = fields.get_upto(MOST_BLOCK_BYTES)?;
-    let content = fields.get_bytes(length as usize)?;
-    Ok(Bytes::from_vec(Vec::from_slice(alloc, content)?))
+    Ok(Bytes::from_vec(fields.get_sized(alloc, MOST_BLOCK_BYTES)?))
 }
 
 fn many_blocks(alloc: Global, count: u16, fields: &mut Fields<'_>) -> Result<Blocks, RecFault>
@@ -134,7 +96,7 @@ fn many_blocks(alloc: Global, count: u16, fields: &mut Fields<'_>) -> Result<Blo
     Ok(Blocks::from_vec(blocks))
 }
 
-#[tactic(auto, unfolding(crate::specs::Reading::blocks_at))]
+#[tactic(auto, unfolding(crate::specs::Reading::blocks_at, lks_field::specs::Reading::list_at))]
 pub fn blocks_of(alloc: Global, fields: &mut Fields<'_>) -> Result<Blocks, RecFault>
     ensures { Reads result fields.new (blocks_at fields.old) }
 {
@@ -208,9 +170,7 @@ pub fn kind_of(kind: HashKind, fields: &mut Fields<'_>) -> Result<HashKind, RecF
     match kind {
         HashKind::Sha256 => Ok(HashKind::Sha256),
         HashKind::Sha512_256 => {
-            if fields.get_u8()? != 2 {
-                return Err(RecFault::Limit);
-            }
+            fields.get_given(2)?;
             Ok(HashKind::Sha512_256)
         }
     }
@@ -220,7 +180,7 @@ pub fn kind_of(kind: HashKind, fields: &mut Fields<'_>) -> Result<HashKind, RecF
 pub fn outcome_of(fields: &mut Fields<'_>) -> Result<Outcome, RecFault>
     ensures { Reads result fields.new (outcome_at fields.old) }
 {
-    let code = byte_upto(3, fields)?;
+    let code = fields.get_u8_upto(3)?;
     let last = if code < 2 { 0 } else { LAST_BLOCK };
     let block = fields.get_upto(last)?;
     Ok(match code {

@@ -2,11 +2,11 @@
 
 ghost use Rattle.std.specs.Prelude.{◌≡◌, ◌≤◌, ◌++◌, ◌∷◌, length, OnOk, All};
 ghost use Rattle.std.specs.Int.{w16, to_be_bytes};
-ghost use Rattle.lks_base.specs.declared.limits.TheConstants.{MOST_BLOCKS, MOST_BLOCK_BYTES, MOST_CIRCLE};
-ghost use Rattle.lks_record.specs.Spelling.{start, kind_bytes, peer_bytes, hash_bytes, content_bytes, block_bytes, flag_bytes, poll_bytes, limit_bytes, optional, outcome_bytes};
+ghost use Rattle.lks_base.specs.declared.limits.TheConstants.{MOST_BLOCKS, MOST_BLOCK_BYTES};
+ghost use Rattle.lks_record.specs.Spelling.{start, kind_bytes, block_bytes, flag_bytes, poll_bytes, limit_bytes, optional, outcome_bytes};
 
 use lks_base::{Bytes, HashKind, Limits, Outcome, PollName};
-use lks_field::{put_be16, put_be32, put_bytes, put_u8};
+use lks_field::{put_be16, put_be32, put_sized, put_u8};
 
 pub type Written = Result<(), lks_field::OutOfMemory>;
 
@@ -18,39 +18,6 @@ pub fn put_start(out: &mut Vec<u8>, form: u8, tag: u8) -> Written
     put_u8(out, tag)
 }
 
-/// Peers behind their count, a byte.
-pub fn put_peers(out: &mut Vec<u8>, peers: &[u16]) -> Written
-    requires { length peers.now ≤ MOST_CIRCLE }
-    ensures { OnOk result (out.new.items ≡ out.old.items ++ peer_bytes peers.now) }
-{
-    put_u8(out, peers.len() as u8)?;
-    for peer in peers {
-        put_be16(out, *peer)?;
-    }
-    Ok(())
-}
-
-/// Hashes behind their count.
-pub fn put_hashes(out: &mut Vec<u8>, hashes: &[[u8; 32]]) -> Written
-    requires { length hashes.now ≤ MOST_BLOCKS }
-    ensures { OnOk result (out.new.items ≡ out.old.items ++ hash_bytes hashes.now) }
-{
-    put_be16(out, hashes.len() as u16)?;
-    for hash in hashes {
-        put_bytes(out, hash)?;
-    }
-    Ok(())
-}
-
-/// The bytes of a block, behind their length.
-pub fn put_content(out: &mut Vec<u8>, bytes: &[u8]) -> Written
-    requires { length bytes.now ≤ MOST_BLOCK_BYTES }
-    ensures { OnOk result (out.new.items ≡ out.old.items ++ content_bytes bytes.now) }
-{
-    put_be16(out, bytes.len() as u16)?;
-    put_bytes(out, bytes)
-}
-
 /// Blocks behind their count.
 pub fn put_blocks(out: &mut Vec<u8>, blocks: &[Bytes]) -> Written
     requires count { length blocks.now ≤ MOST_BLOCKS }
@@ -59,7 +26,7 @@ pub fn put_blocks(out: &mut Vec<u8>, blocks: &[Bytes]) -> Written
 {
     put_be16(out, blocks.len() as u16)?;
     for block in blocks {
-        put_content(out, block.as_slice())?;
+        put_sized(out, block.as_slice())?;
     }
     Ok(())
 }

@@ -11,6 +11,8 @@ use Rattle.lks_base.specs.declared.names.Judged.{Judged}
 use Rattle.lks_base.specs.declared.names.Judged.TheVariants.{NotAsked, Accepted, Refused}
 use Rattle.lks_base.specs.declared.names.Outcome.{Outcome}
 use Rattle.lks_base.specs.declared.names.Outcome.TheVariants as closing
+use Rattle.lks_words.specs.Printing.{behind}
+use Rattle.lks_words.specs.Steps.{own_words}
 
 -- words with a space between each two
 abbrev pub spaced : List (List ℕ) → List ℕ
@@ -22,23 +24,23 @@ judged_words NotAsked = []
 judged_words Accepted = codes " accepted"
 judged_words Refused = codes " refused"
 
--- a step; a delivery from one peer to another names both
+-- of a delivery, from whom and to whom, and what the judge said
+unfoldable pub delivery_words : ℕ → ℕ → PeerStep → List ℕ
+delivery_words from to (step.OpenPoll peer au) = []
+delivery_words from to (step.Widen peer number) = []
+delivery_words from to (step.Shut peer number) = []
+delivery_words from to (step.Tally peer number) = []
+delivery_words from to (step.Nudge peer number) = []
+delivery_words from to (step.GiveUp peer number) = []
+delivery_words from to (step.Work peer poll) = []
+delivery_words from to (step.Expire peer poll) = []
+delivery_words from to (step.Check peer) = []
+delivery_words from to (step.Tune peer quorum minority repairs) = []
+delivery_words from to (step.Deliver envelope judged) = behind 32 decimal (from ∷ to ∷ []) ++ judged_words judged
+
+-- a step, as scripts say it, and behind a delivery its two peers
 unfoldable pub step_words : ℕ → ℕ → PeerStep → List ℕ
-step_words from to (step.OpenPoll peer au) = spaced (codes "open" ∷ decimal peer ∷ decimal au ∷ [])
-step_words from to (step.Widen peer number) = spaced (codes "outer" ∷ decimal peer ∷ decimal number ∷ [])
-step_words from to (step.Shut peer number) = spaced (codes "shut" ∷ decimal peer ∷ decimal number ∷ [])
-step_words from to (step.Tally peer number) = spaced (codes "tally" ∷ decimal peer ∷ decimal number ∷ [])
-step_words from to (step.Nudge peer number) = spaced (codes "nudge" ∷ decimal peer ∷ decimal number ∷ [])
-step_words from to (step.GiveUp peer number) = spaced (codes "give-up" ∷ decimal peer ∷ decimal number ∷ [])
-step_words from to (step.Work peer poll) =
-    spaced (codes "work" ∷ decimal peer ∷ decimal poll.poller ∷ decimal poll.number ∷ [])
-step_words from to (step.Expire peer poll) =
-    spaced (codes "expire" ∷ decimal peer ∷ decimal poll.poller ∷ decimal poll.number ∷ [])
-step_words from to (step.Check peer) = spaced (codes "check" ∷ decimal peer ∷ [])
-step_words from to (step.Tune peer quorum minority repairs) =
-    spaced (codes "tune" ∷ decimal peer ∷ decimal quorum ∷ decimal minority ∷ decimal repairs ∷ [])
-step_words from to (step.Deliver envelope judged) =
-    spaced (codes "deliver" ∷ decimal envelope ∷ decimal from ∷ decimal to ∷ []) ++ judged_words judged
+step_words from to s = own_words s ++ delivery_words from to s
 
 -- an event; one that the power cut says whether the journal has it
 unfoldable pub event_words : ℕ → ℕ → Event → List ℕ

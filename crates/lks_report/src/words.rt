@@ -1,6 +1,6 @@
 //! The words of events and notes.
 ghost use Rattle.std.specs.Prelude.{◌≡◌, ◌++◌, OnOk, string_bytes};
-ghost use Rattle.lks_report.specs.Words.{judged_words, step_words, event_words, outcome_words, grade_word, note_words, notes_words};
+ghost use Rattle.lks_report.specs.Words.{judged_words, delivery_words, step_words, event_words, outcome_words, grade_word, note_words, notes_words};
 
 use lks_base::{AuId, Entry, Event, Judged, Note, Outcome, PeerStep, PollName};
 use std::alloc::AllocError;
@@ -16,36 +16,34 @@ fn judged_text(judged: Judged) -> &'static str
     }
 }
 
+/// Of a delivery, from whom and to whom, and what the judge said.
+#[tactic(auto, unfolding(crate::specs::Words::delivery_words))]
+fn put_delivery(out: &mut String, from: u16, to: u16, step: &PeerStep) -> Result<(), AllocError>
+    ensures { OnOk result
+        (string_bytes out.new ≡ string_bytes out.old ++ delivery_words from to step.now) }
+{
+    match *step {
+        PeerStep::Deliver { judged, .. } => write!(out, " {from} {to}{}", judged_text(judged)),
+        PeerStep::OpenPoll { .. }
+        | PeerStep::Widen { .. }
+        | PeerStep::Shut { .. }
+        | PeerStep::Tally { .. }
+        | PeerStep::Nudge { .. }
+        | PeerStep::GiveUp { .. }
+        | PeerStep::Work { .. }
+        | PeerStep::Expire { .. }
+        | PeerStep::Check { .. }
+        | PeerStep::Tune { .. } => Ok(()),
+    }
+}
+
 #[tactic(auto, unfolding(crate::specs::Words::step_words))]
 fn put_step(out: &mut String, from: u16, to: u16, step: &PeerStep) -> Result<(), AllocError>
     ensures { OnOk result
         (string_bytes out.new ≡ string_bytes out.old ++ step_words from to step.now) }
 {
-    match *step {
-        PeerStep::OpenPoll { peer, au } => write!(out, "open {peer} {au}"),
-        PeerStep::Widen { peer, number } => write!(out, "outer {peer} {number}"),
-        PeerStep::Shut { peer, number } => write!(out, "shut {peer} {number}"),
-        PeerStep::Tally { peer, number } => write!(out, "tally {peer} {number}"),
-        PeerStep::Nudge { peer, number } => write!(out, "nudge {peer} {number}"),
-        PeerStep::GiveUp { peer, number } => write!(out, "give-up {peer} {number}"),
-        PeerStep::Work { peer, poll } => {
-            write!(out, "work {peer} {} {}", poll.poller, poll.number)
-        }
-        PeerStep::Expire { peer, poll } => {
-            write!(out, "expire {peer} {} {}", poll.poller, poll.number)
-        }
-        PeerStep::Check { peer } => write!(out, "check {peer}"),
-        PeerStep::Tune {
-            peer,
-            quorum,
-            minority,
-            repairs,
-        } => write!(out, "tune {peer} {quorum} {minority} {repairs}"),
-        PeerStep::Deliver { envelope, judged } => {
-            let judged = judged_text(judged);
-            write!(out, "deliver {envelope} {from} {to}{judged}")
-        }
-    }
+    lks_words::put_step(out, step)?;
+    put_delivery(out, from, to, step)
 }
 
 #[tactic(auto, unfolding(crate::specs::Words::event_words))]

@@ -1,5 +1,5 @@
 -- What is read breaks no rule: the plan passes its check, and each step is one of the plan.
-use Rattle.std.proofs.Common.{◌≡◌, ℕ, ◌+◌, Bool, true, false, cond, ◌&&◌, List, [], ◌∷◌, ◌++◌, length, Option, Some, None, Result, Ok, Err, ◌⊎◌, inl, inr, eqb, refl, sym, ap, subst, ◌∙◌}
+use Rattle.std.proofs.Common.{◌≡◌, ℕ, ◌+◌, true, cond, ◌&&◌, List, [], ◌∷◌, ◌++◌, length, Option, Some, None, Result, Ok, Err, inl, inr, eqb, refl, sym, ap, subst, ◌∙◌}
 use Rattle.std.specs.Option.{option_map}
 use Rattle.std.specs.Prelude.{codes, nat_le, unwrap_or, IfOk}
 use Rattle.std.specs.Str.{bytes_eq}
@@ -26,16 +26,10 @@ use Rattle.lks_lines.specs.PlanLines.{numbers_in, rules_in, are_good, aus_with, 
 use Rattle.lks_lines.specs.ListLines.{draft_with_list, draft_with_hash}
 use Rattle.lks_lines.specs.CopyLines.{draft_with_copy, draft_with_damage}
 use Rattle.lks_words.proofs.Decimals.{number_most}
-use Rattle.lks_words.proofs.Steps.{bind_some, if_some, same_some}
+use Rattle.lks_words.proofs.Steps.{bind_some, map_some, if_some, if_else, same_some}
 use Rattle.lks_lines.proofs.Passing.{Ready, Peopled, AreAus, passes, begun_ready, aus_good, peer_good, list_good, hash_good, copy_good, damage_good}
 use Rattle.lks_script.specs.StepLines.{step_in, steps_with}
 use Rattle.lks_script.specs.Grammar.{title_line, rules_line, au_line, turns_line, peer_line, ruled_line, step_line, later_line, declares_peer, planned_line, stepped_line, line_in, means_nothing, with_line, ended, line_number, end_in, lines_in, script_of, Answers}
-
--- ---- steps that found something
-
-map_some : {A B : Type 0} (f : A → B) (o : Option A) (y : B) → option_map f o ≡ Some y → (x : A) × (o ≡ Some x) × (f x ≡ y)
-map_some f (Some x) y e = (x, refl, cc)
-map_some f None y e = absurd cc
 
 -- ---- steps
 
@@ -82,10 +76,6 @@ peer_line_sound plan more draft h e =
     along (Planned part.Peers a.0) draft a.2 (peer_good plan a.0 more h a.1)
 
 -- ---- each kind of line
-
-if_else : {A : Type 0} (b : Bool) (x y : Option A) (z : A) → cond b x y ≡ Some z → ((b ≡ true) × (x ≡ Some z)) ⊎ ((b ≡ false) × (y ≡ Some z))
-if_else true x y z e = inl (refl, e)
-if_else false x y z e = inr (refl, e)
 
 -- a line of lists or copies
 given_sound : (given : Option PlanDraft) (draft : Draft) → ((p : PlanDraft) → given ≡ Some p → Peopled p) → option_map (λ p. Planned part.Lists p) given ≡ Some draft → Sound draft
@@ -224,11 +214,11 @@ ended_good (Stepped plan steps) script h e =
     let made : Script = record { plan = plan; steps = steps } in
     subst GoodScript (same_some made script e) (h.good, h.steps_of)
 
-found_script : (o : Option Script) (n : ℕ) (script : Script) → elim o as (λ _. Result Script ℕ) [ Some s ↦ Ok s | None ↦ Err n ] ≡ Ok script → o ≡ Some script
+pub found_script : (o : Option Script) (n : ℕ) (script : Script) → elim o as (λ _. Result Script ℕ) [ Some s ↦ Ok s | None ↦ Err n ] ≡ Ok script → o ≡ Some script
 found_script (Some s) n script e = cc
 found_script None n script e = absurd cc
 
-found_draft : (o : Option Draft) (f : Draft → Result Script ℕ) (n : ℕ) (script : Script) → elim o as (λ _. Result Script ℕ) [ Some d ↦ f d | None ↦ Err n ] ≡ Ok script → (d : Draft) × (o ≡ Some d) × (f d ≡ Ok script)
+pub found_draft : (o : Option Draft) (f : Draft → Result Script ℕ) (n : ℕ) (script : Script) → elim o as (λ _. Result Script ℕ) [ Some d ↦ f d | None ↦ Err n ] ≡ Ok script → (d : Draft) × (o ≡ Some d) × (f d ≡ Ok script)
 found_draft (Some d) f n script e = (d, refl, e)
 found_draft None f n script e = absurd cc
 

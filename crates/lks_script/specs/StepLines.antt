@@ -284,3 +284,10 @@ unfoldable pub steps_with : Plan → List Step → List ℕ → List (List ℕ) 
 steps_with plan steps key more = do
   step ← step_in key more
   if is_step_of plan step && has_power_for steps step then Some (steps ++ step ∷ []) else None
+
+-- the step that the words of a line say by themselves under the plan
+unfoldable pub step_under : Plan → List (List ℕ) → Option Step
+step_under plan (key ∷ more) = do
+  step ← step_in key more
+  if is_step_of plan step then Some step else None
+step_under plan _ = None

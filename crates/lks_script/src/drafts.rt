@@ -167,7 +167,7 @@ impl Part {
 }
 
 #[tactic(auto, unfolding(crate::specs::Grammar::step_line))]
-fn read_step(
+fn read_next(
     alloc: Global,
     plan: Plan,
     steps: Seq<Step>,
@@ -203,7 +203,7 @@ fn read_later(alloc: Global, plan: PlanDraft, key: &[u8], more: &[&[u8]]) -> Res
         Ok(listed(add_damage(alloc, plan, more)?))
     } else {
         let PlanDraft { plan, .. } = plan;
-        read_step(alloc, plan, Seq::from_vec(Vec::new(alloc)), key, more)
+        read_next(alloc, plan, Seq::from_vec(Vec::new(alloc)), key, more)
     }
 }
 
@@ -228,7 +228,7 @@ fn read_stepped(alloc: Global, plan: Plan, steps: Seq<Step>, words: &[&[u8]]) ->
     let [key, more @ ..] = words else {
         return Err(Stop::Bad);
     };
-    read_step(alloc, plan, steps, key, more)
+    read_next(alloc, plan, steps, key, more)
 }
 
 /// The script with one line more.

@@ -13,4 +13,5 @@ mod tests;
 
 pub use faults::ScriptFault;
 pub use reading::read_script;
+pub use step_lines::read_step;
 pub use steps::{CutStep, MOST_CUT_CALLS, MOST_POWER_FAILURES, Script, Step};

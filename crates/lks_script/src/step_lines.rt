@@ -1,14 +1,14 @@
 //! Lines that say a step.
 
-ghost use Rattle.std.specs.Prelude.{◌≡◌, map};
-ghost use Rattle.lks_words.specs.Words.{Gives};
-ghost use Rattle.lks_script.specs.StepLines.{open_in, own_poll_in, poll_step_in, in_own_poll, check_in, session_in, work_in, expire_in, tune_in, own_step_in, peer_step_in, tick_in, next_in, lose_in, again_in, settle_in, finish_in, forge_in, crash_in, cut_next_in, cut_again_in, cut_own_in, cut_step_in, cut_in, step_in, steps_with};
+ghost use Rattle.std.specs.Prelude.{◌≡◌, map, IfOk};
+ghost use Rattle.lks_words.specs.Words.{Gives, parts};
+ghost use Rattle.lks_script.specs.StepLines.{open_in, own_poll_in, poll_step_in, in_own_poll, check_in, session_in, work_in, expire_in, tune_in, own_step_in, peer_step_in, tick_in, next_in, lose_in, again_in, settle_in, finish_in, forge_in, crash_in, cut_next_in, cut_again_in, cut_own_in, cut_step_in, cut_in, step_in, steps_with, step_under};
 
 use crate::say_lines::say;
 use crate::step_rules::{power_for, step_of};
 use crate::steps::{CutStep, Step};
-use lks_base::{PeerId, PeerStep, Plan, PollName, Seq};
-use lks_words::{Stop, bytes, count, id, large, poll, small};
+use lks_base::{OutOfMemory, PeerId, PeerStep, Plan, PollName, Seq};
+use lks_words::{Stop, bytes, count, id, large, poll, small, split};
 use std::alloc::Global;
 
 #[tactic(auto, unfolding(crate::specs::StepLines::open_in))]
@@ -351,4 +351,30 @@ pub fn add_step(
     let mut steps = steps.into_vec();
     steps.push(step)?;
     Ok(Seq::from_vec(steps))
+}
+
+#[tactic(auto, unfolding(crate::specs::StepLines::step_under))]
+fn single_step(alloc: Global, plan: &Plan, words: &[&[u8]]) -> Result<Step, Stop>
+    ensures { Gives result (step_under plan.now (map (λ w. w.now) words.now)) }
+{
+    let [key, more @ ..] = words else {
+        return Err(Stop::Bad);
+    };
+    let step = step(alloc, key, more)?;
+    if !step_of(plan, &step) {
+        return Err(Stop::Bad);
+    }
+    Ok(step)
+}
+
+/// The step that a line says by itself, without its line feed. There is none exactly where it isn't a step line under the plan.
+pub fn read_step(alloc: Global, plan: &Plan, line: &[u8]) -> Result<Option<Step>, OutOfMemory>
+    ensures { IfOk result (λ step. step ≡ step_under plan.now (parts 32 line.now)) }
+{
+    let words = split(alloc, line, b' ').map_err(|_| OutOfMemory)?;
+    match single_step(alloc, plan, &words) {
+        Ok(step) => Ok(Some(step)),
+        Err(Stop::Bad) => Ok(None),
+        Err(Stop::Memory) => Err(OutOfMemory),
+    }
 }

@@ -718,3 +718,32 @@ fn at_most_so_many_peers(rt: HostRuntime) -> Result<(), Fail> {
     );
     Ok(())
 }
+
+#[test]
+fn a_step_line_by_itself(rt: HostRuntime) -> Result<(), Fail> {
+    let alloc = rt.alloc();
+    let bytes = joined(alloc, &[TITLE, RULES, AU, PEERS])?;
+    let script = read_script(alloc, &bytes).ok().ok_or("bad script")?;
+    let read = read_step(alloc, &script.plan, b"open 1 1")
+        .ok()
+        .ok_or("memory")?;
+    assert!(rt;
+        matches!(
+            read,
+            Some(Step::Peer(PeerStep::OpenPoll { peer: 1, au: 1 }))
+        )
+    );
+    for line in [
+        "open 1",
+        "open 2 1",
+        "open 1 1\n",
+        "next 4097",
+        "copy 1 1 41",
+        "",
+        "# open 1 1",
+    ] {
+        let read = read_step(alloc, &script.plan, line.as_bytes());
+        assert!(rt; matches!(read, Ok(None)));
+    }
+    Ok(())
+}

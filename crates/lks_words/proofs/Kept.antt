@@ -128,7 +128,7 @@ bytes_again bytes fit = or_again MOST_FORGED_BYTES (hex_in MOST_FORGED_BYTES) by
 
 -- ---- blocks
 
-bytes_replicate : (n b : ℕ) → b < 256 → IsBytes (replicate n b)
+pub bytes_replicate : (n b : ℕ) → b < 256 → IsBytes (replicate n b)
 bytes_replicate zero b lt i = omega arith
 bytes_replicate (suc n) b lt zero = lt
 bytes_replicate (suc n) b lt (suc i) = bytes_replicate n b lt i
@@ -266,7 +266,7 @@ hash_above Sha512_256 = refl
 
 -- ---- seeds
 
-bytes_append : (a b : List ℕ) → IsBytes a → IsBytes b → IsBytes (a ++ b)
+pub bytes_append : (a b : List ℕ) → IsBytes a → IsBytes b → IsBytes (a ++ b)
 bytes_append [] b p q i = q i
 bytes_append (x ∷ a) b p q zero = p zero
 bytes_append (x ∷ a) b p q (suc i) = bytes_append a b (λ k. p (suc k)) q i

@@ -1,5 +1,6 @@
 -- Steps one behind the other, which found something.
-use Rattle.std.proofs.Common.{◌≡◌, Bool, true, false, cond, Option, Some, None, refl}
+use Rattle.std.proofs.Common.{◌≡◌, ◌⊎◌, inl, inr, Bool, true, false, cond, Option, Some, None, refl}
+use Rattle.std.specs.Option.{option_map}
 use Rattle.lks_words.specs.Numbers.{◌>>=◌}
 
 pub bind_some : {A B : Type 0} (o : Option A) (f : A → Option B) (y : B) → (o >>= f) ≡ Some y → (x : A) × (o ≡ Some x) × (f x ≡ Some y)
@@ -19,3 +20,11 @@ some x = Some x
 
 pub same_some : {A : Type 0} (x y : A) → some x ≡ some y → x ≡ y
 same_some x y e = cc
+
+pub map_some : {A B : Type 0} (f : A → B) (o : Option A) (y : B) → option_map f o ≡ Some y → (x : A) × (o ≡ Some x) × (f x ≡ y)
+map_some f (Some x) y e = (x, refl, cc)
+map_some f None y e = absurd cc
+
+pub if_else : {A : Type 0} (b : Bool) (x y : Option A) (z : A) → cond b x y ≡ Some z → ((b ≡ true) × (x ≡ Some z)) ⊎ ((b ≡ false) × (y ≡ Some z))
+if_else true x y z e = inl (refl, e)
+if_else false x y z e = inr (refl, e)

@@ -3,6 +3,7 @@
 
 mod laws;
 mod numbers;
+mod own_steps;
 mod printing;
 mod stops;
 mod words;
@@ -14,6 +15,7 @@ pub use laws::{
     every_value_read_fits,
 };
 pub use numbers::number;
+pub use own_steps::{put_step, put_step_rest, step_key};
 pub use printing::{
     put_answer, put_block, put_blocks, put_hash, put_hex, put_ids, put_kind, put_number, put_text,
 };

@@ -12,7 +12,7 @@ use Rattle.lks_watch.specs.Watching.{Ears}
 use Rattle.lockss.specs.Playing.{Devices}
 use Rattle.lockss.specs.Promise.{Promise}
 use Rattle.lockss.specs.Runs.{Drills, HasWork, Replays, NoneRose, Completes}
-use Rattle.lockss.specs.declared.commands.Command.TheVariants.{Replay}
+use Rattle.lks_command.specs.declared.commands.Command.TheVariants.{Replay}
 use Rattle.lockss.specs.declared.statuses.Status.{Status}
 use Rattle.lockss.specs.declared.statuses.Status.TheVariants.{Done, Alarmed, Usage, BadScript, ReadFault, WriteFault, DiskFault, NoMemory, TooLong}
 

@@ -8,8 +8,8 @@ use Rattle.lks_script.specs.Grammar.{script_of}
 use Rattle.lks_script.specs.declared.steps.Script.{Script}
 use Rattle.lks_watch.specs.Watching.{Ears}
 use Rattle.lockss.specs.Playing.{Devices, Plays, IsServed}
-use Rattle.lockss.specs.declared.commands.Command.{Command}
-use Rattle.lockss.specs.declared.commands.Command.TheVariants.{Replay, Drill}
+use Rattle.lks_command.specs.declared.commands.Command.{Command}
+use Rattle.lks_command.specs.declared.commands.Command.TheVariants.{Replay, Drill}
 use Rattle.lockss.specs.declared.playing.Tale.TheVariants.{Report, Summary}
 use Rattle.lockss.specs.declared.runs.TheConstants.{MOST_BYTES}
 use Rattle.lockss.specs.declared.statuses.Status.{Status}
@@ -85,10 +85,14 @@ Drills f e taken seed before after (BadScript line) = ⊥
 Drills f e taken seed before after ReadFault = ⊥
 Drills f e taken seed before after TooLong = ⊥
 
+-- the words name no command, or weren't read for want of memory
+abbrev pub IsRefused : Status → Type 0
+IsRefused answer = (answer ≡ Usage) ⊎ (answer ≡ NoMemory)
+
 -- What a run does by its command: nothing where the words name none; else it plays the script of its source, of which the bytes
 -- that are left are told or not, or a scenario, and reads nothing.
 abbrev pub Does : {S D K J B : Type 0} → Face D → Ears J B → (K → Option (List ℕ)) → (S → Option (List ℕ)) → Option Command → S → S → Devices D K J B → Devices D K J B → Status → Type 0
-Does f e taken left None source source_after before after answer = (answer ≡ Usage) × (source_after ≡ source) × IsUntouched before after
+Does f e taken left None source source_after before after answer = IsRefused answer × (source_after ≡ source) × IsUntouched before after
 Does f e taken left (Some Replay) source source_after before after answer = Replays f e taken (left source) (left source_after) before after answer
 Does f e taken left (Some (Drill seed)) source source_after before after answer = (source_after ≡ source) × Drills f e taken seed before after answer
 

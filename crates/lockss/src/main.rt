@@ -1,7 +1,6 @@
 //! The program `lockss`: it plays a script of LOCKSS peers and reports what happened.
 #![tactic(auto)]
 
-mod commands;
 mod fresh;
 mod playing;
 mod runs;

@@ -1,17 +1,17 @@
 //! The commands of the program.
 
-ghost use Rattle.std.specs.Prelude.{◌≡◌, ◌≤◌, ◌↔◌, None, IsSome, map, string_bytes};
+ghost use Rattle.std.specs.Prelude.{◌≡◌, ◌≤◌, None, IsSome, map, string_bytes};
+ghost use Rattle.lks_command.specs.Commands.{command_in};
 ghost use Rattle.lks_outside.specs.Counts.{Rose};
 ghost use Rattle.lks_watch.specs.Watching.{ears};
-ghost use Rattle.lockss.specs.Commands.{command_in};
 ghost use Rattle.lockss.specs.Playing.{devices, AreGiven};
 ghost use Rattle.lockss.specs.Promise.{Promise};
 ghost use Rattle.lockss.specs.Runs.{Does, Drills, HasCauses, HasWork, PlaysBytes, Replays, NoneRose, Completes};
 
-use crate::commands::{Command, parse};
 use crate::playing::{Tale, play};
 use crate::statuses::Status;
 use lks_alarm::Bell;
+use lks_command::{Command, parse};
 use lks_disk::CrashDisk;
 use lks_effort::EffortJudge;
 use lks_outside::{ReadStop, Sink, Source, read_all};
@@ -107,7 +107,7 @@ pub fn run<R: Wait, S: Source, K: Sink, D: CrashDisk + Drop, J: EffortJudge, B: 
 ) -> Status
     requires given { AreGiven D.face (ears J.heard J.verdict B.rung B.limit) (devices disks.old.items sink.old judge.old bells.old.items) }
     ensures promise { Promise D.face disks.new.items result }
-    ensures usage { (result ≡ Status.Usage) ↔ (command_in (map string_bytes words.now) ≡ None) }
+    ensures usage { result ≡ Status.Usage → command_in (map string_bytes words.now) ≡ None }
     ensures does { Does D.face (ears J.heard J.verdict B.rung B.limit) K.taken S.left (command_in (map string_bytes words.now)) source.old source.new (devices disks.old.items sink.old judge.old bells.old.items) (devices disks.new.items sink.new judge.new bells.new.items) result }
     ensures complete { HasWork (command_in (map string_bytes words.now)) (S.left source.old)
         → (Rose (S.faults source.old) (S.faults source.new) → ⊥) → (Rose (K.faults sink.old) (K.faults sink.new) → ⊥)
@@ -115,9 +115,10 @@ pub fn run<R: Wait, S: Source, K: Sink, D: CrashDisk + Drop, J: EffortJudge, B: 
     ensures causes { HasCauses (S.faults source.old) (S.faults source.new) (K.faults sink.old) (K.faults sink.new) result }
     ensures back { IsSome judge.new }
 {
-    match parse(words) {
-        Some(Command::Replay) => replay(alloc, rt, source, sink, disks, judge, bells),
-        Some(Command::Drill { seed }) => drill(alloc, rt, seed, sink, disks, judge, bells),
-        None => Status::Usage,
+    match parse(alloc, words) {
+        Ok(Some(Command::Replay)) => replay(alloc, rt, source, sink, disks, judge, bells),
+        Ok(Some(Command::Drill { seed })) => drill(alloc, rt, seed, sink, disks, judge, bells),
+        Ok(None) => Status::Usage,
+        Err(_) => Status::NoMemory,
     }
 }

@@ -1,4 +1,4 @@
-use Rattle.std.proofs.Common.{◌≡◌, ◌≤◌, ◌++◌, List, ℕ, length, ap, sym, subst, ◌∙◌}
+use Rattle.std.proofs.Common.{◌≤◌, ◌++◌, List, ℕ, length, ap, sym, subst, ◌∙◌}
 use Rattle.lks_message.specs.Spelling.{spelling}
 use Rattle.lks_message.specs.Reading.{decode_of}
 use Rattle.lks_base.specs.declared.limits.TheConstants.{MOST_FORGED_BYTES}
