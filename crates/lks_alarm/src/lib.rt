@@ -26,6 +26,3 @@ pub use alarms::{Alarm, AlarmKind};
 pub use bells::Bell;
 pub use desks::AlarmDesk;
 pub use listed::ListBell;
-
-#[cfg(test)]
-mod tests;

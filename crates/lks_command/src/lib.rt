@@ -3,7 +3,5 @@
 
 mod commands;
 mod line;
-#[cfg(test)]
-mod tests;
 
 pub use commands::{Command, parse};

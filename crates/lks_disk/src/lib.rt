@@ -14,6 +14,3 @@ mod ranges;
 
 pub use disks::{CrashDisk, Disk, DiskFail};
 pub use memory::MemDisk;
-
-#[cfg(test)]
-mod tests;

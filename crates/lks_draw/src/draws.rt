@@ -4,9 +4,6 @@ ghost use Rattle.std.specs.Prelude.{◌≡◌, ◌+◌, ◌^◌, ◌<◌, ◌≤
 ghost use Rattle.lks_draw.specs.Picks.{picked_by, taken, words_taken, IsPickOf};
 ghost use Rattle.lks_draw.specs.Words.{drawn_from, next_of, words_of, moved};
 
-#[cfg(test)]
-mod tests;
-
 use crate::memory::OutOfMemory;
 use rand_chacha::ChaCha20Rng;
 use rand_chacha::rand_core::SeedableRng;

@@ -27,6 +27,3 @@ pub use first_byte::{FirstByteJudge, begins_with_one};
 pub use judges::EffortJudge;
 pub use listed::ListJudge;
 pub use questions::Question;
-
-#[cfg(test)]
-mod tests;

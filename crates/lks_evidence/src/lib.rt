@@ -27,8 +27,6 @@ mod hashing;
 mod laws;
 mod polls;
 mod records;
-#[cfg(test)]
-mod tests;
 mod voters;
 
 pub use examining::examine;

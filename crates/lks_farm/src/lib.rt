@@ -23,8 +23,6 @@ mod jobs;
 mod queues;
 mod rule;
 mod seats;
-#[cfg(test)]
-mod tests;
 
 pub use farms::{Farm, FarmEnd, FarmSet};
 pub use jobs::{FarmDone, FarmJob, JobNumber};

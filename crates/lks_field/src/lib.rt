@@ -11,6 +11,3 @@ pub use fault::FieldFault;
 pub use memory::OutOfMemory;
 pub use reading::Fields;
 pub use writing::{put_be16, put_be32, put_bytes, put_hashes, put_numbers, put_sized, put_u8};
-
-#[cfg(test)]
-mod tests;

@@ -13,8 +13,6 @@
 
 mod admission;
 mod grades;
-#[cfg(test)]
-mod tests;
 
 pub use admission::admits;
 pub use grades::{Grade, grade_of};

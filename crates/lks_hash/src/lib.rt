@@ -16,8 +16,6 @@
 
 mod keys;
 mod links;
-#[cfg(test)]
-mod tests;
 
 pub use keys::{key, nonce_of};
 pub use links::{Chain, Steps};

@@ -1,5 +1,6 @@
 //! Hosts.
 
+ghost use Rattle.std.specs.List.{filter_map};
 ghost use Rattle.std.specs.Prelude.{◌≡◌, ◌≤◌, ◌+◌, ◌-◌, [], List, true, false, Some, None, Err, IfOk, OnErr, IsSome, IsErrOf, map, option_map, slice_get};
 ghost use Rattle.lks_base.specs.Checking.{plan_fault};
 ghost use Rattle.lks_base.specs.declared.records.Record.{Record as Recorded};
@@ -11,6 +12,7 @@ ghost use Rattle.lks_host.specs.Faults.{as_journal, is_refused};
 ghost use Rattle.lks_host.specs.Hosted.{count_after};
 ghost use Rattle.lks_journal.specs.Adding.{KeepsOrAdds};
 ghost use Rattle.lks_law.specs.Batches.{with_batch, alone};
+ghost use Rattle.lks_law.specs.Entries.{note_with};
 ghost use Rattle.lks_law.specs.Facts.{IsHeard};
 ghost use Rattle.lks_law.specs.Table.{react_on};
 ghost use Rattle.lks_law.specs.Turning.{ready_on, turns_on, has_inner_in};
@@ -22,7 +24,7 @@ use crate::faults::HostFault;
 use crate::outcomes::Recovered;
 use crate::reading::read_journal;
 use crate::writing::{keep, refusal};
-use lks_base::{Input, OutOfMemory, PeerId, PeerStep, Plan, Reaction, Record};
+use lks_base::{Input, Note, OutOfMemory, PeerId, PeerStep, Plan, Reaction, Record, Seq};
 use lks_blocks::BlockPool;
 use lks_disk::{CrashDisk, Disk};
 use lks_journal::Journal;
@@ -172,11 +174,11 @@ impl<D: Disk> Host<D> {
         self.peer.turn(k)
     }
 
-    /// Whether the peer's running poll `number` has this peer in its inner circle.
-    pub fn has_inner(&self, number: u32, voter: PeerId) -> bool
-        ensures { result ≡ has_inner_in self.now.peer.state number voter }
+    /// What a report tells of records that the peer noted.
+    pub fn notes(&self, records: &[Record]) -> Result<Seq<Note>, OutOfMemory>
+        ensures { IfOk result (λ notes. notes ≡ filter_map (note_with (has_inner_in self.now.peer.state)) records.now) }
     {
-        self.peer.has_inner(number, voter)
+        self.peer.notes(records)
     }
 
     /// The peer's number.

@@ -16,6 +16,3 @@ pub use cutting::{cut_step, restart};
 pub use faults::HostFault;
 pub use hosts::Host;
 pub use outcomes::{Outcome, Recovered};
-
-#[cfg(test)]
-mod tests;

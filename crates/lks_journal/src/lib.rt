@@ -14,6 +14,3 @@ mod reading;
 pub use faults::JournalFault;
 pub use journals::Journal;
 pub use laws::one_reading;
-
-#[cfg(test)]
-mod tests;

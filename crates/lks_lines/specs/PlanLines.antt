@@ -21,7 +21,20 @@ named name most _ = None
 unfoldable pub are_good : Rules → Bool
 are_good rules = are_bounded rules && are_ordered rules
 
--- inner N quorum N minority N outer N repairs N pace N refractory N overdue N unknown N debt N churn N
+-- pace N refractory N overdue N unknown N debt N churn N, behind the sizes
+unfoldable pub paces_in : Rules → List (List ℕ) → Option Rules
+paces_in sizes words = do
+  pace ← named (codes "pace") 4294967295 words
+  refractory ← named (codes "refractory") 4294967295 pace.1
+  overdue ← named (codes "overdue") 4294967295 refractory.1
+  unknown ← named (codes "unknown") 255 overdue.1
+  debt ← named (codes "debt") 255 unknown.1
+  churn ← named (codes "churn") 65535 debt.1
+  if length churn.1 == 0
+      then Some (record { inner = sizes.inner; quorum = sizes.quorum; minority = sizes.minority; outer = sizes.outer; repairs = sizes.repairs; pace = pace.0; refractory = refractory.0; overdue = overdue.0; unknown_pct = unknown.0; debt_pct = debt.0; churn = churn.0 })
+      else None
+
+-- inner N quorum N minority N outer N repairs N, and the numbers behind these
 unfoldable pub numbers_in : List (List ℕ) → Option Rules
 numbers_in words = do
   inner ← named (codes "inner") 65535 words
@@ -29,15 +42,7 @@ numbers_in words = do
   minority ← named (codes "minority") 65535 quorum.1
   outer ← named (codes "outer") 65535 minority.1
   repairs ← named (codes "repairs") 65535 outer.1
-  pace ← named (codes "pace") 4294967295 repairs.1
-  refractory ← named (codes "refractory") 4294967295 pace.1
-  overdue ← named (codes "overdue") 4294967295 refractory.1
-  unknown ← named (codes "unknown") 255 overdue.1
-  debt ← named (codes "debt") 255 unknown.1
-  churn ← named (codes "churn") 65535 debt.1
-  if length churn.1 == 0
-      then Some (record { inner = inner.0; quorum = quorum.0; minority = minority.0; outer = outer.0; repairs = repairs.0; pace = pace.0; refractory = refractory.0; overdue = overdue.0; unknown_pct = unknown.0; debt_pct = debt.0; churn = churn.0 })
-      else None
+  paces_in (record { inner = inner.0; quorum = quorum.0; minority = minority.0; outer = outer.0; repairs = repairs.0; pace = 0; refractory = 0; overdue = 0; unknown_pct = 0; debt_pct = 0; churn = 0 }) repairs.1
 
 -- rules ...: in their bounds and in order
 unfoldable pub rules_in : List (List ℕ) → Option Rules

@@ -2,7 +2,7 @@
 
 ghost use Rattle.std.specs.Prelude.{◌≡◌, ◌≤◌, [], map, IfOk};
 ghost use Rattle.lks_words.specs.Words.{Gives, Shows};
-ghost use Rattle.lks_lines.specs.PlanLines.{named, are_good, numbers_in, rules_in, au_in, may_add_au, aus_with, peer_in, begun, with_peers, may_add_peer, draft_with_peer};
+ghost use Rattle.lks_lines.specs.PlanLines.{named, are_good, numbers_in, paces_in, rules_in, au_in, may_add_au, aus_with, peer_in, begun, with_peers, may_add_peer, draft_with_peer};
 
 use lks_base::{
     AuPlan, HashKind, Ids, MOST_AUS, MOST_BLOCKS, MOST_EVENTS, MOST_PEERS, PeerPlan, Plan, Rules,
@@ -44,16 +44,11 @@ fn named_number<'a, 'b>(
     }
 }
 
-// The numbers of a `rules` line.
-#[tactic(auto, unfolding(crate::specs::PlanLines::numbers_in))]
-fn rule_numbers(words: &[&[u8]]) -> Result<Rules, Stop>
-    ensures { Gives result (numbers_in (map (λ w. w.now) words.now)) }
+// The numbers of a `rules` line behind its sizes.
+#[tactic(auto, unfolding(crate::specs::PlanLines::paces_in))]
+fn with_paces(sizes: Rules, words: &[&[u8]]) -> Result<Rules, Stop>
+    ensures { Gives result (paces_in sizes (map (λ w. w.now) words.now)) }
 {
-    let (inner, words) = named_number(b"inner", 65_535, words)?;
-    let (quorum, words) = named_number(b"quorum", 65_535, words)?;
-    let (minority, words) = named_number(b"minority", 65_535, words)?;
-    let (outer, words) = named_number(b"outer", 65_535, words)?;
-    let (repairs, words) = named_number(b"repairs", 65_535, words)?;
     let (pace, words) = named_number(b"pace", 4_294_967_295, words)?;
     let (refractory, words) = named_number(b"refractory", 4_294_967_295, words)?;
     let (overdue, words) = named_number(b"overdue", 4_294_967_295, words)?;
@@ -64,18 +59,40 @@ fn rule_numbers(words: &[&[u8]]) -> Result<Rules, Stop>
         return Err(Stop::Bad);
     }
     Ok(Rules {
-        inner: inner as u16,
-        quorum: quorum as u16,
-        minority: minority as u16,
-        outer: outer as u16,
-        repairs: repairs as u16,
         pace: pace as u32,
         refractory: refractory as u32,
         overdue: overdue as u32,
         unknown_pct: unknown_pct as u8,
         debt_pct: debt_pct as u8,
         churn: churn as u16,
+        ..sizes
     })
+}
+
+// The numbers of a `rules` line.
+#[tactic(auto, unfolding(crate::specs::PlanLines::numbers_in))]
+fn rule_numbers(words: &[&[u8]]) -> Result<Rules, Stop>
+    ensures { Gives result (numbers_in (map (λ w. w.now) words.now)) }
+{
+    let (inner, words) = named_number(b"inner", 65_535, words)?;
+    let (quorum, words) = named_number(b"quorum", 65_535, words)?;
+    let (minority, words) = named_number(b"minority", 65_535, words)?;
+    let (outer, words) = named_number(b"outer", 65_535, words)?;
+    let (repairs, words) = named_number(b"repairs", 65_535, words)?;
+    let sizes = Rules {
+        inner: inner as u16,
+        quorum: quorum as u16,
+        minority: minority as u16,
+        outer: outer as u16,
+        repairs: repairs as u16,
+        pace: 0,
+        refractory: 0,
+        overdue: 0,
+        unknown_pct: 0,
+        debt_pct: 0,
+        churn: 0,
+    };
+    with_paces(sizes, words)
 }
 
 #[tactic(auto, unfolding(crate::specs::PlanLines::are_good))]

@@ -9,6 +9,3 @@ mod heading;
 pub use decoding::decode;
 pub use encoding::encode;
 pub use fault::MsgFault;
-
-#[cfg(test)]
-mod tests;

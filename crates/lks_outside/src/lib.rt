@@ -13,6 +13,3 @@ pub use memory::{MemSink, MemSource};
 pub use sinks::{Sink, SinkStop, WriteStop, write_all};
 pub use sources::{Failed, ReadStop, Source, read_all};
 pub use standard::{StdSink, StdSource};
-
-#[cfg(test)]
-mod tests;

@@ -2,6 +2,7 @@
 #![tactic(auto)]
 
 mod known;
+mod notes;
 mod opening;
 mod peers;
 mod reacting;

@@ -9,6 +9,7 @@ ghost use Rattle.lks_base.specs.Checking.{plan_fault};
 ghost use Rattle.lks_base.specs.declared.events.PeerStep.TheVariants as steps;
 ghost use Rattle.lks_base.specs.declared.plans.PeerPlan.{PeerPlan as Planned};
 ghost use Rattle.lks_law.specs.Due as due;
+ghost use Rattle.lks_law.specs.Entries.{note_with};
 ghost use Rattle.lks_versions.specs.Shelf.{current_of};
 ghost use Rattle.lks_law.specs.Facts.{IsHeard};
 ghost use Rattle.lks_law.specs.Fitting.{AreFitting, Fits, most_numbered};
@@ -22,10 +23,12 @@ ghost use Rattle.lks_peer.specs.Knows.{state_of, IsFit, IsWell, IsMade, knowing_
 ghost use Rattle.lks_sessions.specs.Kept.{voter_of};
 
 use crate::known::{Known, apply};
+use crate::notes::notes;
 use crate::reacting::react;
 use lks_audit::{Copies, Held, Polls, Station, find_poll};
 use lks_base::{
-    Input, Numbers, OutOfMemory, PeerId, PeerPlan, PeerStep, Plan, Reaction, Record, has_member,
+    Input, Note, Numbers, OutOfMemory, PeerId, PeerPlan, PeerStep, Plan, Reaction, Record, Seq,
+    has_member,
 };
 use lks_blocks::{BlockPool, PoolMark};
 use lks_poller::PollSession;
@@ -299,9 +302,16 @@ impl Peer {
         find_turn(self.own.id, self.known.polls.as_slice(), k)
     }
 
+    /// What a report tells of records that the peer noted.
+    pub fn notes(&self, records: &[Record]) -> Result<Seq<Note>, OutOfMemory>
+        ensures { IfOk result (λ notes. notes ≡ filter_map (note_with (has_inner_in self.now.state)) records.now) }
+    {
+        notes(self.alloc, self, records)
+    }
+
     /// Whether the peer's running poll `number` has this peer in its inner circle.
     #[tactic(auto, unfolding(lks_law::specs::Turning::has_inner_in))]
-    pub fn has_inner(&self, number: u32, voter: PeerId) -> bool
+    pub(crate) fn has_inner(&self, number: u32, voter: PeerId) -> bool
         ensures { result ≡ has_inner_in self.now.state number voter }
     {
         match find_poll(self.known.polls.as_slice(), number) {

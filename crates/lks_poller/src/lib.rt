@@ -26,8 +26,6 @@
 mod counts;
 mod sessions;
 mod stages;
-#[cfg(test)]
-mod tests;
 
 pub use sessions::PollSession;
 pub use stages::{Answer, Next, Nomination, Stage};

@@ -8,7 +8,7 @@ use Rattle.lks_base.specs.Checking.{are_bounded, are_ordered, is_within}
 use Rattle.lks_base.specs.Quorums.{obeys_quorum_rule}
 use Rattle.lks_base.specs.declared.limits.TheConstants.{MOST_CIRCLE, MOST_REPAIRS, MOST_TICKS}
 use Rattle.lks_base.specs.declared.plans.Rules.{Rules}
-use Rattle.lks_lines.specs.PlanLines.{named, numbers_in, are_good, rules_in}
+use Rattle.lks_lines.specs.PlanLines.{named, numbers_in, paces_in, are_good, rules_in}
 use Rattle.lks_words.proofs.Decimals.{number_again}
 use Rattle.lks_print.specs.Scripts.{rules_words}
 
@@ -31,7 +31,7 @@ unfolding named
 named_again name most n rest is lt le = rw (is, number_again most n (decimal n) lt le refl) refl
 
 numbers_again : (r : Rules) → AreSmall r → numbers_in (rules_words r) ≡ Some r
-unfolding numbers_in rules_words
+unfolding numbers_in paces_in rules_words
 numbers_again r small =
     rw (
       named_again (codes "inner") 65535 r.inner _ refl (omega arith) small.inner,

@@ -6,8 +6,6 @@ mod laws;
 mod plans;
 mod scripts;
 mod steps;
-#[cfg(test)]
-mod tests;
 
 pub use laws::{every_drill_is_said, every_script_read_is_said, every_step_reads_back};
 pub use scripts::print_script;

@@ -11,6 +11,3 @@ mod writing;
 pub use decoding::decode_batch;
 pub use encoding::encode_batch;
 pub use fault::RecFault;
-
-#[cfg(test)]
-mod tests;

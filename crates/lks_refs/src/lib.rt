@@ -18,8 +18,6 @@
 
 mod circles;
 mod references;
-#[cfg(test)]
-mod tests;
 
 pub use circles::outer_circle;
 pub use references::References;

@@ -18,7 +18,5 @@
 #![tactic(auto)]
 
 mod suppliers;
-#[cfg(test)]
-mod tests;
 
 pub use suppliers::Suppliers;

@@ -13,6 +13,3 @@ pub use drills::summary;
 pub use laws::every_alarm_is_told;
 pub use scans::has_alarm;
 pub use text::report;
-
-#[cfg(test)]
-mod tests;

@@ -8,8 +8,6 @@ mod say_lines;
 mod step_lines;
 mod step_rules;
 mod steps;
-#[cfg(test)]
-mod tests;
 
 pub use faults::ScriptFault;
 pub use reading::read_script;

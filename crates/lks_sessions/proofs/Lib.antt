@@ -2,6 +2,5 @@ pub mod Admitting
 pub mod Keyed
 pub mod Lasting
 pub mod Marking
-pub mod Pairs
 pub mod Pools
 pub mod Sending

@@ -1,4 +1,3 @@
 pub mod Giving
 pub mod Kept
-pub mod Pair
 pub mod Sendable

@@ -13,8 +13,6 @@ mod moves;
 mod repairs;
 mod sessions;
 mod stages;
-#[cfg(test)]
-mod tests;
 mod votes;
 
 pub use invitations::answer_invitation;

@@ -29,8 +29,6 @@ mod counts;
 mod plain;
 mod rows;
 mod tallies;
-#[cfg(test)]
-mod tests;
 mod trials;
 
 pub use ballots::{At, Ballot, Verdict, Vote};

@@ -19,8 +19,6 @@
 #![tactic(auto)]
 
 mod newest;
-#[cfg(test)]
-mod tests;
 mod versions;
 
 pub use newest::Newest;

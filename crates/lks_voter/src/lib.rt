@@ -22,8 +22,6 @@
 
 mod commitments;
 mod sessions;
-#[cfg(test)]
-mod tests;
 mod votes;
 
 pub use commitments::{Committed, Ended, Joined, Serve};

@@ -26,8 +26,6 @@ mod gates;
 mod hashing;
 mod jobs;
 mod results;
-#[cfg(test)]
-mod tests;
 
 pub use gates::{FreeGate, Gate};
 pub use hashing::{hash_tally, hash_vote};

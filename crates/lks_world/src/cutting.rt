@@ -27,7 +27,6 @@ ghost use Rattle.lks_world.specs.Watched.{AsksIf};
 use crate::adding::{add_crash, room, take_step};
 use crate::deeds::{Deed, make_deed, taker};
 use crate::faults::{WorldFault, blame};
-use crate::notes::notes;
 use crate::other_events;
 use crate::seats::{Seat, place_of};
 use crate::settling::{delivery, first_waiting, was_sent};
@@ -89,26 +88,21 @@ fn restart_as<R: Wait, D: CrashDisk>(
 }
 
 /// What is noted of an outcome.
-fn note_outcome<D: Disk>(
-    alloc: Global,
-    host: &Host<D>,
-    outcome: Outcome,
-) -> Result<Ending, OutOfMemory>
+fn note_outcome<D: Disk>(host: &Host<D>, outcome: Outcome) -> Result<Ending, OutOfMemory>
     ensures { IfOk result (λ e. e ≡ ending_of (has_inner_in host.now.peer.state) outcome) }
 {
     match outcome {
         Outcome::Whole(Reaction { records, sends }) => {
-            let notes = notes(alloc, host, records.as_slice())?;
+            let notes = host.notes(records.as_slice())?;
             Ok(Ending::Whole(Done { notes, sends }))
         }
-        Outcome::Kept(records) => Ok(Ending::Kept(notes(alloc, host, records.as_slice())?)),
+        Outcome::Kept(records) => Ok(Ending::Kept(host.notes(records.as_slice())?)),
         Outcome::Lost => Ok(Ending::Lost),
     }
 }
 
 /// The peer takes a step while its power fails.
 fn cut_input<R: Wait, D: CrashDisk>(
-    alloc: Global,
     rt: &R,
     pool: &BlockPool,
     plan: &Plan,
@@ -127,7 +121,7 @@ fn cut_input<R: Wait, D: CrashDisk>(
 {
     let (calls, choice) = (u32::from(power.calls), u64::from(power.choice));
     match cut_step(rt, pool, host, plan, tick, input, calls, choice) {
-        Ok(outcome) => Ok(note_outcome(alloc, host, outcome)?),
+        Ok(outcome) => Ok(note_outcome(host, outcome)?),
         Err(fault) => Err(blame(host.id(), fault)),
     }
 }
@@ -152,7 +146,7 @@ fn cut_as<R: Wait, D: CrashDisk>(
     ensures burns { IfOk result (λ e. BurnsFor D.face power.choice e host.old.journal.disk host.new.journal.disk) }
 {
     match deed {
-        Some(deed) => cut_input(alloc, rt, pool, plan, host, tick, &deed.input, power),
+        Some(deed) => cut_input(rt, pool, plan, host, tick, &deed.input, power),
         None => {
             restart_as(rt, pool, plan, host)?;
             Ok(Ending::Whole(nothing_done(alloc)))

@@ -8,7 +8,6 @@ mod deeds;
 mod doing;
 mod faults;
 mod laws;
-mod notes;
 mod other_events;
 mod seats;
 mod settling;

@@ -15,7 +15,6 @@ ghost use Rattle.lks_world.specs.States.{left_after, world_in, sends_in, HasNote
 
 use crate::deeds::{Deed, ends_of, make_deed};
 use crate::faults::{WorldFault, blame};
-use crate::notes::notes;
 use crate::seats::{Seat, place_of};
 use lks_alarm::Bell;
 use lks_base::{
@@ -59,7 +58,6 @@ pub fn nothing_done(alloc: Global) -> Done
 }
 
 fn act_as<R: Wait, D: CrashDisk>(
-    alloc: Global,
     rt: &R,
     pool: &BlockPool,
     host: &mut Host<D>,
@@ -78,7 +76,7 @@ fn act_as<R: Wait, D: CrashDisk>(
         Ok(reaction) => reaction,
         Err(fault) => return Err(blame(host.id(), fault)),
     };
-    let notes = notes(alloc, host, records.as_slice())?;
+    let notes = host.notes(records.as_slice())?;
     Ok(Done { notes, sends })
 }
 
@@ -102,7 +100,7 @@ fn act<R: Wait, D: CrashDisk>(
         return Ok(nothing_done(alloc));
     };
     match &mut seats[place] {
-        Seat::Host(host) => act_as(alloc, rt, pool, host, tick, &deed.input),
+        Seat::Host(host) => act_as(rt, pool, host, tick, &deed.input),
         Seat::Idle(_) => unreachable!(),
     }
 }

@@ -13,6 +13,7 @@ ghost use Rattle.std.specs.Prelude.{◌≤◌, length};
 ghost use Rattle.lks_world.specs.Held.{AreFresh};
 
 use super::*;
+use Status::{Alarmed, Done};
 use lks_disk::{Disk, MemDisk};
 use lks_outside::{MemSink, MemSource};
 use std::alloc::Global;
@@ -514,23 +515,8 @@ copy 1 1 0
 end 4
 ";
 
-/// A script in two parts, one behind the other, and what its replay answers and writes, in two parts too.
-#[derive(Drop)]
-struct Row<'a> {
-    script: &'a [&'a str],
-    status: Status,
-    report: &'a [&'a str],
-}
-
-/// A run that writes nothing, perhaps since a call of its source or its sink fails.
-#[derive(Drop)]
-struct Refusal<'a> {
-    words: &'a [&'a str],
-    script: &'a [&'a str],
-    failing_reads: &'a [u32],
-    failing_writes: &'a [u32],
-    status: Status,
-}
+/// What a replay answers, the parts of its script, one behind the other, and those of what it writes.
+type Row = (Status, &'static [&'static str], &'static [&'static str]);
 
 fn words_of(alloc: Global, words: &[&str]) -> Result<Vec<String>, Fail> {
     let mut all = Vec::new(alloc);
@@ -546,22 +532,6 @@ fn joined(alloc: Global, pieces: &[&str]) -> Result<Vec<u8>, Fail> {
         bytes.extend_from_slice(piece.as_bytes())?;
     }
     Ok(bytes)
-}
-
-fn done<'a>(script: &'a [&'a str], report: &'a [&'a str]) -> Row<'a> {
-    Row {
-        script,
-        status: Status::Done,
-        report,
-    }
-}
-
-fn alarmed<'a>(script: &'a [&'a str], report: &'a [&'a str]) -> Row<'a> {
-    Row {
-        script,
-        status: Status::Alarmed,
-        report,
-    }
 }
 
 /// Runs with the program's own judge, and no bells.
@@ -583,115 +553,120 @@ fn run_plainly<R: Wait>(
     ))
 }
 
+/// What a run by these words answers and writes, of which these calls of its source and its sink fail.
+fn replayed<R: Wait>(
+    alloc: Global,
+    rt: &R,
+    words: &[&str],
+    script: &[&str],
+    failing_reads: &[u32],
+    failing_writes: &[u32],
+) -> Result<(Status, Vec<u8>), Fail> {
+    let words = words_of(alloc, words)?;
+    let script = joined(alloc, script)?;
+    let mut source = MemSource::new(alloc, script, failing_reads.to_vec(alloc)?);
+    let mut sink = MemSink::new(alloc, failing_writes.to_vec(alloc)?);
+    let mut disks = fresh_disks(alloc)?;
+    let status = run_plainly(alloc, rt, &words, &mut source, &mut sink, &mut disks)?;
+    Ok((status, sink.bytes().to_vec(alloc)?))
+}
+
 /// Runs each script, and compares what it answers and writes.
-fn check_rows<R: Abort + Wait>(rt: &R, alloc: Global, rows: &[Row<'_>]) -> Result<(), Fail> {
-    let words = words_of(alloc, REPLAY)?;
-    for (at, row) in rows.iter().enumerate() {
-        let mut source = MemSource::new(alloc, joined(alloc, row.script)?, [].to_vec(alloc)?);
-        let mut sink = MemSink::new(alloc, [].to_vec(alloc)?);
-        let mut disks = fresh_disks(alloc)?;
-        let status = run_plainly(alloc, rt, &words, &mut source, &mut sink, &mut disks)?;
-        assert_eq!(rt; status, row.status, "row {at}");
-        assert_eq!(rt;
-            sink.bytes(),
-            joined(alloc, row.report)?.as_slice(),
-            "row {at}"
-        );
+fn check_rows<R: Abort + Wait>(rt: &R, alloc: Global, rows: &[Row]) -> Result<(), Fail> {
+    for (at, (answer, script, report)) in rows.iter().enumerate() {
+        let (status, written) = replayed(alloc, rt, REPLAY, script, &[], &[])?;
+        assert_eq!(rt; status, *answer, "row {at}");
+        assert_eq!(rt; written, joined(alloc, report)?, "row {at}");
     }
     Ok(())
 }
 
+const REPORTS: [Row; 15] = [
+    (Done, &[HEAD, AGREED], &[VOTED, AGREED_REPORT]),
+    (Done, &[HEAD, REPAIRED], &[VOTED, REPAIRED_REPORT]),
+    (
+        Done,
+        &[HEAD, FALSE_REPAIR],
+        &[VOTED, FALSE_REPAIR_EVENTS, FALSE_REPAIR_REPORT],
+    ),
+    (Done, &[HEAD, LOST], &[VOTED, LOST_REPORT]),
+    (
+        Done,
+        &[HEAD_OF_BAD_FIRST, FIRST_REPAIRED],
+        &[VOTED, FIRST_REPAIRED_REPORT],
+    ),
+    (Done, &[HEAD_OF_ENDS, ENDS], &[VOTED, ENDS_REPORT]),
+    (Done, &[HEAD_OF_ONE, ONE], &[ONE_REPORT]),
+    (Alarmed, &[HEAD_OF_FIVE, SPLIT], &[SPLIT_REPORT]),
+    (Done, &[HEAD, INQUORATE], &[INQUORATE_REPORT]),
+    (Done, &[HEAD, TWICE], &[TWICE_EVENTS, TWICE_REPORT]),
+    (Done, &[HEAD, LENGTHS], &[LENGTHS_REPORT]),
+    (Done, &[HEAD, NO_MESSAGES], &[NO_MESSAGES_REPORT]),
+    (Done, &[HEAD, CHALLENGES], &[CHALLENGES_REPORT]),
+    (Done, &[HEAD, SAYINGS], &[SAYINGS_REPORT]),
+    (Done, &[HEAD, NO_PART], &[NO_PART_REPORT]),
+];
+
 #[test]
 fn reports(rt: HostRuntime) -> Result<(), Fail> {
-    let rows = [
-        done(&[HEAD, AGREED], &[VOTED, AGREED_REPORT]),
-        done(&[HEAD, REPAIRED], &[VOTED, REPAIRED_REPORT]),
-        done(
-            &[HEAD, FALSE_REPAIR],
-            &[VOTED, FALSE_REPAIR_EVENTS, FALSE_REPAIR_REPORT],
-        ),
-        done(&[HEAD, LOST], &[VOTED, LOST_REPORT]),
-        done(
-            &[HEAD_OF_BAD_FIRST, FIRST_REPAIRED],
-            &[VOTED, FIRST_REPAIRED_REPORT],
-        ),
-        done(&[HEAD_OF_ENDS, ENDS], &[VOTED, ENDS_REPORT]),
-        done(&[HEAD_OF_ONE, ONE], &[ONE_REPORT]),
-        alarmed(&[HEAD_OF_FIVE, SPLIT], &[SPLIT_REPORT]),
-        done(&[HEAD, INQUORATE], &[INQUORATE_REPORT]),
-        done(&[HEAD, TWICE], &[TWICE_EVENTS, TWICE_REPORT]),
-        done(&[HEAD, LENGTHS], &[LENGTHS_REPORT]),
-        done(&[HEAD, NO_MESSAGES], &[NO_MESSAGES_REPORT]),
-        done(&[HEAD, CHALLENGES], &[CHALLENGES_REPORT]),
-        done(&[HEAD, SAYINGS], &[SAYINGS_REPORT]),
-        done(&[HEAD, NO_PART], &[NO_PART_REPORT]),
-    ];
-    check_rows(&rt, rt.alloc(), &rows)
+    check_rows(&rt, rt.alloc(), &REPORTS)
 }
 
-// A faulty command line is told before anything is read.
-fn misused<'a>(words: &'a [&'a str]) -> Refusal<'a> {
-    Refusal {
-        words,
-        script: &[HEAD, AGREED],
-        failing_reads: &[1],
-        failing_writes: &[1],
-        status: Status::Usage,
-    }
-}
-
-fn bad<'a>(script: &'a [&'a str], line: u32) -> Refusal<'a> {
-    Refusal {
-        words: REPLAY,
-        script,
-        failing_reads: &[],
-        failing_writes: &[1],
-        status: Status::BadScript { line },
-    }
-}
-
-fn failing<'a>(reads: &'a [u32], writes: &'a [u32], status: Status) -> Refusal<'a> {
-    Refusal {
-        words: REPLAY,
-        script: &[HEAD, AGREED],
-        failing_reads: reads,
-        failing_writes: writes,
-        status,
-    }
-}
+/// Words that name no command: a run by them reads nothing and writes nothing.
+const MISUSED: [&[&str]; 8] = [
+    &[],
+    &["replay", "x"],
+    &["race", "0"],
+    &["race", "65"],
+    &["drill"],
+    &["drill", "007"],
+    &["drill", "18446744073709551616"],
+    &["--help"],
+];
 
 #[test]
-fn refusals(rt: HostRuntime) -> Result<(), Fail> {
-    let alloc = rt.alloc();
-    let unended = [HEAD.trim_end()];
-    let rows = [
-        misused(&[]),
-        misused(&["replay", "x"]),
-        misused(&["race", "0"]),
-        misused(&["race", "65"]),
-        misused(&["drill"]),
-        misused(&["drill", "007"]),
-        misused(&["drill", "18446744073709551616"]),
-        misused(&["--help"]),
-        bad(&[], 1),
-        bad(&["lockss 1\n"], 2),
-        bad(&unended, 9),
-        bad(&[HEAD, "forge 1 2 00\n"], 10),
-        bad(&[HEAD, "# nothing"], 10),
-        bad(&[HEAD, "say 2 poll 1 1 2\n"], 10),
-        bad(&[HEAD, "tune 1 4 2 2\n"], 10),
-        failing(&[1], &[], Status::ReadFault),
-        failing(&[], &[1], Status::WriteFault),
-    ];
-    for (at, row) in rows.iter().enumerate() {
-        let words = words_of(alloc, row.words)?;
-        let script = joined(alloc, row.script)?;
-        let mut source = MemSource::new(alloc, script, row.failing_reads.to_vec(alloc)?);
-        let mut sink = MemSink::new(alloc, row.failing_writes.to_vec(alloc)?);
-        let mut disks = fresh_disks(alloc)?;
-        let status = run_plainly(alloc, &rt, &words, &mut source, &mut sink, &mut disks)?;
-        assert_eq!(rt; status, row.status, "row {at}");
-        assert!(rt; sink.bytes().is_empty(), "row {at}");
+fn misused_words(rt: HostRuntime) -> Result<(), Fail> {
+    for words in MISUSED {
+        let (status, written) = replayed(rt.alloc(), &rt, words, &[HEAD, AGREED], &[1], &[1])?;
+        assert_eq!(rt; status, Status::Usage);
+        assert!(rt; written.is_empty());
+    }
+    Ok(())
+}
+
+/// Scripts in parts, and the first bad line of each: nothing is written.
+const BAD_SCRIPTS: [(&[&str], u32); 7] = [
+    (&[], 1),
+    (&["lockss 1\n"], 2),
+    (&[HEAD, "settle"], 10),
+    (&[HEAD, "forge 1 2 00\n"], 10),
+    (&[HEAD, "# nothing"], 10),
+    (&[HEAD, "say 2 poll 1 1 2\n"], 10),
+    (&[HEAD, "tune 1 4 2 2\n"], 10),
+];
+
+#[test]
+fn bad_scripts(rt: HostRuntime) -> Result<(), Fail> {
+    for (script, line) in BAD_SCRIPTS {
+        let (status, written) = replayed(rt.alloc(), &rt, REPLAY, script, &[], &[1])?;
+        assert_eq!(rt; status, Status::BadScript { line });
+        assert!(rt; written.is_empty());
+    }
+    Ok(())
+}
+
+/// The calls of a source and of a sink that fail, and the answer.
+const FAULTS: [(&[u32], &[u32], Status); 2] = [
+    (&[1], &[], Status::ReadFault),
+    (&[], &[1], Status::WriteFault),
+];
+
+#[test]
+fn faults(rt: HostRuntime) -> Result<(), Fail> {
+    for (reads, writes, answer) in FAULTS {
+        let (status, written) = replayed(rt.alloc(), &rt, REPLAY, &[HEAD, AGREED], reads, writes)?;
+        assert_eq!(rt; status, answer);
+        assert!(rt; written.is_empty());
     }
     Ok(())
 }

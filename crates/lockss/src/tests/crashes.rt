@@ -186,33 +186,67 @@ poll 1 1 1 0 0 inquorate
 end 9
 ";
 
+const LOST_AND_AGAIN: &[&str] = &[VOTED, ASKED_REPORT, LOST_REPORT];
+
+const KEPT_AND_AGAIN: &[&str] = &[VOTED, ASKED_REPORT, KEPT_REPORT];
+
+const WHOLE_AND_AGAIN: &[&str] = &[VOTED, ASKED_REPORT, WHOLE_REPORT];
+
+/// How many calls of the disk pass in a step and what a power cut leaves, and what is reported.
+const CUT_STEPS: [(&str, &[&str]); 24] = [
+    ("cut 0 0 next\n", LOST_AND_AGAIN),
+    ("cut 1 0 next\n", LOST_AND_AGAIN),
+    ("cut 2 0 next\n", LOST_AND_AGAIN),
+    ("cut 3 0 next\n", LOST_AND_AGAIN),
+    ("cut 4 0 next\n", WHOLE_AND_AGAIN),
+    ("cut 8 0 next\n", WHOLE_AND_AGAIN),
+    ("cut 0 1 next\n", LOST_AND_AGAIN),
+    ("cut 1 1 next\n", LOST_AND_AGAIN),
+    ("cut 2 1 next\n", KEPT_AND_AGAIN),
+    ("cut 3 1 next\n", KEPT_AND_AGAIN),
+    ("cut 4 1 next\n", WHOLE_AND_AGAIN),
+    ("cut 8 1 next\n", WHOLE_AND_AGAIN),
+    ("cut 0 2 next\n", LOST_AND_AGAIN),
+    ("cut 1 2 next\n", LOST_AND_AGAIN),
+    ("cut 2 2 next\n", LOST_AND_AGAIN),
+    ("cut 3 2 next\n", LOST_AND_AGAIN),
+    ("cut 4 2 next\n", WHOLE_AND_AGAIN),
+    ("cut 8 2 next\n", WHOLE_AND_AGAIN),
+    ("cut 0 165 next\n", LOST_AND_AGAIN),
+    ("cut 1 165 next\n", LOST_AND_AGAIN),
+    ("cut 2 165 next\n", KEPT_AND_AGAIN),
+    ("cut 3 165 next\n", KEPT_AND_AGAIN),
+    ("cut 4 165 next\n", WHOLE_AND_AGAIN),
+    ("cut 8 165 next\n", WHOLE_AND_AGAIN),
+];
+
+const CUTS: [Row; 2] = [
+    (
+        Done,
+        &[HEAD, ASKED, THREE],
+        &[VOTED, ASKED_REPORT, THREE_REPORT],
+    ),
+    (Done, &[HEAD, ELSEWHERE], &[ELSEWHERE_REPORT]),
+];
+
 #[test]
 fn cuts(rt: HostRuntime) -> Result<(), Fail> {
-    let lost = &[VOTED, ASKED_REPORT, LOST_REPORT];
-    let kept = &[VOTED, ASKED_REPORT, KEPT_REPORT];
-    let rows = [
-        done(&[HEAD, ASKED, "cut 0 165 next\n", AGAIN], lost),
-        done(&[HEAD, ASKED, "cut 1 1 next\n", AGAIN], lost),
-        done(&[HEAD, ASKED, "cut 2 0 next\n", AGAIN], lost),
-        done(&[HEAD, ASKED, "cut 3 0 next\n", AGAIN], lost),
-        done(&[HEAD, ASKED, "cut 2 1 next\n", AGAIN], kept),
-        done(&[HEAD, ASKED, "cut 2 165 next\n", AGAIN], kept),
-        done(&[HEAD, ASKED, "cut 3 1 next\n", AGAIN], kept),
-        done(
-            &[HEAD, ASKED, "cut 4 0 next\n", AGAIN],
-            &[VOTED, ASKED_REPORT, WHOLE_REPORT],
-        ),
-        done(&[HEAD, ASKED, THREE], &[VOTED, ASKED_REPORT, THREE_REPORT]),
-        done(&[HEAD, ELSEWHERE], &[ELSEWHERE_REPORT]),
-    ];
-    check_rows(&rt, rt.alloc(), &rows)
+    let alloc = rt.alloc();
+    for (line, report) in CUT_STEPS {
+        let script = [HEAD, ASKED, line, AGAIN];
+        let (status, written) = replayed(alloc, &rt, REPLAY, &script, &[], &[])?;
+        assert_eq!(rt; status, Done, "{line}");
+        assert_eq!(rt; written, joined(alloc, report)?, "{line}");
+    }
+    check_rows(&rt, alloc, &CUTS)
 }
+
+const CRASHES: [Row; 2] = [
+    (Done, &[HEAD, SNAPSHOT], &[SNAPSHOT_REPORT]),
+    (Done, &[HEAD, TUNED, INQUORATE], &[TUNED_REPORT]),
+];
 
 #[test]
 fn crashes(rt: HostRuntime) -> Result<(), Fail> {
-    let rows = [
-        done(&[HEAD, SNAPSHOT], &[SNAPSHOT_REPORT]),
-        done(&[HEAD, TUNED, INQUORATE], &[TUNED_REPORT]),
-    ];
-    check_rows(&rt, rt.alloc(), &rows)
+    check_rows(&rt, rt.alloc(), &CRASHES)
 }

@@ -300,35 +300,48 @@ poll 1 1 1 1 0 running
 end 8
 ";
 
+const CIRCLES_AND_LISTS: [Row; 6] = [
+    (
+        Done,
+        &[HEAD_OF_STRANGER, STRANGER],
+        &[STRANGER_EVENTS, STRANGER_REPORT],
+    ),
+    (
+        Done,
+        &[HEAD_OF_STRANGER, STRANGER, OPEN],
+        &[STRANGER_EVENTS, STRANGER_AGAIN_REPORT],
+    ),
+    (
+        Done,
+        &[HEAD_OF_STRANGER, JOINER],
+        &[STRANGER_EVENTS, JOINER_REPORT],
+    ),
+    (
+        Done,
+        &[HEAD_OF_FRIEND, AGREED, OPEN],
+        &[VOTED, FRIEND_EVENTS],
+    ),
+    (
+        Done,
+        &[HEAD, TWICE, OPEN],
+        &[TWICE_EVENTS, SECOND_POLL_REPORT],
+    ),
+    (Done, &[HEAD_OF_SEVEN, OPEN_AND_SETTLE], &[SAMPLED_REPORT]),
+];
+
 #[test]
 fn circles_and_lists(rt: HostRuntime) -> Result<(), Fail> {
-    let rows = [
-        done(
-            &[HEAD_OF_STRANGER, STRANGER],
-            &[STRANGER_EVENTS, STRANGER_REPORT],
-        ),
-        done(
-            &[HEAD_OF_STRANGER, STRANGER, OPEN],
-            &[STRANGER_EVENTS, STRANGER_AGAIN_REPORT],
-        ),
-        done(
-            &[HEAD_OF_STRANGER, JOINER],
-            &[STRANGER_EVENTS, JOINER_REPORT],
-        ),
-        done(&[HEAD_OF_FRIEND, AGREED, OPEN], &[VOTED, FRIEND_EVENTS]),
-        done(&[HEAD, TWICE, OPEN], &[TWICE_EVENTS, SECOND_POLL_REPORT]),
-        done(&[HEAD_OF_SEVEN, OPEN_AND_SETTLE], &[SAMPLED_REPORT]),
-    ];
-    check_rows(&rt, rt.alloc(), &rows)
+    check_rows(&rt, rt.alloc(), &CIRCLES_AND_LISTS)
 }
+
+const CLOCK_AND_WAITING_MESSAGES: [Row; 4] = [
+    (Done, &[HEAD_OF_PACE, PACE], &[PACE_REPORT]),
+    (Alarmed, &[HEAD, OVERDUE], &[OVERDUE_REPORT]),
+    (Alarmed, &[HEAD, OVERDUE_AGAIN], &[OVERDUE_AGAIN_REPORT]),
+    (Done, &[HEAD, WAITING], &[WAITING_REPORT]),
+];
 
 #[test]
 fn clock_and_waiting_messages(rt: HostRuntime) -> Result<(), Fail> {
-    let rows = [
-        done(&[HEAD_OF_PACE, PACE], &[PACE_REPORT]),
-        alarmed(&[HEAD, OVERDUE], &[OVERDUE_REPORT]),
-        alarmed(&[HEAD, OVERDUE_AGAIN], &[OVERDUE_AGAIN_REPORT]),
-        done(&[HEAD, WAITING], &[WAITING_REPORT]),
-    ];
-    check_rows(&rt, rt.alloc(), &rows)
+    check_rows(&rt, rt.alloc(), &CLOCK_AND_WAITING_MESSAGES)
 }

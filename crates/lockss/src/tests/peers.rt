@@ -153,19 +153,22 @@ poll 2 1 1 1 0 running
 end 21
 ";
 
+const HONEST_PEERS: [Row; 4] = [
+    (
+        Done,
+        &[PEERS, "settle\nshut 1 1\nsettle\n"],
+        &[VOTES_REPORT, SHUT_REPORT, REPAIRED, "end 27\n"],
+    ),
+    (
+        Done,
+        &[PEERS, "finish\n"],
+        &[VOTES_REPORT, WIDENED_REPORT, REPAIRED, "end 28\n"],
+    ),
+    (Done, &[STRANGERS], &[STRANGERS_REPORT]),
+    (Done, &[SNAPSHOT], &[SNAPSHOT_REPORT]),
+];
+
 #[test]
 fn honest_peers(rt: HostRuntime) -> Result<(), Fail> {
-    let rows = [
-        done(
-            &[PEERS, "settle\nshut 1 1\nsettle\n"],
-            &[VOTES_REPORT, SHUT_REPORT, REPAIRED, "end 27\n"],
-        ),
-        done(
-            &[PEERS, "finish\n"],
-            &[VOTES_REPORT, WIDENED_REPORT, REPAIRED, "end 28\n"],
-        ),
-        done(&[STRANGERS], &[STRANGERS_REPORT]),
-        done(&[SNAPSHOT], &[SNAPSHOT_REPORT]),
-    ];
-    check_rows(&rt, rt.alloc(), &rows)
+    check_rows(&rt, rt.alloc(), &HONEST_PEERS)
 }

@@ -162,24 +162,28 @@ poll 1 1 1 2 0 inquorate
 end 12
 ";
 
+const SESSIONS: [Row; 6] = [
+    (
+        Done,
+        &[HEAD, SNAPSHOT],
+        &[SNAPSHOT_BEGUN, "3 forge 2 1 40 | - | 1\n", SNAPSHOT_REPORT],
+    ),
+    (
+        Done,
+        &[HEAD, "hash 2 sha512-256\n", SNAPSHOT],
+        &[SNAPSHOT_BEGUN, "3 forge 2 1 41 | - | 1\n", SNAPSHOT_REPORT],
+    ),
+    (
+        Done,
+        &[HEAD, "hash 1 sha512-256\n", AGREED],
+        &[VOTED, AGREED_REPORT],
+    ),
+    (Done, &[HEAD_OF_TEN, REFRACTORY], &[REFRACTORY_REPORT]),
+    (Done, &[HEAD_OF_BAD_PROOF, REFUSED], &[REFUSED_REPORT]),
+    (Done, &[HEAD, TUNED], &[TUNED_REPORT]),
+];
+
 #[test]
 fn sessions(rt: HostRuntime) -> Result<(), Fail> {
-    let rows = [
-        done(
-            &[HEAD, SNAPSHOT],
-            &[SNAPSHOT_BEGUN, "3 forge 2 1 40 | - | 1\n", SNAPSHOT_REPORT],
-        ),
-        done(
-            &[HEAD, "hash 2 sha512-256\n", SNAPSHOT],
-            &[SNAPSHOT_BEGUN, "3 forge 2 1 41 | - | 1\n", SNAPSHOT_REPORT],
-        ),
-        done(
-            &[HEAD, "hash 1 sha512-256\n", AGREED],
-            &[VOTED, AGREED_REPORT],
-        ),
-        done(&[HEAD_OF_TEN, REFRACTORY], &[REFRACTORY_REPORT]),
-        done(&[HEAD_OF_BAD_PROOF, REFUSED], &[REFUSED_REPORT]),
-        done(&[HEAD, TUNED], &[TUNED_REPORT]),
-    ];
-    check_rows(&rt, rt.alloc(), &rows)
+    check_rows(&rt, rt.alloc(), &SESSIONS)
 }

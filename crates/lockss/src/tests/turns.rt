@@ -119,22 +119,26 @@ alarm 1 0 no-supplier 1 1
 end 25
 ";
 
+const TURNS: [Row; 4] = [
+    (
+        Alarmed,
+        &[HEAD, FALSE_REPAIR, GIVEN_UP],
+        &[VOTED, FALSE_REPAIR_EVENTS, GIVEN_UP_REPORT],
+    ),
+    (Done, &[HEAD, REMINDED], &[REMINDED_REPORT]),
+    (
+        Done,
+        &[HEAD, FINISHED],
+        &[VOTED_BEFORE_IT_IS_SHUT, FINISHED_REPORT],
+    ),
+    (
+        Alarmed,
+        &[HEAD, LOST_AND_FINISHED],
+        &[VOTED_BEFORE_IT_IS_SHUT, LOST_AND_FINISHED_REPORT],
+    ),
+];
+
 #[test]
 fn turns(rt: HostRuntime) -> Result<(), Fail> {
-    let rows = [
-        alarmed(
-            &[HEAD, FALSE_REPAIR, GIVEN_UP],
-            &[VOTED, FALSE_REPAIR_EVENTS, GIVEN_UP_REPORT],
-        ),
-        done(&[HEAD, REMINDED], &[REMINDED_REPORT]),
-        done(
-            &[HEAD, FINISHED],
-            &[VOTED_BEFORE_IT_IS_SHUT, FINISHED_REPORT],
-        ),
-        alarmed(
-            &[HEAD, LOST_AND_FINISHED],
-            &[VOTED_BEFORE_IT_IS_SHUT, LOST_AND_FINISHED_REPORT],
-        ),
-    ];
-    check_rows(&rt, rt.alloc(), &rows)
+    check_rows(&rt, rt.alloc(), &TURNS)
 }

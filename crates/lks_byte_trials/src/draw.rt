@@ -1,0 +1,53 @@
+//! Words and picks that another program made.
+
+use crate::SEED;
+use lks_draw::{Draws, OutOfMemory};
+
+// Where `next(u32::MAX)` gives this, the next word is 1 more, unless it is 0.
+fn next_whole(draws: &mut Draws) -> u32 {
+    draws.next(u32::MAX) + 1
+}
+
+/// A label, a number, and the first words under them.
+const WORDS: [(u8, u32, [u32; 4]); 6] = [
+    (1, 1, [0xa491_0d84, 0x3bab_75de, 0x7382_20d6, 0x1edb_b0ef]),
+    (2, 1, [0x8274_4e46, 0x0100_6c31, 0xb3f9_783b, 0xfb28_38a6]),
+    (
+        3,
+        65537,
+        [0xcde0_77a8, 0x98f7_cf43, 0x290e_3200, 0xbff3_73f6],
+    ),
+    (4, 1, [0xea9a_1f25, 0x8e12_02d0, 0x9733_8b97, 0x9960_070d]),
+    (
+        5,
+        65537,
+        [0xeb34_5fed, 0xab81_86c3, 0x5f85_7143, 0x1618_7498],
+    ),
+    (6, 0, [0x52fa_73e0, 0xf2a4_a390, 0xefbd_ac33, 0xa51a_88e1]),
+];
+
+#[test]
+fn words_of_draws(rt: HostRuntime) {
+    for (label, number, words) in WORDS {
+        let mut draws = Draws::new(SEED, label, number);
+        for word in words {
+            assert_eq!(rt; next_whole(&mut draws), word, "under label {label}");
+        }
+    }
+    assert_eq!(rt; Draws::new(SEED, 3, 131_073).next(100), 2);
+}
+
+#[test]
+fn picks(rt: HostRuntime) -> Result<(), OutOfMemory> {
+    let mut draws = Draws::new(SEED, 1, 1);
+    // A list that is short enough is taken whole, and no word with it.
+    for (list, n) in [([7, 8].as_slice(), 3_usize), (&[7, 8], 2), (&[], 0)] {
+        assert_eq!(rt; draws.pick(rt.alloc(), list, n)?.as_slice(), list);
+    }
+    let members = draws.pick(rt.alloc(), [2, 3, 4, 5, 6, 7].as_slice(), 3)?;
+    assert_eq!(rt; members.as_slice(), [5, 3, 4].as_slice());
+    assert_eq!(rt; next_whole(&mut draws), 0x1edb_b0ef);
+    let members = Draws::new(SEED, 1, 1).pick(rt.alloc(), [7, 8].as_slice(), 0)?;
+    assert!(rt; members.is_empty());
+    Ok(())
+}

@@ -1,0 +1,211 @@
+//! Votes and verdicts over two blocks of which the first is `41`, in poll 1 of peer 1 on AU 1.
+
+ghost use Rattle.std.specs.Prelude.{◌≡◌, ◌≤◌, ◌+◌, ◌*◌, ◌-◌, [], length, IfOk};
+ghost use Rattle.lks_base.specs.declared.limits.TheConstants.{MOST_CIRCLE};
+ghost use Rattle.lks_blocks.specs.Block.{AllOf};
+ghost use Rattle.lks_hash.specs.Counting.{Opens};
+ghost use Rattle.lks_tally.specs.Keeping.{IsReserved, IsSame};
+
+use crate::samples::{
+    POLL, PUBLISHED, PUBLISHED_SECOND, TAG, add_vote, deposited, tally_without_votes, vote_job,
+};
+use lks_base::{Entry, Event, HashKind, Hashes, OutOfMemory, PeerId, Seq};
+use lks_blocks::{BlockPool, Refs};
+use lks_hash::Steps;
+use lks_tally::{Tally, Verdict, VoteFault};
+use lks_work::{FreeGate, Gate, Job, JobDone, JobName, TallyDone, TallyJob, hash_tally, hash_vote};
+use std::alloc::Global;
+use std::marker::Brand;
+use std::sync::Wait;
+use std::sync::ledger::{Blank, Ledger};
+use std::test::Fail;
+
+/// The block `41` and another one, in the pool.
+#[tactic(auto, using(lks_versions::specs::Each::each_at, lks_versions::specs::Shelf::kept_newest))]
+fn pair_of<R: Wait>(
+    rt: &R,
+    alloc: Global,
+    pool: &BlockPool,
+    second: &[u8; 1],
+) -> Result<Refs, OutOfMemory>
+    ensures of { IfOk result (λ refs. AllOf pool.now refs) }
+    ensures count { IfOk result (λ refs. length refs ≡ 2) }
+{
+    let versions = deposited(rt, alloc, pool, b"A", second)?;
+    Ok(Refs::from_vec(versions.refs(versions.current())?))
+}
+
+/// Hashes a vote of a peer.
+fn voted(
+    alloc: Global,
+    pool: &BlockPool,
+    peer: PeerId,
+    kind: HashKind,
+    refs: &Refs,
+) -> Result<Hashes, OutOfMemory>
+    requires of { AllOf pool.now refs.now }
+    requires count { length refs.now ≡ 2 }
+{
+    let refs = refs.clone()?;
+    match hash_vote(alloc, pool, vote_job(peer, kind, refs)) {
+        Ok(done) => Ok(done.hashes),
+        Err(_job) => Err(OutOfMemory),
+    }
+}
+
+/// Takes the vote of a peer over these references.
+fn cast(
+    alloc: Global,
+    pool: &BlockPool,
+    tally: &mut Tally,
+    voter: PeerId,
+    refs: &Refs,
+) -> Result<(), VoteFault>
+    requires of { AllOf pool.now refs.now }
+    requires count { length refs.now ≡ 2 }
+    requires reserved { IsReserved tally.old }
+    ensures reserved { IfOk result (λ _. IsReserved tally.new) }
+    ensures votes { IfOk result (λ _. length tally.new.votes ≡ length tally.old.votes + 1) }
+    ensures count { IfOk result (λ _. tally.new.ballot.count ≡ tally.old.ballot.count) }
+    ensures nothing_kept { IfOk result (λ _. (tally.new.kept ≡ 0) × (tally.new.hashes ≡ [])) }
+{
+    match voted(alloc, pool, voter, HashKind::Sha256, refs) {
+        Ok(hashes) => add_vote(tally, voter, hashes),
+        Err(OutOfMemory) => Err(VoteFault::Memory),
+    }
+}
+
+/// The tally of the votes of these peers over these references.
+fn tally_of(alloc: Global, pool: &BlockPool, voters: &[PeerId], refs: &Refs) -> Result<Tally, Fail>
+    requires of { AllOf pool.now refs.now }
+    requires count { length refs.now ≡ 2 }
+    requires few { length voters.now ≤ MOST_CIRCLE }
+    ensures { IfOk result (λ t. (IsReserved t) × (length t.votes ≡ length voters.now) × (t.ballot.count ≡ 2) × (t.kept ≡ 0) × (t.hashes ≡ [])) }
+{
+    let mut tally = tally_without_votes(alloc, HashKind::Sha256, 2)?;
+    for i in 0..voters.len() {
+        cast(alloc, pool, &mut tally, voters[i], refs)?;
+    }
+    Ok(tally)
+}
+
+fn tally_job(refs: Refs, tally: Tally) -> TallyJob
+    requires count { length refs ≡ 2 }
+    requires reserved { IsReserved tally }
+    requires few { length tally.votes ≤ MOST_CIRCLE }
+    requires ballot { tally.ballot.count ≡ 2 }
+    requires nothing_kept { (tally.kept ≡ 0) × (tally.hashes ≡ []) }
+    ensures { (result.refs ≡ refs) × (result.tally ≡ tally) }
+{
+    TallyJob {
+        peer: 1,
+        number: 1,
+        tag: TAG,
+        refs,
+        tally,
+    }
+}
+
+/// The verdict of three votes: a link for each of them at each block whose hashes aren't kept.
+fn tally_linked<L: Ledger>(pool: &BlockPool, job: TallyJob, steps: &mut Steps<L>) -> TallyDone
+    requires of { AllOf pool.now job.refs }
+    requires three { length job.tally.votes ≡ 3 }
+    requires count { job.tally.ballot.count ≡ 2 }
+    ensures refs { result.job.refs ≡ job.refs }
+    ensures same { IsSame result.job.tally job.tally }
+    ensures links { steps.new ≤ steps.old + 3 * (2 - job.tally.kept) }
+{
+    hash_tally(pool, job, steps)
+}
+
+/// The verdict of three votes over `41` and `voted` on `41` and `own`, and how often the pool was read for the votes, for
+/// the verdict, and for the same verdict once more.
+fn tally_counted<L: Ledger, R: Wait>(
+    rt: &R,
+    blank: Blank,
+    alloc: Global,
+    voted: &[u8; 1],
+    own: &[u8; 1],
+) -> Result<(Verdict, [u64; 3]), Fail>
+    requires { Opens blank L.name L.parts }
+{
+    let pool = BlockPool::new(alloc)?;
+    let refs = pair_of(rt, alloc, &pool, voted)?;
+    let tally = tally_of(alloc, &pool, &[2, 3, 4], &refs)?;
+    let votes = pool.reads();
+    let mut steps = Steps::<L>::open(blank);
+    let job = tally_job(pair_of(rt, alloc, &pool, own)?, tally);
+    let done = tally_linked(&pool, job, &mut steps);
+    let first = pool.reads();
+    let again = tally_linked(&pool, done.job, &mut steps);
+    Ok((again.verdict, [votes, first, pool.reads()]))
+}
+
+fn tally_on<R: Wait>(
+    rt: &R,
+    alloc: Global,
+    voted: &[u8; 1],
+    own: &[u8; 1],
+) -> Result<(Verdict, [u64; 3]), Fail> {
+    tally_counted::<Brand, R>(rt, Blank::new(1), alloc, voted, own)
+}
+
+/// Whether the vote of peer 2 over `41` and `42` has these hashes, and reads each block once.
+fn is_vote<R: Wait>(
+    rt: &R,
+    alloc: Global,
+    kind: HashKind,
+    want: &[[u8; 32]],
+) -> Result<bool, Fail> {
+    let pool = BlockPool::new(alloc)?;
+    let refs = pair_of(rt, alloc, &pool, b"B")?;
+    let hashes = voted(alloc, &pool, 2, kind, &refs)?;
+    Ok(hashes.as_slice() == want && pool.reads() == 2)
+}
+
+/// By hashes that another implementation of FIPS 180-4 computed.
+#[test]
+fn published_votes(rt: HostRuntime) -> Result<(), Fail> {
+    assert!(rt; is_vote(&rt, rt.alloc(), HashKind::Sha256, &PUBLISHED)?);
+    assert!(rt; is_vote(&rt, rt.alloc(), HashKind::Sha512_256, &PUBLISHED_SECOND)?);
+    Ok(())
+}
+
+/// Three votes read six blocks, and a verdict two, for all votes together. What is kept isn't read again.
+#[test]
+fn verdicts(rt: HostRuntime) -> Result<(), Fail> {
+    let loss = tally_on(&rt, rt.alloc(), b"C", b"B")?;
+    assert_eq!(rt; loss, (Verdict::Loss { block: 1 }, [6, 8, 8]));
+    let agreed = tally_on(&rt, rt.alloc(), b"C", b"C")?;
+    assert_eq!(rt; agreed, (Verdict::Agreed, [6, 8, 8]));
+    Ok(())
+}
+
+fn pass<G: Gate>(alloc: Global, gate: &G, job: &Job) {
+    gate.begin(&job.name());
+    gate.told(&Entry {
+        event: Event::Tick { by: 1 },
+        from: 0,
+        to: 0,
+        notes: Seq::from_vec(Vec::new(alloc)),
+        sends: 0,
+    });
+}
+
+fn may_cross_threads<T: Send + Sync>() {}
+
+#[test]
+fn a_free_gate(rt: HostRuntime) {
+    let none = Refs::from_vec(Vec::new(rt.alloc()));
+    let job = Job::Vote(vote_job(2, HashKind::Sha256, none));
+    pass(rt.alloc(), &FreeGate, &job);
+    may_cross_threads::<Job>();
+    may_cross_threads::<JobDone>();
+    assert_eq!(rt;
+        job.name(),
+        JobName::Vote {
+            peer: 2,
+            poll: POLL
+        }
+    );
+}

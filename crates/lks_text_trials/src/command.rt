@@ -1,0 +1,45 @@
+//! Which words name which command.
+
+use lks_base::OutOfMemory;
+use lks_command::{Command, parse};
+use std::alloc::Global;
+use std::test::*;
+
+fn owned(alloc: Global, words: &[&str]) -> Result<Vec<String>, OutOfMemory> {
+    let mut owned = Vec::new(alloc);
+    for word in words {
+        owned.push(String::from_str(alloc, word)?)?;
+    }
+    Ok(owned)
+}
+
+const ROWS: [(&[&str], Option<Command>); 16] = [
+    (&["replay"], Some(Command::Replay)),
+    (&["drill", "0"], Some(Command::Drill { seed: 0 })),
+    (&["drill", "1"], Some(Command::Drill { seed: 1 })),
+    (
+        &["drill", "18446744073709551615"],
+        Some(Command::Drill { seed: u64::MAX }),
+    ),
+    (&["drill", "18446744073709551616"], None),
+    (&["drill", "01"], None),
+    (&["drill", "-1"], None),
+    (&["drill"], None),
+    (&["replay", "1"], None),
+    (&["replay", "--"], None),
+    (&["--help"], None),
+    (&["-h"], None),
+    (&["race", "2"], None),
+    (&["drill", "1", "2"], None),
+    (&[""], None),
+    (&[], None),
+];
+
+#[test]
+fn words_name_a_command_or_none(rt: HostRuntime) -> Result<(), OutOfMemory> {
+    for (at, (words, command)) in ROWS.iter().enumerate() {
+        let words = owned(rt.alloc(), words)?;
+        assert_eq!(rt; parse(rt.alloc(), &words)?, *command, "row {at}");
+    }
+    Ok(())
+}

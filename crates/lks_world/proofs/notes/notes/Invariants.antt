@@ -1,8 +1,0 @@
-use Rattle.std.proofs.Common.{◌≡◌, ◌++◌, drop}
-use Rattle.std.specs.List.{filter_map}
-use Rattle.lks_law.specs.Entries.{note_with}
-use Rattle.lks_law.specs.Turning.{has_inner_in}
-use Rattle.lks_world.proofs.notes.notes.Given as goal
-
-abbrev pub invariant-loop-item : goal.invariant-loop-item
-invariant-loop-item g l = l.notes.items ++ filter_map (note_with (has_inner_in l.host.peer.state)) (drop l.item-index l.records) ≡ filter_map (note_with (has_inner_in l.host.peer.state)) l.records
