@@ -32,7 +32,7 @@ sized_set [] at block new old = old
 sized_set (b ∷ bs) zero block new old = (new, old.1)
 sized_set (b ∷ bs) (suc at) block new old = (old.0, sized_set bs at block new old.1)
 
-either : (P : List (List ℕ) → Type 0) (test : Bool) (x y : List (List ℕ)) → P x → P y → P (if test then x else y)
+pub either : {X : Type 0} (P : X → Type 0) (test : Bool) (x y : X) → P x → P y → P (if test then x else y)
 either P true x y at_x at_y = at_x
 either P false x y at_x at_y = at_y
 
@@ -43,7 +43,7 @@ sized_copy peer d = either AreSized (is_damaged d) _ _ (sized_set whole_copy _ _
 -- a copy has 128 blocks
 pub copy_has_128 : (peer : ℕ) (d : Drawn) → length (blocks_of peer d) ≡ 128
 unfolding blocks_of
-copy_has_128 peer d = either (λ blocks. length blocks ≡ 128) (is_damaged d) _ _ (length-set whole_copy _ _ ∙ whole_has_128) whole_has_128
+copy_has_128 peer d = either (λ (blocks : List (List ℕ)). length blocks ≡ 128) (is_damaged d) _ _ (length-set whole_copy _ _ ∙ whole_has_128) whole_has_128
 
 short_blocks : (blocks : List (List ℕ)) → AreSized blocks → list_all (λ b. nat_le (length b) 16384) blocks ≡ true
 short_blocks [] sized = refl

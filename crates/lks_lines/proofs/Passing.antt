@@ -1,16 +1,14 @@
 -- What is read breaks no rule: the draft of a plan passes the check of plans.
 use Rattle.std.proofs.Common.{◌≡◌, ◌≤◌, ◌<◌, ◌+◌, ◌-◌, ◌==◌, ◌∙◌, ap, sym, subst, ℕ, zero, suc, Bool, true, false, cond, not, ◌&&◌, ◌||◌, List, [], ◌∷◌, ◌++◌, length, get_or, set, map, Option, Some, None, is_none, refl, append_assoc, arith}
 use Rattle.std.specs.Prelude.{nat_le, nat_lt, slice_get}
-use Rattle.std.specs.List.{list_all, list_any, position}
-use Rattle.std.proofs.lemmas.Bool.{and_parts, eqb-true, le-leb, leb-true, ltb-true}
+use Rattle.std.specs.List.{list_all, list_any}
+use Rattle.std.proofs.lemmas.Bool.{and_parts, eqb-true, le-leb, leb-true, ltb-true, not-true}
 use Rattle.std.proofs.lemmas.List.{append-nil, length-append, length-set, map-append}
 use Rattle.std.proofs.Math.Seq.{map-set_same}
-use Rattle.std.proofs.lemmas.List.Quantifiers.{position-Some}
 use Rattle.std.proofs.lemmas.List.Folds.{list_any-append}
 use Rattle.std.proofs.lemmas.List.Sums.{sum_by-append, sum_by-set}
 use Rattle.std.proofs.lemmas.Option.{get_or_from_slice_get, slice_get_within}
 use Rattle.lks_base.specs.declared.names.HashKind.{HashKind}
-use Rattle.lks_base.specs.declared.names.HashKind.TheVariants.{Sha256}
 use Rattle.lks_base.specs.declared.plans.AuPlan.{AuPlan}
 use Rattle.lks_base.specs.declared.plans.Holding.{Holding}
 use Rattle.lks_base.specs.declared.plans.PeerPlan.{PeerPlan}
@@ -23,36 +21,17 @@ use Rattle.lks_lines.specs.declared.list_lines.ListKind.{ListKind}
 use Rattle.lks_lines.specs.declared.list_lines.ListKind.TheVariants.{Refs, Friends}
 use Rattle.lks_lines.specs.declared.plan_lines.PlanDraft.{PlanDraft}
 use Rattle.lks_words.specs.Numbers.{◌>>=◌, number_in}
-use Rattle.lks_words.specs.Words.{id_in, index_in, each_in, block_in, hash_in, kind_in, seed_in, proof_in}
+use Rattle.lks_words.specs.Words.{id_in}
 use Rattle.lks_lines.specs.PlanLines.{are_good, au_in, may_add_au, aus_with, peer_in, begun, with_peers, may_add_peer, draft_with_peer}
-use Rattle.lks_lines.specs.ListLines.{lacks_list, with_list, is_list, listed, draft_with_list, with_hash, hashing, noted, draft_with_hash}
-use Rattle.lks_lines.specs.CopyLines.{may_hold, with_copies, content_in, with_more, copies_with, holding, draft_with_copy, block_put, copy_damaged, damaged, draft_with_damage}
+use Rattle.lks_lines.specs.ListLines.{lacks_list, with_list, is_list, draft_with_list, with_hash, draft_with_hash}
+use Rattle.lks_lines.specs.CopyLines.{may_hold, with_copies, with_more, copies_with, draft_with_copy, block_put, copy_damaged, draft_with_damage}
 use Rattle.lks_words.proofs.Decimals.{number_most}
 use Rattle.lks_words.proofs.Steps.{bind_some, if_some, some, same_some}
+use Rattle.lks_lines.proofs.Which.{found_at, peer_found, also_noted, added_peer, list_found, hash_found, HoldsWith, copy_found, damage_found}
 
 no_fault : (o : Option PlanFault) → is_none o ≡ true → o ≡ None
 no_fault None e = refl
 no_fault (Some fault) e = absurd cc
-
--- the first element that passes, and what is done with it
-record Found {X Y : Type 0} (test : X → Bool) (xs : List X) (body : ℕ → X → Option Y) (y : Y) : Type 0 where
-  at : ℕ
-  x : X
-  there : slice_get xs at ≡ Some x
-  passes : test x ≡ true
-  gives : body at x ≡ Some y
-
-found_at : {X Y : Type 0} (test : X → Bool) (xs : List X) (body : ℕ → X → Option Y) (y : Y) → (position test xs >>= λ at. slice_get xs at >>= λ x. body at x) ≡ Some y → Found test xs body y
-found_at test xs body y e =
-    let a = bind_some (position test xs) (λ at. slice_get xs at >>= λ x. body at x) y e in
-    let b = bind_some (slice_get xs a.0) (λ x. body a.0 x) y a.2 in
-    record {
-      at = a.0;
-      x = b.0;
-      there = b.1;
-      passes = ap test (sym (get_or_from_slice_get xs a.0 b.0 b.0 b.1)) ∙ (position-Some test xs a.0 b.0 a.1).1;
-      gives = b.2;
-    }
 
 -- ---- rules for each element
 
@@ -111,19 +90,17 @@ peer_key p = p.id
 abbrev copy_key : Holding → ℕ
 copy_key c = c.au
 
-member_same : (peers now : List PeerPlan) → map peer_key peers ≡ map peer_key now → (own : ℕ) (before : List ℕ) (id : ℕ) → member_fault peers own before id ≡ member_fault now own before id
-unfolding member_fault has_peer
-member_same peers now keys own before id = rw (any_same peer_key id peers now keys) refl
+-- lists are asked the same of peers with the same numbers
+pub members_same : (peers others : List PeerPlan) → ((id : ℕ) → has_peer peers id ≡ has_peer others id) → (own : ℕ) (before ids : List ℕ) → each (member_fault peers own) before ids ≡ each (member_fault others own) before ids
+unfolding member_fault
+members_same peers others same own = each_same (member_fault peers own) (member_fault others own) (λ before id. rw (same id) refl)
 
 peer_same : (aus : List AuPlan) (peers others : List PeerPlan) → map peer_key peers ≡ map peer_key others
     → (before now : List PeerPlan) (p : PeerPlan) → map peer_key before ≡ map peer_key now → peer_fault aus peers before p ≡ peer_fault aus others now p
 unfolding peer_fault has_peer
 peer_same aus peers others keys before now p front =
-    rw (
-      any_same peer_key p.id before now front,
-      each_same (member_fault peers p.id) (member_fault others p.id) (member_same peers others keys p.id) [] p.refs,
-      each_same (member_fault peers p.id) (member_fault others p.id) (member_same peers others keys p.id) [] p.friends,
-    ) refl
+    let same = members_same peers others (λ id. any_same peer_key id peers others keys) p.id [] in
+    rw (any_same peer_key p.id before now front, same p.refs, same p.friends) refl
 
 copy_same : (aus : List AuPlan) (before now : List Holding) (c : Holding) → map copy_key before ≡ map copy_key now → copy_fault aus before c ≡ copy_fault aus now c
 unfolding copy_fault has_copy
@@ -242,14 +219,14 @@ module _ (d : PlanDraft) (ready : Ready d) (at : ℕ) (p q : PeerPlan) (there : 
   put some_aus some_peers = record { ready = put_ready; some_aus = some_aus; some_peers = ap (λ n. nat_le 1 n) (length-set d.plan.peers at q) ∙ some_peers }
 
 -- the parts of a peer's rule
-record Parts (aus : List AuPlan) (peers before : List PeerPlan) (p : PeerPlan) : Type 0 where
-  fit : is_fit p ≡ true
-  new : unless (not (has_peer before p.id)) Repeat ≡ None
-  refs : each (member_fault peers p.id) [] p.refs ≡ None
-  friends : each (member_fault peers p.id) [] p.friends ≡ None
-  copies : each (copy_fault aus) [] p.copies ≡ None
+pub record Parts (aus : List AuPlan) (peers before : List PeerPlan) (p : PeerPlan) : Type 0 where
+  pub fit : is_fit p ≡ true
+  pub new : has_peer before p.id ≡ false
+  pub refs : each (member_fault peers p.id) [] p.refs ≡ None
+  pub friends : each (member_fault peers p.id) [] p.friends ≡ None
+  pub copies : each (copy_fault aus) [] p.copies ≡ None
 
-parted : (aus : List AuPlan) (peers before : List PeerPlan) (p : PeerPlan) → peer_fault aus peers before p ≡ None → Parts aus peers before p
+pub parted : (aus : List AuPlan) (peers before : List PeerPlan) (p : PeerPlan) → peer_fault aus peers before p ≡ None → Parts aus peers before p
 unfolding peer_fault
 parted aus peers before p e =
     let after_fit = no_second (unless (is_fit p) Bounds) _ e in
@@ -257,7 +234,7 @@ parted aus peers before p e =
     let after_refs = no_second (each (member_fault peers p.id) [] p.refs) _ after_new in
     record {
       fit = stands (is_fit p) Bounds (no_first (unless (is_fit p) Bounds) _ e);
-      new = no_first (unless (not (has_peer before p.id)) Repeat) _ after_fit;
+      new = not-true (has_peer before p.id) (stands (not (has_peer before p.id)) Repeat (no_first (unless (not (has_peer before p.id)) Repeat) _ after_fit));
       refs = no_first (each (member_fault peers p.id) [] p.refs) _ after_new;
       friends = no_first (each (member_fault peers p.id) [] p.friends) _ after_refs;
       copies = no_second (each (member_fault peers p.id) [] p.friends) _ after_refs;
@@ -272,14 +249,7 @@ fit_still : (p q : PeerPlan) → is_fit p ≡ true → q.proof ≡ p.proof → q
 unfolding is_fit
 fit_still p q fit proof honest = rw (proof, honest, (and_parts (nat_le (length p.proof) 64) _ fit).0) refl
 
-not_false : (b : Bool) → not b ≡ true → b ≡ false
-not_false true e = absurd cc
-not_false false e = refl
-
 -- ---- lists
-
-abbrev IsPeopled : PlanDraft → Type 0
-IsPeopled d = Peopled d
 
 list_ok : (kind : ListKind) (aus : List AuPlan) (peers : List PeerPlan) (p : PeerPlan) (ids : List ℕ) → p.corrupt ≡ false → each (member_fault peers p.id) [] ids ≡ None
     → (before : List PeerPlan) → peer_fault aus peers before p ≡ None → peer_fault aus peers before (with_list kind p ids) ≡ None
@@ -302,30 +272,19 @@ list_copies Refs p ids = refl
 list_copies Friends p ids = refl
 
 pub list_good : (kind : ListKind) (d now : PlanDraft) (words : List (List ℕ)) → Peopled d → draft_with_list kind d words ≡ Some now → Peopled now
-unfolding draft_with_list listed lacks_list is_list
-list_good kind d now [] h e = absurd cc
-list_good kind d now (id ∷ words) h e =
-    let a = bind_some (id_in id) (λ n. each_in id_in words >>= λ ids. listed kind n ids d.plan.peers >>= λ peers. some (with_peers d peers d.bytes)) now e in
-    let b = bind_some (each_in id_in words) (λ ids. listed kind a.0 ids d.plan.peers >>= λ peers. some (with_peers d peers d.bytes)) now a.2 in
-    let c = bind_some (listed kind a.0 b.0 d.plan.peers) (λ peers. some (with_peers d peers d.bytes)) now b.2 in
-    let f = found_at (lacks_list kind a.0) d.plan.peers (λ at peer. cond (is_list d.plan.peers a.0 b.0) (some (set d.plan.peers at (with_list kind peer b.0))) None) c.0 c.1 in
-    let made = if_some (is_list d.plan.peers a.0 b.0) (some (set d.plan.peers f.at (with_list kind f.x b.0))) c.0 f.gives in
-    let who = and_parts (f.x.id == a.0) (not f.x.corrupt) (and_parts (f.x.id == a.0 && not f.x.corrupt) _ f.passes).0 in
-    let rule = no_fault (each (member_fault d.plan.peers a.0) [] b.0) (and_parts (nat_le 1 (length b.0)) _ made.0).1 in
-    let fine : each (member_fault d.plan.peers f.x.id) [] b.0 ≡ None = ap (λ n. each (member_fault d.plan.peers n) [] b.0) (eqb-true f.x.id a.0 who.0) ∙ rule in
-    let good =
-    put d h.ready f.at f.x (with_list kind f.x b.0) f.there (list_id kind f.x b.0) (list_ok kind d.plan.aus d.plan.peers f.x b.0 (not_false f.x.corrupt who.1) fine) d.bytes
-    (ap (λ copies. d.bytes + bytes_of_copies copies) (sym (list_copies kind f.x b.0))) h.ready.few_bytes h.some_aus h.some_peers in
-    subst IsPeopled (ap (λ peers. with_peers d peers d.bytes) (same_some (set d.plan.peers f.at (with_list kind f.x b.0)) c.0 made.1) ∙ same_some (with_peers d c.0 d.bytes) now c.2) good
+unfolding lacks_list is_list
+list_good kind d now words h = list_found Peopled d now kind words (λ at id p ids there lacks good.
+    let who = and_parts (p.id == id) (not p.corrupt) (and_parts (p.id == id && not p.corrupt) _ lacks).0 in
+    let rule = no_fault (each (member_fault d.plan.peers id) [] ids) (and_parts (nat_le 1 (length ids)) _ good).1 in
+    let fine : each (member_fault d.plan.peers p.id) [] ids ≡ None = ap (λ n. each (member_fault d.plan.peers n) [] ids) (eqb-true p.id id who.0) ∙ rule in
+    put d h.ready at p (with_list kind p ids) there (list_id kind p ids) (list_ok kind d.plan.aus d.plan.peers p ids (not-true p.corrupt who.1) fine) d.bytes
+    (ap (λ copies. d.bytes + bytes_of_copies copies) (sym (list_copies kind p ids))) h.ready.few_bytes h.some_aus h.some_peers)
 
 -- ---- hashes
 
 hash_ok : (hash : HashKind) (aus : List AuPlan) (peers : List PeerPlan) (p : PeerPlan) (before : List PeerPlan) → peer_fault aus peers before p ≡ None → peer_fault aus peers before (with_hash p hash) ≡ None
 unfolding peer_fault is_fit is_bare
 hash_ok hash aus peers p before e = e
-
-abbrev also_noted : PlanDraft → ℕ → PlanDraft
-also_noted d id = record { plan = d.plan; bytes = d.bytes; hashed = d.hashed ++ id ∷ [] }
 
 still_good : (d : PlanDraft) (id : ℕ) → Peopled d → Peopled (also_noted d id)
 still_good d id h = record {
@@ -344,26 +303,10 @@ still_good d id h = record {
   some_peers = h.some_peers;
 }
 
-noted_good : (d now : PlanDraft) (id : ℕ) → Peopled d → noted d id ≡ Some now → Peopled now
-unfolding noted
-noted_good d now id h e = by_test (has_member d.hashed id) e
-  where
-    by_test : (b : Bool) → cond b None (some (also_noted d id)) ≡ Some now → Peopled now
-    by_test true f = absurd cc
-    by_test false f = subst IsPeopled (same_some (also_noted d id) now f) (still_good d id h)
-
 pub hash_good : (d now : PlanDraft) (words : List (List ℕ)) → Peopled d → draft_with_hash d words ≡ Some now → Peopled now
-unfolding draft_with_hash hashing
-hash_good d now [] h e = absurd cc
-hash_good d now (id ∷ []) h e = absurd cc
-hash_good d now (id ∷ name ∷ []) h e =
-    let a = bind_some (id_in id) (λ n. hash_in name >>= λ hash. hashing n hash d.plan.peers >>= λ peers. noted (with_peers d peers d.bytes) n) now e in
-    let b = bind_some (hash_in name) (λ hash. hashing a.0 hash d.plan.peers >>= λ peers. noted (with_peers d peers d.bytes) a.0) now a.2 in
-    let c = bind_some (hashing a.0 b.0 d.plan.peers) (λ peers. noted (with_peers d peers d.bytes) a.0) now b.2 in
-    let f = found_at (λ (p : PeerPlan). p.id == a.0) d.plan.peers (λ at peer. some (set d.plan.peers at (with_hash peer b.0))) c.0 c.1 in
-    let good = put d h.ready f.at f.x (with_hash f.x b.0) f.there refl (hash_ok b.0 d.plan.aus d.plan.peers f.x) d.bytes refl h.ready.few_bytes h.some_aus h.some_peers in
-    noted_good (with_peers d c.0 d.bytes) now a.0 (subst IsPeopled (ap (λ peers. with_peers d peers d.bytes) (same_some (set d.plan.peers f.at (with_hash f.x b.0)) c.0 f.gives)) good) c.2
-hash_good d now (id ∷ name ∷ more ∷ words) h e = absurd cc
+hash_good d now words h = hash_found Peopled d now words (λ at id p hash there.
+    still_good (with_peers d (set d.plan.peers at (with_hash p hash)) d.bytes) id
+    (put d h.ready at p (with_hash p hash) there refl (hash_ok hash d.plan.aus d.plan.peers p) d.bytes refl h.ready.few_bytes h.some_aus h.some_peers))
 
 -- ---- copies
 
@@ -381,30 +324,26 @@ more_most bytes more all e =
     let is = same_some (bytes + more) all a.1 in
     (sym is, subst (λ n. n ≤ 134217728) is (leb-true (bytes + more) 134217728 a.0))
 
--- a change of the copies of one honest peer, and of the bytes of all
-copies_put : (d now : PlanDraft) (id : ℕ) (change : List Holding → Option (List Holding × ℕ)) (h : Peopled d)
-    → ((copies : List Holding) (kept : List Holding × ℕ) → change copies ≡ Some kept → bytes_of_copies copies ≤ d.bytes
-    → ((each (copy_fault d.plan.aus) [] copies ≡ None → each (copy_fault d.plan.aus) [] kept.0 ≡ None) × (kept.1 + bytes_of_copies copies ≡ d.bytes + bytes_of_copies kept.0) × (kept.1 ≤ 134217728)))
-    → (kept : List PeerPlan × ℕ) → (position (may_hold id) d.plan.peers >>= λ at. slice_get d.plan.peers at >>= λ peer. change peer.copies >>= λ kept. some (set d.plan.peers at (with_copies peer kept.0), kept.1)) ≡ Some kept
-    → some (with_peers d kept.0 kept.1) ≡ Some now → Peopled now
-unfolding may_hold
-copies_put d now id change h fine kept e is =
-    let f = found_at (may_hold id) d.plan.peers (λ at peer. change peer.copies >>= λ kept. some (set d.plan.peers at (with_copies peer kept.0), kept.1)) kept e in
-    let a = bind_some (change f.x.copies) (λ kept. some (set d.plan.peers f.at (with_copies f.x kept.0), kept.1)) kept f.gives in
-    let who = and_parts (f.x.id == id) (not f.x.corrupt) f.passes in
-    let within = slice_get_within d.plan.peers f.at f.x f.there in
-    let here = get_or_from_slice_get d.plan.peers f.at f.x f.x f.there in
-    let sums = sum_by-set (λ (x : PeerPlan). bytes_of_copies x.copies) d.plan.peers f.at (with_copies f.x []) f.x within in
-    let old : bytes_of_copies (get_or d.plan.peers f.at f.x).copies ≡ bytes_of_copies f.x.copies = ap (λ (x : PeerPlan). bytes_of_copies x.copies) here in
-    let total = h.ready.bytes in
-    let part : bytes_of_copies f.x.copies ≤ d.bytes = omega (arith, sums, old, total) in
-    let good = fine f.x.copies a.0 a.1 part in
-    let made =
-    put d h.ready f.at f.x (with_copies f.x a.0.0) f.there refl (copies_ok d.plan.aus d.plan.peers f.x a.0.0 (not_false f.x.corrupt who.1) good.0) a.0.1 good.1 good.2 h.some_aus h.some_peers in
-    subst IsPeopled (ap (λ (k : List PeerPlan × ℕ). with_peers d k.0 k.1) (same_some (set d.plan.peers f.at (with_copies f.x a.0.0), a.0.1) kept a.2) ∙ same_some (with_peers d kept.0 kept.1) now is) made
+abbrev AreKept : List AuPlan → ℕ → List Holding → List Holding × ℕ → Type 0
+AreKept aus bytes copies kept =
+    (each (copy_fault aus) [] copies ≡ None → each (copy_fault aus) [] kept.0 ≡ None) × (kept.1 + bytes_of_copies copies ≡ bytes + bytes_of_copies kept.0) × (kept.1 ≤ 134217728)
 
-holding_fine : (aus : List AuPlan) (bytes : ℕ) (copy : Holding) (copies : List Holding) (kept : List Holding × ℕ) → copies_with aus bytes copy copies ≡ Some kept
-    → (each (copy_fault aus) [] copies ≡ None → each (copy_fault aus) [] kept.0 ≡ None) × (kept.1 + bytes_of_copies copies ≡ bytes + bytes_of_copies kept.0) × (kept.1 ≤ 134217728)
+-- a change of the copies of one honest peer, and of the bytes of all
+copies_put : (d : PlanDraft) (id : ℕ) (change : List Holding → Option (List Holding × ℕ)) → Peopled d
+    → ((copies : List Holding) (kept : List Holding × ℕ) → change copies ≡ Some kept → bytes_of_copies copies ≤ d.bytes → AreKept d.plan.aus d.bytes copies kept) → HoldsWith Peopled d id change
+unfolding may_hold
+copies_put d id change h fine at p kept there holds changed =
+    let who = and_parts (p.id == id) (not p.corrupt) holds in
+    let within = slice_get_within d.plan.peers at p there in
+    let here = get_or_from_slice_get d.plan.peers at p p there in
+    let sums = sum_by-set (λ (x : PeerPlan). bytes_of_copies x.copies) d.plan.peers at (with_copies p []) p within in
+    let old : bytes_of_copies (get_or d.plan.peers at p).copies ≡ bytes_of_copies p.copies = ap (λ (x : PeerPlan). bytes_of_copies x.copies) here in
+    let total = h.ready.bytes in
+    let part : bytes_of_copies p.copies ≤ d.bytes = omega (arith, sums, old, total) in
+    let good = fine p.copies kept changed part in
+    put d h.ready at p (with_copies p kept.0) there refl (copies_ok d.plan.aus d.plan.peers p kept.0 (not-true p.corrupt who.1) good.0) kept.1 good.1 good.2 h.some_aus h.some_peers
+
+holding_fine : (aus : List AuPlan) (bytes : ℕ) (copy : Holding) (copies : List Holding) (kept : List Holding × ℕ) → copies_with aus bytes copy copies ≡ Some kept → AreKept aus bytes copies kept
 unfolding copies_with
 holding_fine aus bytes copy copies kept e =
     let a = bind_some (with_more bytes (bytes_of_blocks copy.blocks)) (λ all. cond (is_none (copy_fault aus copies copy)) (some (copies ++ copy ∷ [], all)) None) kept e in
@@ -414,19 +353,13 @@ holding_fine aus bytes copy copies kept e =
     let count = sum_by-append (λ (c : Holding). bytes_of_blocks c.blocks) copies (copy ∷ []) in
     let all = most.0 in
     let sums : a.0 + bytes_of_copies copies ≡ bytes + bytes_of_copies (copies ++ copy ∷ []) = omega (arith, count, all) in
-    subst (λ (k : List Holding × ℕ). (each (copy_fault aus) [] copies ≡ None → each (copy_fault aus) [] k.0 ≡ None) × (k.1 + bytes_of_copies copies ≡ bytes + bytes_of_copies k.0) × (k.1 ≤ 134217728)) is
+    subst (AreKept aus bytes copies) is
     ((λ stood. each_more (copy_fault aus) [] copies copy stood (no_fault (copy_fault aus copies copy) b.0)), sums, most.1)
 
 pub copy_good : (d now : PlanDraft) (words : List (List ℕ)) → Peopled d → draft_with_copy d words ≡ Some now → Peopled now
-unfolding draft_with_copy holding
-copy_good d now [] h e = absurd cc
-copy_good d now (id ∷ []) h e = absurd cc
-copy_good d now (id ∷ au ∷ content) h e =
-    let a = bind_some (id_in id) (λ n. id_in au >>= λ k. content_in d.plan.peers k content >>= λ blocks. holding d.plan.aus d.bytes n (record { au = k; blocks = blocks }) d.plan.peers >>= λ kept. some (with_peers d kept.0 kept.1)) now e in
-    let b = bind_some (id_in au) (λ k. content_in d.plan.peers k content >>= λ blocks. holding d.plan.aus d.bytes a.0 (record { au = k; blocks = blocks }) d.plan.peers >>= λ kept. some (with_peers d kept.0 kept.1)) now a.2 in
-    let c = bind_some (content_in d.plan.peers b.0 content) (λ blocks. holding d.plan.aus d.bytes a.0 (record { au = b.0; blocks = blocks }) d.plan.peers >>= λ kept. some (with_peers d kept.0 kept.1)) now b.2 in
-    let f = bind_some (holding d.plan.aus d.bytes a.0 (record { au = b.0; blocks = c.0 }) d.plan.peers) (λ kept. some (with_peers d kept.0 kept.1)) now c.2 in
-    copies_put d now a.0 (copies_with d.plan.aus d.bytes (record { au = b.0; blocks = c.0 })) h (λ copies kept e part. holding_fine d.plan.aus d.bytes (record { au = b.0; blocks = c.0 }) copies kept e) f.0 f.1 f.2
+copy_good d now words h = copy_found Peopled d now words (λ id au content blocks said.
+    let copy : Holding = record { au = au; blocks = blocks } in
+    copies_put d id (copies_with d.plan.aus d.bytes copy) h (λ copies kept e part. holding_fine d.plan.aus d.bytes copy copies kept e))
 
 -- ---- damage
 
@@ -472,10 +405,6 @@ copy_ok aus copy blocks count short before e =
       short (stands (are_short copy.blocks) Bounds (no_second (unless (not (has_copy before copy.au)) Repeat) _ later)),
     ) refl
 
-abbrev AreKept : List AuPlan → ℕ → List Holding → List Holding × ℕ → Type 0
-AreKept aus bytes copies kept =
-    (each (copy_fault aus) [] copies ≡ None → each (copy_fault aus) [] kept.0 ≡ None) × (kept.1 + bytes_of_copies copies ≡ bytes + bytes_of_copies kept.0) × (kept.1 ≤ 134217728)
-
 damage_fine : (aus : List AuPlan) (bytes au b : ℕ) (block : List ℕ) (copies : List Holding) (kept : List Holding × ℕ) → copy_damaged bytes au b block copies ≡ Some kept → bytes_of_copies copies ≤ bytes
     → AreKept aus bytes copies kept
 unfolding copy_damaged
@@ -497,19 +426,7 @@ damage_fine aus bytes au b block copies kept e part =
     )
 
 pub damage_good : (d now : PlanDraft) (words : List (List ℕ)) → Peopled d → draft_with_damage d words ≡ Some now → Peopled now
-unfolding draft_with_damage damaged
-damage_good d now [] h e = absurd cc
-damage_good d now (id ∷ []) h e = absurd cc
-damage_good d now (id ∷ au ∷ []) h e = absurd cc
-damage_good d now (id ∷ au ∷ index ∷ []) h e = absurd cc
-damage_good d now (id ∷ au ∷ index ∷ content ∷ []) h e =
-    let a = bind_some (id_in id) (λ n. id_in au >>= λ k. index_in index >>= λ b. block_in content >>= λ block. damaged d.bytes n k b block d.plan.peers >>= λ kept. some (with_peers d kept.0 kept.1)) now e in
-    let b = bind_some (id_in au) (λ k. index_in index >>= λ b. block_in content >>= λ block. damaged d.bytes a.0 k b block d.plan.peers >>= λ kept. some (with_peers d kept.0 kept.1)) now a.2 in
-    let c = bind_some (index_in index) (λ i. block_in content >>= λ block. damaged d.bytes a.0 b.0 i block d.plan.peers >>= λ kept. some (with_peers d kept.0 kept.1)) now b.2 in
-    let f = bind_some (block_in content) (λ block. damaged d.bytes a.0 b.0 c.0 block d.plan.peers >>= λ kept. some (with_peers d kept.0 kept.1)) now c.2 in
-    let g = bind_some (damaged d.bytes a.0 b.0 c.0 f.0 d.plan.peers) (λ kept. some (with_peers d kept.0 kept.1)) now f.2 in
-    copies_put d now a.0 (copy_damaged d.bytes b.0 c.0 f.0) h (damage_fine d.plan.aus d.bytes b.0 c.0 f.0) g.0 g.1 g.2
-damage_good d now (id ∷ au ∷ index ∷ content ∷ more ∷ words) h e = absurd cc
+damage_good d now words h = damage_found Peopled d now words (λ id au b content block said. copies_put d id (copy_damaged d.bytes au b block) h (damage_fine d.plan.aus d.bytes au b block))
 
 -- ---- peers
 
@@ -550,31 +467,14 @@ record IsNew (p : PeerPlan) : Type 0 where
   friends : p.friends ≡ []
   copies : p.copies ≡ []
 
-abbrev peer_of : ℕ → Bool → List ℕ → List ℕ → PeerPlan
-peer_of id corrupt seed proof = record { id = id; corrupt = corrupt; seed = seed; proof = proof; refs = []; friends = []; copies = []; hash = Sha256 }
-
 new_peer : (words : List (List ℕ)) (p : PeerPlan) → peer_in words ≡ Some p → IsNew p
-unfolding peer_in
-new_peer [] p e = absurd cc
-new_peer (id ∷ []) p e = absurd cc
-new_peer (id ∷ kind ∷ []) p e = absurd cc
-new_peer (id ∷ kind ∷ seed ∷ []) p e = absurd cc
-new_peer (id ∷ kind ∷ seed ∷ proof ∷ []) p e =
-    let a = bind_some (id_in id) (λ n. kind_in kind >>= λ corrupt. seed_in seed >>= λ s. proof_in proof >>= λ f. some (peer_of n corrupt s f)) p e in
-    let b = bind_some (kind_in kind) (λ corrupt. seed_in seed >>= λ s. proof_in proof >>= λ f. some (peer_of a.0 corrupt s f)) p a.2 in
-    let c = bind_some (seed_in seed) (λ s. proof_in proof >>= λ f. some (peer_of a.0 b.0 s f)) p b.2 in
-    let f = bind_some (proof_in proof) (λ f. some (peer_of a.0 b.0 c.0 f)) p c.2 in
-    subst IsNew (same_some (peer_of a.0 b.0 c.0 f.0) p f.2) (record { refs = refl; friends = refl; copies = refl })
-new_peer (id ∷ kind ∷ seed ∷ proof ∷ more ∷ words) p e = absurd cc
+new_peer words p = peer_found IsNew words p (λ w0 w2 w3 id corrupt seed proof n s f. record { refs = refl; friends = refl; copies = refl })
 
 pub peer_good : (d now : PlanDraft) (words : List (List ℕ)) → Ready d → draft_with_peer d words ≡ Some now → Peopled now
-unfolding draft_with_peer may_add_peer
-peer_good d now words h e =
-    let a = bind_some (peer_in words) (λ p. cond (may_add_peer d.plan p) (some (with_peers d (d.plan.peers ++ p ∷ []) d.bytes)) None) now e in
-    let p = a.0 in
-    let c = if_some (may_add_peer d.plan p) (some (with_peers d (d.plan.peers ++ p ∷ []) d.bytes)) now a.2 in
-    let is_new = new_peer words p a.1 in
-    let whole = and_parts (nat_le 1 (length d.plan.aus) && nat_lt (length d.plan.peers) 32 && not (has_peer d.plan.peers p.id)) (is_fit p) c.0 in
+unfolding may_add_peer
+peer_good d now words h = added_peer Peopled d now words (λ p said may.
+    let is_new = new_peer words p said in
+    let whole = and_parts (nat_le 1 (length d.plan.aus) && nat_lt (length d.plan.peers) 32 && not (has_peer d.plan.peers p.id)) (is_fit p) may in
     let front = and_parts (nat_le 1 (length d.plan.aus) && nat_lt (length d.plan.peers) 32) (not (has_peer d.plan.peers p.id)) whole.0 in
     let sizes = and_parts (nat_le 1 (length d.plan.aus)) (nat_lt (length d.plan.peers) 32) front.0 in
     let room = ltb-true (length d.plan.peers) 32 sizes.1 in
@@ -585,13 +485,12 @@ peer_good d now words h e =
     let fine : peer_fault d.plan.aus (d.plan.peers ++ p ∷ []) d.plan.peers p ≡ None =
     joined d.plan.aus (d.plan.peers ++ p ∷ []) d.plan.peers p (record {
       fit = whole.1;
-      new = stays_true (not (has_peer d.plan.peers p.id)) Repeat front.1;
+      new = not-true (has_peer d.plan.peers p.id) front.1;
       refs = ap (each (member_fault (d.plan.peers ++ p ∷ []) p.id) []) is_new.refs;
       friends = ap (each (member_fault (d.plan.peers ++ p ∷ []) p.id) []) is_new.friends;
       copies = ap (each (copy_fault d.plan.aus) []) is_new.copies;
     }) in
-    subst IsPeopled (same_some (with_peers d (d.plan.peers ++ p ∷ []) d.bytes) now c.1)
-    (record {
+    record {
       ready = record {
         bounded = h.bounded;
         ordered = h.ordered;

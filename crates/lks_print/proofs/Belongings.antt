@@ -4,7 +4,7 @@ use Rattle.std.specs.Prelude.{codes, slice_get}
 use Rattle.std.specs.Fmt.{decimal}
 use Rattle.std.specs.List.{All, list_any, list_all, flat_map, position, position_or_len, slice_set}
 use Rattle.std.specs.Str.{bytes_eq}
-use Rattle.std.proofs.lemmas.Bool.{and_parts, and_from, or_parts, or_cases, leb-true, le-leb, lt-ltb, eq-eqb, eqb-true, not-true, cases_Bool}
+use Rattle.std.proofs.lemmas.Bool.{and_parts, and_from, or_parts, or_cases, leb-true, le-leb, lt-ltb, eq-eqb, eqb-true, cases_Bool}
 use Rattle.std.proofs.lemmas.List.{append-nil, length-append}
 use Rattle.std.proofs.lemmas.List.Sums.{sum_by-append, sum_by-cons}
 use Rattle.std.proofs.lemmas.List.Elements.{All-nil, All-cons, All-head, All-tail}
@@ -18,9 +18,10 @@ use Rattle.lks_base.specs.declared.plans.PeerPlan.{PeerPlan}
 use Rattle.lks_base.specs.declared.plans.Rules.{Rules}
 use Rattle.lks_base.specs.declared.plans.Plan.{Plan}
 use Rattle.lks_base.specs.declared.plans.PlanFault.{PlanFault}
-use Rattle.lks_base.specs.declared.plans.PlanFault.TheVariants.{Bounds, RulesOrder, Repeat, SelfListed, UnknownPeer, BlockCount}
+use Rattle.lks_base.specs.declared.plans.PlanFault.TheVariants.{Bounds, RulesOrder, SelfListed, UnknownPeer, BlockCount}
 use Rattle.lks_base.specs.Checking.{unless, ◌▹◌, each, is_within, are_bounded, are_ordered, au_fault, has_peer, has_member, member_fault, has_counted, copy_fault, is_bare, is_fit, peer_fault, bytes_of_blocks, bytes_of_copies, bytes_of_peers, plan_fault}
 use Rattle.lks_base.proofs.PlanLaws.{no_first, no_second, stands, lists_stand, all_of, fifth}
+use Rattle.lks_lines.proofs.Passing.{members_same, Parts, parted}
 use Rattle.lks_lines.specs.declared.list_lines.ListKind.{ListKind}
 use Rattle.lks_lines.specs.declared.list_lines.ListKind.TheVariants.{Refs, Friends}
 use Rattle.lks_lines.specs.declared.plan_lines.PlanDraft.{PlanDraft}
@@ -33,11 +34,9 @@ use Rattle.lks_script.specs.declared.steps.Script.{Script}
 use Rattle.lks_script.specs.Grammar.{declares_peer, later_line, planned_line, line_in}
 use Rattle.lks_words.specs.Printing.{blocks_text, hash_text}
 use Rattle.lks_words.specs.Texts.{AreFew, are_above}
-use Rattle.lks_words.specs.Words.{id_in}
-use Rattle.lks_words.proofs.Decimals.{number_again}
 use Rattle.lks_words.proofs.Splits.{weaker}
-use Rattle.lks_words.proofs.Kept.{decimal_above, blocks_again, blocks_above, ids_again, hash_again, hash_above}
-use Rattle.lks_print.proofs.Kept.{ids_plain}
+use Rattle.lks_words.proofs.Kept.{blocks_again, blocks_above, ids_again, hash_again, hash_above}
+use Rattle.lks_print.proofs.Kept.{small_plain, small_again, ids_plain}
 use Rattle.lks_print.proofs.Reading.{Reads, words_read}
 use Rattle.lks_print.specs.Said.{are_plain, IsSaidPeer}
 use Rattle.lks_print.specs.Scripts.{hash_line, list_line, copy_line, belongings}
@@ -96,7 +95,7 @@ draft_at rules turns aus done rest = record { plan = record { rules = rules; tur
 
 -- ---- the peers of a draft have the numbers that those of the plan have
 
-bare_has : (ps : List PeerPlan) (id : ℕ) → has_peer (map bare_of ps) id ≡ has_peer ps id
+pub bare_has : (ps : List PeerPlan) (id : ℕ) → has_peer (map bare_of ps) id ≡ has_peer ps id
 unfolding has_peer
 bare_has [] id = refl
 bare_has (p ∷ ps) id = ap (λ b. (p.id == id) || b) (bare_has ps id)
@@ -105,14 +104,6 @@ mid_has : (done : List PeerPlan) (p : PeerPlan) (hash : HashKind) (refs friends 
 unfolding has_peer
 mid_has [] p hash refs friends copies more id = ap (λ b. (p.id == id) || b) (bare_has more id)
 mid_has (q ∷ done) p hash refs friends copies more id = ap (λ b. (q.id == id) || b) (mid_has done p hash refs friends copies more id)
-
-member_same : (peers others : List PeerPlan) → ((id : ℕ) → has_peer others id ≡ has_peer peers id) → (own : ℕ) (before : List ℕ) (id : ℕ) → member_fault others own before id ≡ member_fault peers own before id
-unfolding member_fault
-member_same peers others same own before id = rw (same id) refl
-
-members_same : (peers others : List PeerPlan) → ((id : ℕ) → has_peer others id ≡ has_peer peers id) → (own : ℕ) (before ids : List ℕ) → each (member_fault others own) before ids ≡ each (member_fault peers own) before ids
-members_same peers others same own before [] = refl
-members_same peers others same own before (id ∷ ids) = rw (member_same peers others same own before id, members_same peers others same own (before ++ id ∷ []) ids) refl
 
 -- members are peers, whose numbers have two bytes
 member_has : (peers : List PeerPlan) (own : ℕ) (before : List ℕ) (id : ℕ) → member_fault peers own before id ≡ None → has_peer peers id ≡ true
@@ -135,13 +126,6 @@ later_reads at d longer key more text s some other plain is reads = words_read (
     as_later : (at : Part) → line_in (Planned at d) (key ∷ more) ≡ Some (Planned part.Lists longer)
     as_later part.Peers = rw other is
     as_later part.Lists = is
-
--- a number's word
-small_plain : (n : ℕ) → n ≤ 65535 → are_above 43 (decimal n) ≡ true
-small_plain n le = weaker 43 44 (decimal n) (omega arith) (decimal_above n (omega (arith, le)))
-
-small_again : (n : ℕ) → n ≤ 65535 → id_in (decimal n) ≡ Some n
-small_again n le = number_again 65535 n (decimal n) (omega arith) le refl
 
 -- ---- what copies are of
 
@@ -173,27 +157,6 @@ unfolding copy_fault
 copy_counted aus held copy numbered e = counted aus copy.au (length copy.blocks) numbered (stands (has_counted aus copy.au (length copy.blocks)) BlockCount (no_first _ _ e))
 
 -- ---- what a good plan says of one peer
-
-record Parts (aus : List AuPlan) (peers before : List PeerPlan) (p : PeerPlan) : Type 0 where
-  fit : is_fit p ≡ true
-  new : has_peer before p.id ≡ false
-  refs : each (member_fault peers p.id) [] p.refs ≡ None
-  friends : each (member_fault peers p.id) [] p.friends ≡ None
-  copies : each (copy_fault aus) [] p.copies ≡ None
-
-parted : (aus : List AuPlan) (peers before : List PeerPlan) (p : PeerPlan) → peer_fault aus peers before p ≡ None → Parts aus peers before p
-unfolding peer_fault
-parted aus peers before p e =
-    let after_fit = no_second (unless (is_fit p) Bounds) _ e in
-    let after_new = no_second (unless (not (has_peer before p.id)) Repeat) _ after_fit in
-    let after_refs = no_second (each (member_fault peers p.id) [] p.refs) _ after_new in
-    record {
-      fit = stands (is_fit p) Bounds (no_first (unless (is_fit p) Bounds) _ e);
-      new = not-true (has_peer before p.id) (stands (not (has_peer before p.id)) Repeat (no_first (unless (not (has_peer before p.id)) Repeat) _ after_fit));
-      refs = no_first (each (member_fault peers p.id) [] p.refs) _ after_new;
-      friends = no_first (each (member_fault peers p.id) [] p.friends) _ after_refs;
-      copies = no_second (each (member_fault peers p.id) [] p.friends) _ after_refs;
-    }
 
 -- a peer that has something is honest
 record IsOwner (p : PeerPlan) : Type 0 where
@@ -284,7 +247,7 @@ module _ (rules : Rules) (turns : ℕ) (aus : List AuPlan) (done : List PeerPlan
   unfolding is_list
   good_list hash refs friends copies first rest good =
       and_from (leb 1 (length (first ∷ rest))) _ (le-leb 1 (length (first ∷ rest)) (omega arith))
-      (ap is_none (members_same (done ++ p ∷ more) (peers_mid hash refs friends copies) (mid_has done p hash refs friends copies more) p.id [] (first ∷ rest) ∙ good))
+      (ap is_none (members_same (peers_mid hash refs friends copies) (done ++ p ∷ more) (mid_has done p hash refs friends copies more) p.id [] (first ∷ rest) ∙ good))
 
   lacks_refs : (hash : HashKind) (friends : List ℕ) → p.corrupt ≡ false → lacks_list Refs p.id (mid p hash [] friends []) ≡ true
   unfolding lacks_list list_of

@@ -1,13 +1,12 @@
 -- The script of a drill is said: its values are in their limits, and each of its steps can stand behind those before it.
-use Rattle.std.proofs.Common.{◌≡◌, ℕ, zero, suc, ◌+◌, ◌-◌, ◌*◌, ◌/◌, ◌≤◌, ◌<◌, ◌^◌, Bool, true, false, List, [], ◌∷◌, ◌++◌, length, Some, refl, arith}
-use Rattle.std.specs.Prelude.{replicate, if◌then◌else◌}
-use Rattle.std.specs.Fmt.{decimal}
+use Rattle.std.proofs.Common.{◌≡◌, ℕ, zero, suc, ◌+◌, ◌-◌, ◌*◌, ◌/◌, ◌≤◌, ◌<◌, ◌^◌, true, false, List, [], ◌∷◌, ◌++◌, length, refl, arith}
+use Rattle.std.specs.Prelude.{replicate}
 use Rattle.std.specs.Int.{w16, w64, byte_at, bytes_high_first, to_be_bytes}
 use Rattle.std.specs.List.{All, flat_map, range_with_len}
 use Rattle.std.proofs.Math.Nat.{mod-lt}
 use Rattle.std.proofs.lemmas.Bool.{and_parts, and_from}
 use Rattle.std.proofs.lemmas.List.{length-replicate}
-use Rattle.std.proofs.lemmas.List.Elements.{All-nil, All-cons, All-head, All-tail, All-map}
+use Rattle.std.proofs.lemmas.List.Elements.{All-nil, All-cons, All-head, All-tail, All-map, All-set}
 use Rattle.hex.specs.Hex.{IsBytes}
 use Rattle.lks_base.specs.declared.events.PeerStep.TheVariants.{OpenPoll}
 use Rattle.lks_base.specs.declared.limits.TheConstants.{MOST_BLOCK_BYTES, MOST_PROOF_BYTES}
@@ -17,24 +16,17 @@ use Rattle.lks_script.specs.declared.steps.Step.{Step}
 use Rattle.lks_script.specs.declared.steps.Step.TheVariants.{Peer, Finish}
 use Rattle.lks_script.specs.StepLines.{open_in, own_step_in, peer_step_in, finish_in, step_in}
 use Rattle.lks_script.specs.StepRules.{is_step_of, fails_power, has_power_for, are_steps_of}
-use Rattle.lks_words.specs.Texts.{are_above, AreFew}
-use Rattle.lks_words.specs.Words.{id_in}
-use Rattle.lks_words.proofs.Decimals.{number_again}
-use Rattle.lks_words.proofs.Kept.{bytes_append, bytes_replicate, decimal_above}
-use Rattle.lks_words.proofs.Splits.{weaker}
+use Rattle.lks_words.specs.Texts.{AreFew}
+use Rattle.lks_words.proofs.Kept.{bytes_append, bytes_replicate}
 use Rattle.lks_drill.specs.Drill.{peer_numbers, au_numbers, block_of, whole_copy, is_damaged, blocks_of, draw_before, draw_of, holding_of, copies_of, peer_seed, peer_with, peer_of, peers_of, plan_of, audit_of, audits_of, steps_of_drill, drill_of}
 use Rattle.lks_drill.proofs.Good.{good_plan, steps_stand}
+use Rattle.lks_drill.proofs.Sizes.{either}
+use Rattle.lks_print.proofs.Kept.{small_plain, small_again}
 use Rattle.lks_print.specs.Steps.{key_of, more_of}
 use Rattle.lks_words.specs.Steps.{own_key, own_more}
 use Rattle.lks_print.specs.Said.{IsSaidStep, IsSaidPeer, StepsFollow, IsSaid}
-use Rattle.lks_print.proofs.FromReading.{all_set}
 
 -- ---- what holds of each element
-
-module _ {X : Type 0} (P : X → Type 0) where
-  either : (test : Bool) (xs ys : List X) → All P xs → All P ys → All P (if test then xs else ys)
-  either true xs ys at_x at_y = at_x
-  either false xs ys at_x at_y = at_y
 
 -- of each number from a on that is below a bound
 all_range : (P : ℕ → Type 0) (end a n : ℕ) → a + n ≤ end → ((k : ℕ) → k < end → P k) → All P (range_with_len a n)
@@ -69,7 +61,7 @@ whole_few = All-map (AreFew MOST_BLOCK_BYTES) block_of (range_with_len 0 128) (a
 copy_few : (peer : ℕ) (d : _) → peer < 13 → All (AreFew MOST_BLOCK_BYTES) (blocks_of peer d)
 unfolding blocks_of
 copy_few peer d lt =
-    either (AreFew MOST_BLOCK_BYTES) (is_damaged d) _ _ (all_set (AreFew MOST_BLOCK_BYTES) whole_copy _ _ whole_few (block_few (200 + peer) (omega (arith, lt)))) whole_few
+    either (All (AreFew MOST_BLOCK_BYTES)) (is_damaged d) _ _ (All-set (AreFew MOST_BLOCK_BYTES) whole_copy _ _ (block_few (200 + peer) (omega (arith, lt))) whole_few) whole_few
 
 abbrev AreShort : Holding → Type 0
 AreShort c = All (AreFew MOST_BLOCK_BYTES) c.blocks
@@ -110,12 +102,6 @@ peers_said seed = All-map IsSaidPeer (peer_of seed) peer_numbers (all_range (λ 
 
 -- ---- steps
 
-id_again : (n : ℕ) → n ≤ 65535 → id_in (decimal n) ≡ Some n
-id_again n le = number_again 65535 n (decimal n) (omega arith) le refl
-
-id_plain : (n : ℕ) → n ≤ 65535 → are_above 43 (decimal n) ≡ true
-id_plain n le = weaker 43 44 (decimal n) (omega arith) (decimal_above n (omega (arith, le)))
-
 -- a step that reads back, and in which no power fails
 record IsPlainStep (step : Step) : Type 0 where
   kept : IsSaidStep step
@@ -124,7 +110,7 @@ record IsPlainStep (step : Step) : Type 0 where
 open_plain : (peer au : ℕ) → peer ≤ 65535 → au ≤ 65535 → IsPlainStep (Peer (OpenPoll peer au))
 unfolding open_in own_step_in peer_step_in step_in own_key own_more key_of more_of fails_power
 open_plain peer au p a =
-    record { kept = record { again = rw (id_again peer p, id_again au a) refl; plain = rw (id_plain peer p, id_plain au a) refl }; powered = refl }
+    record { kept = record { again = rw (small_again peer p, small_again au a) refl; plain = rw (small_plain peer p, small_plain au a) refl }; powered = refl }
 
 finish_plain : IsPlainStep Finish
 unfolding finish_in step_in key_of more_of fails_power

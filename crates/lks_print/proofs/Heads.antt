@@ -1,18 +1,15 @@
 -- The lines that declare a plan are read as the plan, and the steps behind a plan as its steps.
-use Rattle.std.proofs.Common.{◌≡◌, ℕ, ◌≤◌, ◌<◌, ◌^◌, Bool, true, false, ltb, leb, List, [], ◌∷◌, ◌++◌, length, map, Option, Some, None, refl, sym, ap, subst, ◌∙◌, append_assoc, arith}
+use Rattle.std.proofs.Common.{◌≡◌, ℕ, ◌≤◌, Bool, true, false, ltb, leb, List, [], ◌∷◌, ◌++◌, length, map, Option, Some, None, refl, sym, ap, subst, ◌∙◌, append_assoc, arith}
 use Rattle.std.specs.Prelude.{codes, not}
 use Rattle.std.specs.Fmt.{decimal}
 use Rattle.std.specs.List.{All, flat_map}
 use Rattle.std.specs.Option.{option_map}
-use Rattle.std.specs.Str.{bytes_eq}
 use Rattle.std.proofs.lemmas.Bool.{and_parts, and_from, leb-true, le-leb, lt-ltb}
 use Rattle.std.proofs.lemmas.List.{length-append, length-map, append-nil}
 use Rattle.std.proofs.lemmas.List.Elements.{All-head, All-tail}
 use Rattle.hex.specs.Hex.{encode_lower}
 use Rattle.lks_base.specs.Checking.{unless, ◌▹◌, each, is_within, are_bounded, are_ordered, has_au, has_peer, au_fault, is_bare, is_fit, peer_fault, bytes_of_peers, plan_fault}
 use Rattle.lks_base.specs.declared.limits.TheConstants.{LAST_NUMBER, MOST_AUS, MOST_BLOCKS, MOST_COPY_BYTES, MOST_EVENTS, MOST_PEERS, MOST_PROOF_BYTES}
-use Rattle.lks_base.specs.declared.events.PeerStep.{PeerStep}
-use Rattle.lks_base.specs.declared.events.PeerStep.TheVariants as peers
 use Rattle.lks_base.specs.declared.plans.AuPlan.{AuPlan}
 use Rattle.lks_base.specs.declared.plans.PeerPlan.{PeerPlan}
 use Rattle.lks_base.specs.declared.plans.Plan.{Plan}
@@ -28,22 +25,20 @@ use Rattle.lks_script.specs.declared.drafts.Part.{Part}
 use Rattle.lks_script.specs.declared.drafts.Part.TheVariants as part
 use Rattle.lks_script.specs.declared.steps.Script.{Script}
 use Rattle.lks_script.specs.declared.steps.Step.{Step}
-use Rattle.lks_script.specs.declared.steps.Step.TheVariants.{Peer, Tick, Next, Lose, Again, Settle, Finish, Forge, SayPoll, SayProof, SayRequest, SayReceipt, SayChallenge, SayNominate, SayVote, SayRepair, Crash, Cut}
-use Rattle.lks_script.specs.Grammar.{title_line, rules_line, turns_line, au_line, peer_line, ruled_line, step_line, later_line, declares_peer, planned_line, line_in, ended, end_in, lines_in}
+use Rattle.lks_script.specs.Grammar.{title_line, rules_line, turns_line, au_line, peer_line, ruled_line, step_line, declares_peer, planned_line, line_in, ended, end_in, lines_in}
 use Rattle.lks_words.specs.Printing.{hex_or_hyphen, kind_text}
-use Rattle.lks_words.specs.Texts.{are_above}
 use Rattle.lks_words.proofs.Decimals.{number_again}
-use Rattle.lks_words.proofs.Kept.{decimal_above, hex_above, text_above, kind_above, seed_again, proof_again, kind_again}
+use Rattle.lks_words.proofs.Kept.{hex_above, text_above, kind_above, seed_again, proof_again, kind_again}
 use Rattle.lks_words.proofs.Splits.{weaker}
 use Rattle.lks_print.specs.Steps as printed
 use Rattle.lks_print.specs.Steps.{line_of, key_of, more_of}
-use Rattle.lks_words.specs.Steps.{own_key}
 use Rattle.lks_print.specs.Scripts as text
 use Rattle.lks_print.specs.Scripts.{rules_words, au_words, peer_words}
 use Rattle.lks_print.specs.Said.{are_plain}
-use Rattle.lks_print.proofs.Belongings.{bare_of}
+use Rattle.lks_print.proofs.Belongings.{bare_of, bare_has}
+use Rattle.lks_print.proofs.Kept.{plain_number, small_plain, small_again, step_names}
 use Rattle.lks_print.proofs.RulesAgain.{AreSmall, are_small, good_again}
-use Rattle.lks_print.proofs.Reading.{Reads, words_read, script_with, one_more, named_step, steps_read}
+use Rattle.lks_print.proofs.Reading.{Reads, words_read, script_with, one_more, steps_read}
 use Rattle.lks_print.specs.Said.{IsSaidPeer, CanFollow, StepsFollow}
 
 -- ---- the rules of a plan one by one
@@ -107,20 +102,15 @@ is_good p good =
       few_peers = leb-true (length p.peers) MOST_PEERS some.1;
     }
 
--- ---- words
-
-plain_number : (most n : ℕ) → most < 2 ^ 64 → n ≤ most → are_above 43 (decimal n) ≡ true
-plain_number most n lt le = weaker 43 44 (decimal n) (omega arith) (decimal_above n (omega (arith, lt, le)))
-
 -- ---- AUs
 
 au_again : (au : AuPlan) → au.id ≤ 65535 → au.count ≤ 65535 → au_in (au_words au) ≡ Some au
 unfolding au_in au_words
-au_again au id count = rw (number_again 65535 au.id (decimal au.id) (omega arith) id refl, number_again 65535 au.count (decimal au.count) (omega arith) count refl) refl
+au_again au id count = rw (small_again au.id id, small_again au.count count) refl
 
 au_plain : (au : AuPlan) → au.id ≤ 65535 → au.count ≤ 65535 → are_plain (codes "au" ∷ au_words au) ≡ true
 unfolding au_words
-au_plain au id count = rw (plain_number 65535 au.id (omega arith) id, plain_number 65535 au.count (omega arith) count) refl
+au_plain au id count = rw (small_plain au.id id, small_plain au.count count) refl
 
 record CanJoin (before : List AuPlan) (au : AuPlan) : Type 0 where
   id : au.id ≤ 65535
@@ -168,22 +158,17 @@ declared rules turns aus before = record { plan = record { rules = rules; turns 
 
 peer_again : (p : PeerPlan) → IsSaidPeer p → peer_in (peer_words p) ≡ Some (bare_of p)
 unfolding peer_in peer_words
-peer_again p said = rw (number_again 65535 p.id (decimal p.id) (omega arith) said.id refl, kind_again p.corrupt, seed_again p.seed said.seed said.long, proof_again p.proof said.proof) refl
+peer_again p said = rw (small_again p.id said.id, kind_again p.corrupt, seed_again p.seed said.seed said.long, proof_again p.proof said.proof) refl
 
 peer_plain : (p : PeerPlan) → IsSaidPeer p → are_plain (codes "peer" ∷ peer_words p) ≡ true
 unfolding peer_words
 peer_plain p said =
     rw (
-      plain_number 65535 p.id (omega arith) said.id,
+      small_plain p.id said.id,
       weaker 43 44 (kind_text p.corrupt) (omega arith) (kind_above p.corrupt),
       weaker 43 44 (encode_lower p.seed) (omega arith) (hex_above p.seed said.seed),
       weaker 43 44 (hex_or_hyphen p.proof) (omega arith) (text_above p.proof said.proof.bytes),
     ) refl
-
-same_peers : (before : List PeerPlan) (id : ℕ) → has_peer (map bare_of before) id ≡ has_peer before id
-unfolding has_peer
-same_peers [] id = refl
-same_peers (p ∷ before) id = rw (same_peers before id) refl
 
 bare_fit : (p : PeerPlan) (corrupt : Bool) → leb (length p.proof) MOST_PROOF_BYTES ≡ true → p.corrupt ≡ corrupt → is_fit (bare_of p) ≡ true
 unfolding is_fit is_bare
@@ -202,7 +187,7 @@ peer_joins : (rules : Rules) (turns : ℕ) (aus : List AuPlan) (before : List Pe
     → draft_with_peer (declared rules turns aus before) (peer_words p) ≡ Some (declared rules turns aus (before ++ p ∷ []))
 unfolding draft_with_peer may_add_peer
 peer_joins rules turns aus before p said some room other =
-    rw (peer_again p said, some, ap (λ (n : ℕ). ltb n MOST_PEERS) (length-map before bare_of) ∙ room, ap not (same_peers before p.id) ∙ other, bare_fit p p.corrupt (le-leb _ _ said.proof.few) refl, joined before p) refl
+    rw (peer_again p said, some, ap (λ (n : ℕ). ltb n MOST_PEERS) (length-map before bare_of) ∙ room, ap not (bare_has before p.id) ∙ other, bare_fit p p.corrupt (le-leb _ _ said.proof.few) refl, joined before p) refl
 
 -- the line may stand behind this draft, where a peer is declared
 abbrev Declares : Draft → PlanDraft → Type 0
@@ -239,91 +224,20 @@ peers_read draft rules turns aus all before p (q ∷ peers) rest script declares
 
 -- ---- steps behind a plan
 
--- no step is named by a word that declares something
-own_behind : (plan : PlanDraft) (step : PeerStep) (more : List (List ℕ)) → later_line plan (own_key step) more ≡ step_line plan.plan [] (own_key step) more
-unfolding later_line own_key
-own_behind plan (peers.OpenPoll peer au) more = refl
-own_behind plan (peers.Widen peer number) more = refl
-own_behind plan (peers.Shut peer number) more = refl
-own_behind plan (peers.Tally peer number) more = refl
-own_behind plan (peers.Nudge peer number) more = refl
-own_behind plan (peers.GiveUp peer number) more = refl
-own_behind plan (peers.Work peer poll) more = refl
-own_behind plan (peers.Expire peer poll) more = refl
-own_behind plan (peers.Check peer) more = refl
-own_behind plan (peers.Tune peer quorum minority repairs) more = refl
-own_behind plan (peers.Deliver envelope judged) more = refl
-
-step_behind : (plan : PlanDraft) (step : Step) (more : List (List ℕ)) → later_line plan (key_of step) more ≡ step_line plan.plan [] (key_of step) more
-unfolding later_line key_of
-step_behind plan (Peer step) more = own_behind plan step more
-step_behind plan (Tick by) more = refl
-step_behind plan (Next times) more = refl
-step_behind plan Lose more = refl
-step_behind plan (Again envelope) more = refl
-step_behind plan Settle more = refl
-step_behind plan Finish more = refl
-step_behind plan (Forge from to bytes) more = refl
-step_behind plan (SayPoll from to number au) more = refl
-step_behind plan (SayProof from to number) more = refl
-step_behind plan (SayRequest from to number block) more = refl
-step_behind plan (SayReceipt from to number) more = refl
-step_behind plan (SayChallenge from to number agrees) more = refl
-step_behind plan (SayNominate from to number nominees) more = refl
-step_behind plan (SayVote from to number au blocks) more = refl
-step_behind plan (SayRepair from to number block bytes) more = refl
-step_behind plan (Crash peer) more = refl
-step_behind plan (Cut calls choice step) more = refl
-
-own_declares_none : (step : PeerStep) → bytes_eq (own_key step) (codes "peer") ≡ false
-unfolding own_key
-own_declares_none (peers.OpenPoll peer au) = refl
-own_declares_none (peers.Widen peer number) = refl
-own_declares_none (peers.Shut peer number) = refl
-own_declares_none (peers.Tally peer number) = refl
-own_declares_none (peers.Nudge peer number) = refl
-own_declares_none (peers.GiveUp peer number) = refl
-own_declares_none (peers.Work peer poll) = refl
-own_declares_none (peers.Expire peer poll) = refl
-own_declares_none (peers.Check peer) = refl
-own_declares_none (peers.Tune peer quorum minority repairs) = refl
-own_declares_none (peers.Deliver envelope judged) = refl
-
-declares_none : (step : Step) → bytes_eq (key_of step) (codes "peer") ≡ false
-unfolding key_of
-declares_none (Peer step) = own_declares_none step
-declares_none (Tick by) = refl
-declares_none (Next times) = refl
-declares_none Lose = refl
-declares_none (Again envelope) = refl
-declares_none Settle = refl
-declares_none Finish = refl
-declares_none (Forge from to bytes) = refl
-declares_none (SayPoll from to number au) = refl
-declares_none (SayProof from to number) = refl
-declares_none (SayRequest from to number block) = refl
-declares_none (SayReceipt from to number) = refl
-declares_none (SayChallenge from to number agrees) = refl
-declares_none (SayNominate from to number nominees) = refl
-declares_none (SayVote from to number au blocks) = refl
-declares_none (SayRepair from to number block bytes) = refl
-declares_none (Crash peer) = refl
-declares_none (Cut calls choice step) = refl
-
 no_peer : (at : Part) (step : Step) → declares_peer at (key_of step) ≡ false
 unfolding declares_peer
-no_peer part.Peers step = declares_none step
+no_peer part.Peers step = (step_names step).no_peer
 no_peer part.Lists step = refl
 
 first_step : (at : Part) (plan : PlanDraft) (step : Step) → CanFollow plan.plan [] step → line_in (Planned at plan) (key_of step ∷ more_of step) ≡ Some (Stepped plan.plan (step ∷ []))
 unfolding line_in planned_line step_line
 first_step at plan step can =
-    rw (no_peer at step) (step_behind plan step (more_of step) ∙ ap (λ (o : Option (List Step)). option_map (λ (longer : List Step). Stepped plan.plan longer) o) (one_more plan.plan [] step can))
+    rw (no_peer at step) ((step_names step).behind plan (more_of step) ∙ ap (λ (o : Option (List Step)). option_map (λ (longer : List Step). Stepped plan.plan longer) o) (one_more plan.plan [] step can))
 
 first_reads : (at : Part) (plan : PlanDraft) (step : Step) (rest : List ℕ) (script : Script) → CanFollow plan.plan [] step → Reads (Stepped plan.plan (step ∷ [])) rest script → Reads (Planned at plan) (printed.step_line step ++ rest) script
 unfolding printed.step_line
 first_reads at plan step rest script can =
-    words_read (Planned at plan) (Stepped plan.plan (step ∷ [])) (key_of step) (more_of step) rest script (named_step step) can.said.plain (first_step at plan step can)
+    words_read (Planned at plan) (Stepped plan.plan (step ∷ [])) (key_of step) (more_of step) rest script (step_names step).named can.said.plain (first_step at plan step can)
 
 no_steps : (at : Part) (plan : PlanDraft) → Reads (Planned at plan) [] (script_with plan.plan [])
 unfolding lines_in end_in ended
@@ -343,17 +257,17 @@ rules_plain : (r : Rules) → AreSmall r → are_plain (codes "rules" ∷ rules_
 unfolding rules_words
 rules_plain r small =
     rw (
-      plain_number 65535 r.inner (omega arith) small.inner,
-      plain_number 65535 r.quorum (omega arith) small.quorum,
-      plain_number 65535 r.minority (omega arith) small.minority,
-      plain_number 65535 r.outer (omega arith) small.outer,
-      plain_number 65535 r.repairs (omega arith) small.repairs,
+      small_plain r.inner small.inner,
+      small_plain r.quorum small.quorum,
+      small_plain r.minority small.minority,
+      small_plain r.outer small.outer,
+      small_plain r.repairs small.repairs,
       plain_number 4294967295 r.pace (omega arith) small.pace,
       plain_number 4294967295 r.refractory (omega arith) small.refractory,
       plain_number 4294967295 r.overdue (omega arith) small.overdue,
       plain_number 255 r.unknown_pct (omega arith) small.unknown,
       plain_number 255 r.debt_pct (omega arith) small.debt,
-      plain_number 65535 r.churn (omega arith) small.churn,
+      small_plain r.churn small.churn,
     ) refl
 
 rules_are_good : (r : Rules) → are_bounded r ≡ true → are_ordered r ≡ true → are_good r ≡ true

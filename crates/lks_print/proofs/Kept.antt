@@ -1,5 +1,5 @@
 -- A step that was read is printed so that it reads as the same.
-use Rattle.std.proofs.Common.{◌≡◌, ℕ, ◌≤◌, ◌<◌, ◌^◌, Bool, true, false, cond, eqb, List, [], ◌∷◌, ◌++◌, map, Option, Some, None, refl, sym, ap, subst, ◌∙◌, arith}
+use Rattle.std.proofs.Common.{◌≡◌, ℕ, ◌≤◌, ◌<◌, ◌^◌, Bool, true, false, cond, eqb, leb, List, [], ◌∷◌, ◌++◌, length, map, Option, Some, None, refl, sym, ap, subst, ◌∙◌, arith}
 use Rattle.std.specs.Prelude.{codes}
 use Rattle.std.specs.Fmt.{decimal}
 use Rattle.std.specs.List.{All, list_all}
@@ -14,15 +14,17 @@ use Rattle.lks_script.specs.declared.steps.CutStep.{CutStep}
 use Rattle.lks_script.specs.declared.steps.CutStep.TheVariants as cut
 use Rattle.lks_script.specs.declared.steps.Step.{Step}
 use Rattle.lks_script.specs.declared.steps.Step.TheVariants.{Peer, Tick, Next, Lose, Again, Settle, Finish, Forge, SayPoll, SayProof, SayRequest, SayReceipt, SayChallenge, SayNominate, SayVote, SayRepair, Crash, Cut}
+use Rattle.lks_lines.specs.declared.plan_lines.PlanDraft.{PlanDraft}
+use Rattle.lks_script.specs.Grammar.{step_line, later_line}
 use Rattle.lks_script.specs.StepLines.{open_in, own_poll_in, poll_step_in, check_in, session_in, work_in, expire_in, tune_in, in_own_poll, own_step_in, peer_step_in, tick_in, next_in, lose_in, again_in, settle_in, finish_in, crash_in, cut_next_in, cut_again_in, cut_own_in, cut_step_in, cut_in, forge_in, invitation_said, proof_said, request_said, receipt_said, challenge_said, nominees_said, vote_said, repair_said, said_in, say_in, step_in}
 use Rattle.lks_words.specs.Numbers.{◌>>=◌, number_in}
 use Rattle.lks_words.specs.Words.{parts, each_in, id_in, poll_in, index_in, bytes_in, block_in, blocks_in, answer_in}
 use Rattle.lks_words.specs.Printing.{hex_or_hyphen, blocks_text, answer_text}
 use Rattle.lks_words.specs.Texts.{are_above}
-use Rattle.lks_words.proofs.Decimals.{number_kept, number_most}
+use Rattle.lks_words.proofs.Decimals.{number_kept, number_most, number_again}
 use Rattle.lks_words.proofs.Splits.{weaker, words_part}
 use Rattle.lks_words.proofs.Kept.{decimal_above, text_above, bytes_fit, bytes_again, block_fits, block_again, blocks_fit, blocks_again, blocks_above, ids_fit, ids_again, answer_again, answer_above}
-use Rattle.lks_words.proofs.Steps.{bind_some, if_some, same_some}
+use Rattle.lks_words.proofs.Steps.{bind_some, if_some, if_else, same_some}
 use Rattle.lks_print.specs.Said.{are_plain, IsSaidStep}
 use Rattle.lks_print.specs.Steps.{cut_key, cut_more, times_words, key_of, more_of}
 use Rattle.lks_words.specs.Steps.{spaced, own_key, own_more}
@@ -33,10 +35,18 @@ record IsWord {X : Type 0} (said : List ℕ → Option X) (text : X → List ℕ
   again : said (text x) ≡ Some x
   plain : are_above 43 (text x) ≡ true
 
+pub plain_number : (most n : ℕ) → most < 2 ^ 64 → n ≤ most → are_above 43 (decimal n) ≡ true
+plain_number most n lt le = weaker 43 44 (decimal n) (omega arith) (decimal_above n (omega (arith, lt, le)))
+
+-- a number of two bytes
+pub small_plain : (n : ℕ) → n ≤ 65535 → are_above 43 (decimal n) ≡ true
+small_plain n le = plain_number 65535 n (omega arith) le
+
+pub small_again : (n : ℕ) → n ≤ 65535 → id_in (decimal n) ≡ Some n
+small_again n le = number_again 65535 n (decimal n) (omega arith) le refl
+
 number_word : (most : ℕ) (word : List ℕ) (n : ℕ) → most < 2 ^ 64 → number_in most word ≡ Some n → IsWord (number_in most) decimal n
-number_word most word n lt e =
-    let few = number_most most word n e in
-    record { again = number_kept most n word lt e; plain = weaker 43 44 (decimal n) (omega arith) (decimal_above n (omega (arith, lt, few))) }
+number_word most word n lt e = record { again = number_kept most n word lt e; plain = plain_number most n lt (number_most most word n e) }
 
 id_word : (word : List ℕ) (n : ℕ) → id_in word ≡ Some n → IsWord id_in decimal n
 id_word word n e = number_word 65535 word n (omega arith) e
@@ -77,8 +87,56 @@ blocks_word word found e =
 pub ids_plain : (ids : List ℕ) → All (λ n. n ≤ 65535) ids → are_plain (map decimal ids) ≡ true
 ids_plain [] h = refl
 ids_plain (i ∷ ids) h =
-    let few = All-head (λ (n : ℕ). n ≤ 65535) i ids h in
-    and_from (are_above 43 (decimal i)) _ (weaker 43 44 (decimal i) (omega arith) (decimal_above i (omega (arith, few)))) (ids_plain ids (All-tail (λ (n : ℕ). n ≤ 65535) i ids h))
+    and_from (are_above 43 (decimal i)) _ (small_plain i (All-head (λ (n : ℕ). n ≤ 65535) i ids h)) (ids_plain ids (All-tail (λ (n : ℕ). n ≤ 65535) i ids h))
+
+-- ---- the words that name steps
+
+-- no line but that of a step begins with the word
+pub record NamesStep (key : List ℕ) : Type 0 where
+  pub named : leb 1 (length key) ≡ true
+  pub no_peer : bytes_eq key (codes "peer") ≡ false
+  pub behind : (plan : PlanDraft) (more : List (List ℕ)) → later_line plan key more ≡ step_line plan.plan [] key more
+
+-- nor does one but that of a step of a peer's own, be it cut off or not
+record NamesOwn (key : List ℕ) : Type 0 where
+  names : NamesStep key
+  own : (more : List (List ℕ)) → step_in key more ≡ peer_step_in key more
+  cut : (more : List (List ℕ)) → cut_step_in key more ≡ cut_own_in key more
+
+own_names : (step : PeerStep) → NamesOwn (own_key step)
+unfolding own_key later_line step_in cut_step_in
+own_names (peers.OpenPoll peer au) = record { names = record { named = refl; no_peer = refl; behind = λ plan more. refl }; own = λ more. refl; cut = λ more. refl }
+own_names (peers.Widen peer number) = record { names = record { named = refl; no_peer = refl; behind = λ plan more. refl }; own = λ more. refl; cut = λ more. refl }
+own_names (peers.Shut peer number) = record { names = record { named = refl; no_peer = refl; behind = λ plan more. refl }; own = λ more. refl; cut = λ more. refl }
+own_names (peers.Tally peer number) = record { names = record { named = refl; no_peer = refl; behind = λ plan more. refl }; own = λ more. refl; cut = λ more. refl }
+own_names (peers.Nudge peer number) = record { names = record { named = refl; no_peer = refl; behind = λ plan more. refl }; own = λ more. refl; cut = λ more. refl }
+own_names (peers.GiveUp peer number) = record { names = record { named = refl; no_peer = refl; behind = λ plan more. refl }; own = λ more. refl; cut = λ more. refl }
+own_names (peers.Work peer poll) = record { names = record { named = refl; no_peer = refl; behind = λ plan more. refl }; own = λ more. refl; cut = λ more. refl }
+own_names (peers.Expire peer poll) = record { names = record { named = refl; no_peer = refl; behind = λ plan more. refl }; own = λ more. refl; cut = λ more. refl }
+own_names (peers.Check peer) = record { names = record { named = refl; no_peer = refl; behind = λ plan more. refl }; own = λ more. refl; cut = λ more. refl }
+own_names (peers.Tune peer quorum minority repairs) = record { names = record { named = refl; no_peer = refl; behind = λ plan more. refl }; own = λ more. refl; cut = λ more. refl }
+own_names (peers.Deliver envelope judged) = record { names = record { named = refl; no_peer = refl; behind = λ plan more. refl }; own = λ more. refl; cut = λ more. refl }
+
+pub step_names : (step : Step) → NamesStep (key_of step)
+unfolding key_of later_line
+step_names (Peer step) = (own_names step).names
+step_names (Tick by) = record { named = refl; no_peer = refl; behind = λ plan more. refl }
+step_names (Next times) = record { named = refl; no_peer = refl; behind = λ plan more. refl }
+step_names Lose = record { named = refl; no_peer = refl; behind = λ plan more. refl }
+step_names (Again envelope) = record { named = refl; no_peer = refl; behind = λ plan more. refl }
+step_names Settle = record { named = refl; no_peer = refl; behind = λ plan more. refl }
+step_names Finish = record { named = refl; no_peer = refl; behind = λ plan more. refl }
+step_names (Forge from to bytes) = record { named = refl; no_peer = refl; behind = λ plan more. refl }
+step_names (SayPoll from to number au) = record { named = refl; no_peer = refl; behind = λ plan more. refl }
+step_names (SayProof from to number) = record { named = refl; no_peer = refl; behind = λ plan more. refl }
+step_names (SayRequest from to number block) = record { named = refl; no_peer = refl; behind = λ plan more. refl }
+step_names (SayReceipt from to number) = record { named = refl; no_peer = refl; behind = λ plan more. refl }
+step_names (SayChallenge from to number agrees) = record { named = refl; no_peer = refl; behind = λ plan more. refl }
+step_names (SayNominate from to number nominees) = record { named = refl; no_peer = refl; behind = λ plan more. refl }
+step_names (SayVote from to number au blocks) = record { named = refl; no_peer = refl; behind = λ plan more. refl }
+step_names (SayRepair from to number block bytes) = record { named = refl; no_peer = refl; behind = λ plan more. refl }
+step_names (Crash peer) = record { named = refl; no_peer = refl; behind = λ plan more. refl }
+step_names (Cut calls choice step) = record { named = refl; no_peer = refl; behind = λ plan more. refl }
 
 -- ---- steps of a peer's own
 
@@ -158,27 +216,23 @@ own_poll_found (w0 ∷ w1 ∷ []) s e =
     subst IsOwnPoll (same_some (a0.0, a1.0) s a1.2) (record { peer = id_word w0 a0.0 a0.1; number = poll_word w1 a1.0 a1.1 })
 own_poll_found _ s e = absurd cc
 
-either : {X S : Type 0} (b : Bool) (x y : Option S) (s : S) → (x ≡ Some s → X) → (y ≡ Some s → X) → cond b x y ≡ Some s → X
-either true x y s f g e = f e
-either false x y s f g e = g e
-
 in_own_poll_kept : (key : List ℕ) (x : ℕ × ℕ) (s : PeerStep) → IsOwnPoll x → poll_step_in key x.0 x.1 ≡ Some s → IsOwnKept s
 unfolding own_poll_in poll_step_in in_own_poll own_step_in own_key own_more
 in_own_poll_kept key x s k e =
-    either (bytes_eq key (codes "outer")) (Some (peers.Widen x.0 x.1)) _ s (λ h. subst IsOwnKept (same_some (peers.Widen x.0 x.1) s h) (record { again = rw (k.peer.again, k.number.again) refl; plain = rw (k.peer.plain, k.number.plain) refl })) (
-    either (bytes_eq key (codes "shut")) (Some (peers.Shut x.0 x.1)) _ s (λ h. subst IsOwnKept (same_some (peers.Shut x.0 x.1) s h) (record { again = rw (k.peer.again, k.number.again) refl; plain = rw (k.peer.plain, k.number.plain) refl })) (
-    either (bytes_eq key (codes "tally")) (Some (peers.Tally x.0 x.1)) _ s (λ h. subst IsOwnKept (same_some (peers.Tally x.0 x.1) s h) (record { again = rw (k.peer.again, k.number.again) refl; plain = rw (k.peer.plain, k.number.plain) refl })) (
-    either (bytes_eq key (codes "nudge")) (Some (peers.Nudge x.0 x.1)) _ s (λ h. subst IsOwnKept (same_some (peers.Nudge x.0 x.1) s h) (record { again = rw (k.peer.again, k.number.again) refl; plain = rw (k.peer.plain, k.number.plain) refl })) (
-    either (bytes_eq key (codes "give-up")) (Some (peers.GiveUp x.0 x.1)) None s (λ h. subst IsOwnKept (same_some (peers.GiveUp x.0 x.1) s h) (record { again = rw (k.peer.again, k.number.again) refl; plain = rw (k.peer.plain, k.number.plain) refl })) (λ h. absurd cc))))) e
+    if_else (bytes_eq key (codes "outer")) (Some (peers.Widen x.0 x.1)) _ s (λ h. subst IsOwnKept (same_some (peers.Widen x.0 x.1) s h) (record { again = rw (k.peer.again, k.number.again) refl; plain = rw (k.peer.plain, k.number.plain) refl })) (
+    if_else (bytes_eq key (codes "shut")) (Some (peers.Shut x.0 x.1)) _ s (λ h. subst IsOwnKept (same_some (peers.Shut x.0 x.1) s h) (record { again = rw (k.peer.again, k.number.again) refl; plain = rw (k.peer.plain, k.number.plain) refl })) (
+    if_else (bytes_eq key (codes "tally")) (Some (peers.Tally x.0 x.1)) _ s (λ h. subst IsOwnKept (same_some (peers.Tally x.0 x.1) s h) (record { again = rw (k.peer.again, k.number.again) refl; plain = rw (k.peer.plain, k.number.plain) refl })) (
+    if_else (bytes_eq key (codes "nudge")) (Some (peers.Nudge x.0 x.1)) _ s (λ h. subst IsOwnKept (same_some (peers.Nudge x.0 x.1) s h) (record { again = rw (k.peer.again, k.number.again) refl; plain = rw (k.peer.plain, k.number.plain) refl })) (
+    if_else (bytes_eq key (codes "give-up")) (Some (peers.GiveUp x.0 x.1)) None s (λ h. subst IsOwnKept (same_some (peers.GiveUp x.0 x.1) s h) (record { again = rw (k.peer.again, k.number.again) refl; plain = rw (k.peer.plain, k.number.plain) refl })) (λ h. absurd cc))))) e
 
 own_kept : (key : List ℕ) (more : List (List ℕ)) (s : PeerStep) → own_step_in key more ≡ Some s → IsOwnKept s
 unfolding own_step_in in_own_poll
 own_kept key more s e =
-    either (bytes_eq key (codes "open")) (open_in more) _ s (open_kept more s) (
-    either (bytes_eq key (codes "check")) (check_in more) _ s (check_kept more s) (
-    either (bytes_eq key (codes "work")) (work_in more) _ s (work_kept more s) (
-    either (bytes_eq key (codes "expire")) (expire_in more) _ s (expire_kept more s) (
-    either (bytes_eq key (codes "tune")) (tune_in more) _ s (tune_kept more s) (
+    if_else (bytes_eq key (codes "open")) (open_in more) _ s (open_kept more s) (
+    if_else (bytes_eq key (codes "check")) (check_in more) _ s (check_kept more s) (
+    if_else (bytes_eq key (codes "work")) (work_in more) _ s (work_kept more s) (
+    if_else (bytes_eq key (codes "expire")) (expire_in more) _ s (expire_kept more s) (
+    if_else (bytes_eq key (codes "tune")) (tune_in more) _ s (tune_kept more s) (
     λ h. let a = bind_some (own_poll_in more) (λ x. poll_step_in key x.0 x.1) s h in in_own_poll_kept key a.0 s (own_poll_found more a.0 a.1) a.2))))) e
 
 -- ---- steps of a script
@@ -301,14 +355,14 @@ vote_kept f t n kf kt kn _ s e = absurd cc
 said_kept : (what : List ℕ) (f t n : ℕ) → IsWord id_in decimal f → IsWord id_in decimal t → IsWord poll_in decimal n → (more : List (List ℕ)) (s : Step) → said_in what f t n more ≡ Some s → IsSaidStep s
 unfolding said_in
 said_kept what f t n kf kt kn more s e =
-    either (bytes_eq what (codes "poll")) (invitation_said f t n more) _ s (invitation_kept f t n kf kt kn more s) (
-    either (bytes_eq what (codes "proof")) (proof_said f t n more) _ s (proof_kept f t n kf kt kn more s) (
-    either (bytes_eq what (codes "request")) (request_said f t n more) _ s (request_kept f t n kf kt kn more s) (
-    either (bytes_eq what (codes "receipt")) (receipt_said f t n more) _ s (receipt_kept f t n kf kt kn more s) (
-    either (bytes_eq what (codes "challenge")) (challenge_said f t n more) _ s (challenge_kept f t n kf kt kn more s) (
-    either (bytes_eq what (codes "nominate")) (nominees_said f t n more) _ s (nominees_kept f t n kf kt kn more s) (
-    either (bytes_eq what (codes "vote")) (vote_said f t n more) _ s (vote_kept f t n kf kt kn more s) (
-    either (bytes_eq what (codes "repair")) (repair_said f t n more) None s (repair_kept f t n kf kt kn more s) (λ h. absurd cc)))))))) e
+    if_else (bytes_eq what (codes "poll")) (invitation_said f t n more) _ s (invitation_kept f t n kf kt kn more s) (
+    if_else (bytes_eq what (codes "proof")) (proof_said f t n more) _ s (proof_kept f t n kf kt kn more s) (
+    if_else (bytes_eq what (codes "request")) (request_said f t n more) _ s (request_kept f t n kf kt kn more s) (
+    if_else (bytes_eq what (codes "receipt")) (receipt_said f t n more) _ s (receipt_kept f t n kf kt kn more s) (
+    if_else (bytes_eq what (codes "challenge")) (challenge_said f t n more) _ s (challenge_kept f t n kf kt kn more s) (
+    if_else (bytes_eq what (codes "nominate")) (nominees_said f t n more) _ s (nominees_kept f t n kf kt kn more s) (
+    if_else (bytes_eq what (codes "vote")) (vote_said f t n more) _ s (vote_kept f t n kf kt kn more s) (
+    if_else (bytes_eq what (codes "repair")) (repair_said f t n more) None s (repair_kept f t n kf kt kn more s) (λ h. absurd cc)))))))) e
 
 say_kept : (more : List (List ℕ)) (s : Step) → say_in more ≡ Some s → IsSaidStep s
 unfolding say_in
@@ -339,26 +393,12 @@ record IsCutKept (s : CutStep) : Type 0 where
   again : cut_step_in (cut_key s) (cut_more s) ≡ Some s
   plain : are_plain (cut_key s ∷ cut_more s) ≡ true
 
-cut_as_own : (s : PeerStep) → cut_step_in (own_key s) (own_more s) ≡ cut_own_in (own_key s) (own_more s)
-unfolding cut_step_in own_key
-cut_as_own (peers.OpenPoll peer au) = refl
-cut_as_own (peers.Widen peer number) = refl
-cut_as_own (peers.Shut peer number) = refl
-cut_as_own (peers.Tally peer number) = refl
-cut_as_own (peers.Nudge peer number) = refl
-cut_as_own (peers.GiveUp peer number) = refl
-cut_as_own (peers.Work peer poll) = refl
-cut_as_own (peers.Expire peer poll) = refl
-cut_as_own (peers.Check peer) = refl
-cut_as_own (peers.Tune peer quorum minority repairs) = refl
-cut_as_own (peers.Deliver envelope judged) = refl
-
 cut_own_kept : (key : List ℕ) (more : List (List ℕ)) (s : CutStep) → cut_own_in key more ≡ Some s → IsCutKept s
 unfolding cut_own_in cut_key cut_more
 cut_own_kept key more s e =
     let a = bind_some (own_step_in key more) (λ x. Some (cut.Peer x)) s e in
     let k = own_kept key more a.0 a.1 in
-    subst IsCutKept (same_some (cut.Peer a.0) s a.2) (record { again = cut_as_own a.0 ∙ ap (λ (o : Option PeerStep). o >>= λ x. Some (cut.Peer x)) k.again; plain = k.plain })
+    subst IsCutKept (same_some (cut.Peer a.0) s a.2) (record { again = (own_names a.0).cut (own_more a.0) ∙ ap (λ (o : Option PeerStep). o >>= λ x. Some (cut.Peer x)) k.again; plain = k.plain })
 
 cut_next_kept : (more : List (List ℕ)) (s : CutStep) → cut_next_in more ≡ Some s → IsCutKept s
 unfolding cut_next_in cut_step_in cut_key cut_more
@@ -376,8 +416,8 @@ cut_again_kept _ s e = absurd cc
 cut_step_kept : (key : List ℕ) (more : List (List ℕ)) (s : CutStep) → cut_step_in key more ≡ Some s → IsCutKept s
 unfolding cut_step_in
 cut_step_kept key more s e =
-    either (bytes_eq key (codes "next")) (cut_next_in more) _ s (cut_next_kept more s) (
-    either (bytes_eq key (codes "again")) (cut_again_in more) _ s (cut_again_kept more s) (cut_own_kept key more s)) e
+    if_else (bytes_eq key (codes "next")) (cut_next_in more) _ s (cut_next_kept more s) (
+    if_else (bytes_eq key (codes "again")) (cut_again_in more) _ s (cut_again_kept more s) (cut_own_kept key more s)) e
 
 cut_kept : (more : List (List ℕ)) (s : Step) → cut_in more ≡ Some s → IsSaidStep s
 unfolding cut_in step_in key_of more_of
@@ -393,42 +433,28 @@ cut_kept _ s e = absurd cc
 
 -- ---- a peer's own step as a step of the script
 
-as_own : (s : PeerStep) → step_in (own_key s) (own_more s) ≡ peer_step_in (own_key s) (own_more s)
-unfolding step_in own_key
-as_own (peers.OpenPoll peer au) = refl
-as_own (peers.Widen peer number) = refl
-as_own (peers.Shut peer number) = refl
-as_own (peers.Tally peer number) = refl
-as_own (peers.Nudge peer number) = refl
-as_own (peers.GiveUp peer number) = refl
-as_own (peers.Work peer poll) = refl
-as_own (peers.Expire peer poll) = refl
-as_own (peers.Check peer) = refl
-as_own (peers.Tune peer quorum minority repairs) = refl
-as_own (peers.Deliver envelope judged) = refl
-
 peer_kept : (key : List ℕ) (more : List (List ℕ)) (s : Step) → peer_step_in key more ≡ Some s → IsSaidStep s
 unfolding peer_step_in key_of more_of
 peer_kept key more s e =
     let a = bind_some (own_step_in key more) (λ x. Some (Peer x)) s e in
     let k = own_kept key more a.0 a.1 in
-    subst IsSaidStep (same_some (Peer a.0) s a.2) (record { again = as_own a.0 ∙ ap (λ (o : Option PeerStep). o >>= λ x. Some (Peer x)) k.again; plain = k.plain })
+    subst IsSaidStep (same_some (Peer a.0) s a.2) (record { again = (own_names a.0).own (own_more a.0) ∙ ap (λ (o : Option PeerStep). o >>= λ x. Some (Peer x)) k.again; plain = k.plain })
 
 -- ---- all forms
 
 pub step_kept : (key : List ℕ) (more : List (List ℕ)) (s : Step) → step_in key more ≡ Some s → IsSaidStep s
 unfolding step_in
 step_kept key more s e =
-    either (bytes_eq key (codes "tick")) (tick_in more) _ s (tick_kept more s) (
-    either (bytes_eq key (codes "next")) (next_in more) _ s (next_kept more s) (
-    either (bytes_eq key (codes "lose")) (lose_in more) _ s (lose_kept more s) (
-    either (bytes_eq key (codes "again")) (again_in more) _ s (again_kept more s) (
-    either (bytes_eq key (codes "settle")) (settle_in more) _ s (settle_kept more s) (
-    either (bytes_eq key (codes "finish")) (finish_in more) _ s (finish_kept more s) (
-    either (bytes_eq key (codes "forge")) (forge_in more) _ s (forge_kept more s) (
-    either (bytes_eq key (codes "say")) (say_in more) _ s (say_kept more s) (
-    either (bytes_eq key (codes "crash")) (crash_in more) _ s (crash_kept more s) (
-    either (bytes_eq key (codes "cut")) (cut_in more) _ s (cut_kept more s) (peer_kept key more s)))))))))) e
+    if_else (bytes_eq key (codes "tick")) (tick_in more) _ s (tick_kept more s) (
+    if_else (bytes_eq key (codes "next")) (next_in more) _ s (next_kept more s) (
+    if_else (bytes_eq key (codes "lose")) (lose_in more) _ s (lose_kept more s) (
+    if_else (bytes_eq key (codes "again")) (again_in more) _ s (again_kept more s) (
+    if_else (bytes_eq key (codes "settle")) (settle_in more) _ s (settle_kept more s) (
+    if_else (bytes_eq key (codes "finish")) (finish_in more) _ s (finish_kept more s) (
+    if_else (bytes_eq key (codes "forge")) (forge_in more) _ s (forge_kept more s) (
+    if_else (bytes_eq key (codes "say")) (say_in more) _ s (say_kept more s) (
+    if_else (bytes_eq key (codes "crash")) (crash_in more) _ s (crash_kept more s) (
+    if_else (bytes_eq key (codes "cut")) (cut_in more) _ s (cut_kept more s) (peer_kept key more s)))))))))) e
 
 weaker_each : (words : List (List ℕ)) → are_plain words ≡ true → list_all (are_above 32) words ≡ true
 weaker_each [] h = refl

@@ -4,23 +4,21 @@ use Rattle.std.specs.List.{list_all, flat_map}
 use Rattle.std.specs.Option.{option_map}
 use Rattle.std.proofs.lemmas.Bool.{and_parts, and_from, ltb-true, ne_eqb}
 use Rattle.std.proofs.lemmas.List.Splits.{slice_split_at}
-use Rattle.lks_base.specs.declared.events.PeerStep.{PeerStep}
-use Rattle.lks_base.specs.declared.events.PeerStep.TheVariants as peers
 use Rattle.lks_base.specs.declared.plans.Plan.{Plan}
 use Rattle.lks_script.proofs.Lines.{goes_on}
 use Rattle.lks_script.specs.declared.drafts.Draft.{Draft}
 use Rattle.lks_script.specs.declared.drafts.Draft.TheVariants.{Stepped}
 use Rattle.lks_script.specs.declared.steps.Script.{Script}
 use Rattle.lks_script.specs.declared.steps.Step.{Step}
-use Rattle.lks_script.specs.declared.steps.Step.TheVariants.{Peer, Tick, Next, Lose, Again, Settle, Finish, Forge, SayPoll, SayProof, SayRequest, SayReceipt, SayChallenge, SayNominate, SayVote, SayRepair, Crash, Cut}
 use Rattle.lks_script.specs.Grammar.{step_line, stepped_line, line_in, means_nothing, with_line, ended, end_in, lines_in}
 use Rattle.lks_script.specs.StepLines.{steps_with}
 use Rattle.lks_words.specs.Words.{parts}
 use Rattle.lks_words.specs.Texts.{are_above}
 use Rattle.lks_words.proofs.Splits.{lacks, weaker, above_append, above_behind, words_part}
+use Rattle.lks_print.proofs.Kept.{step_names}
 use Rattle.lks_print.specs.Steps as printed
 use Rattle.lks_print.specs.Steps.{line_of, key_of, more_of}
-use Rattle.lks_words.specs.Steps.{spaced, own_key}
+use Rattle.lks_words.specs.Steps.{spaced}
 use Rattle.lks_print.specs.Said.{are_plain}
 use Rattle.lks_print.specs.Said.{CanFollow, StepsFollow}
 
@@ -85,46 +83,11 @@ pub one_more : (plan : Plan) (before : List Step) (step : Step) → CanFollow pl
 unfolding steps_with
 one_more plan before step can = rw (can.said.again, can.stands) refl
 
-named_own : (step : PeerStep) → leb 1 (length (own_key step)) ≡ true
-unfolding own_key
-named_own (peers.OpenPoll peer au) = refl
-named_own (peers.Widen peer number) = refl
-named_own (peers.Shut peer number) = refl
-named_own (peers.Tally peer number) = refl
-named_own (peers.Nudge peer number) = refl
-named_own (peers.GiveUp peer number) = refl
-named_own (peers.Work peer poll) = refl
-named_own (peers.Expire peer poll) = refl
-named_own (peers.Check peer) = refl
-named_own (peers.Tune peer quorum minority repairs) = refl
-named_own (peers.Deliver envelope judged) = refl
-
-pub named_step : (step : Step) → leb 1 (length (key_of step)) ≡ true
-unfolding key_of
-named_step (Peer step) = named_own step
-named_step (Tick by) = refl
-named_step (Next times) = refl
-named_step Lose = refl
-named_step (Again envelope) = refl
-named_step Settle = refl
-named_step Finish = refl
-named_step (Forge from to bytes) = refl
-named_step (SayPoll from to number au) = refl
-named_step (SayProof from to number) = refl
-named_step (SayRequest from to number block) = refl
-named_step (SayReceipt from to number) = refl
-named_step (SayChallenge from to number agrees) = refl
-named_step (SayNominate from to number nominees) = refl
-named_step (SayVote from to number au blocks) = refl
-named_step (SayRepair from to number block bytes) = refl
-named_step (Crash peer) = refl
-named_step (Cut calls choice step) = refl
-
 -- the step's line
 step_reads : (plan : Plan) (before : List Step) (step : Step) (rest : List ℕ) (script : Script) → CanFollow plan before step → Reads (Stepped plan (before ++ step ∷ [])) rest script → Reads (Stepped plan before) (printed.step_line step ++ rest) script
 unfolding printed.step_line line_in stepped_line step_line
 step_reads plan before step rest script can =
-    words_read (Stepped plan before) (Stepped plan (before ++ step ∷ [])) (key_of step) (more_of step) rest script (named_step step) can.said.plain
+    words_read (Stepped plan before) (Stepped plan (before ++ step ∷ [])) (key_of step) (more_of step) rest script (step_names step).named can.said.plain
     (ap (λ (o : Option (List Step)). option_map (λ (longer : List Step). Stepped plan longer) o) (one_more plan before step can))
 
 -- nothing behind the last step

@@ -1,5 +1,5 @@
 -- Steps one behind the other, which found something.
-use Rattle.std.proofs.Common.{◌≡◌, ◌⊎◌, inl, inr, Bool, true, false, cond, Option, Some, None, refl}
+use Rattle.std.proofs.Common.{◌≡◌, Bool, true, false, cond, Option, Some, None, refl}
 use Rattle.std.specs.Option.{option_map}
 use Rattle.lks_words.specs.Numbers.{◌>>=◌}
 
@@ -25,6 +25,7 @@ pub map_some : {A B : Type 0} (f : A → B) (o : Option A) (y : B) → option_ma
 map_some f (Some x) y e = (x, refl, cc)
 map_some f None y e = absurd cc
 
-pub if_else : {A : Type 0} (b : Bool) (x y : Option A) (z : A) → cond b x y ≡ Some z → ((b ≡ true) × (x ≡ Some z)) ⊎ ((b ≡ false) × (y ≡ Some z))
-if_else true x y z e = inl (refl, e)
-if_else false x y z e = inr (refl, e)
+-- the same follows from either part
+pub if_else : {A X : Type 0} (b : Bool) (x y : Option A) (z : A) → (x ≡ Some z → X) → (y ≡ Some z → X) → cond b x y ≡ Some z → X
+if_else true x y z f g e = f e
+if_else false x y z f g e = g e
