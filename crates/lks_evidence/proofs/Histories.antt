@@ -1,42 +1,39 @@
 -- The journals of every history hold.
-use Rattle.std.proofs.Common.{◌≡◌, ◌≤◌, ◌<◌, ◌+◌, ◌∙◌, ap, sym, subst, ℕ, zero, suc, Bool, true, false, cond, eqb, not, List, [], ◌∷◌, length, get_or, take, drop, filter, refl, arith}
+use Rattle.std.proofs.Common.{◌≡◌, ◌≤◌, ◌<◌, ◌+◌, ◌∙◌, ap, sym, subst, ℕ, zero, suc, Bool, true, false, cond, eqb, not, List, [], ◌∷◌, length, get_or, take, filter, refl, arith}
 use Rattle.std.specs.Prelude.{Option, Some, None, unwrap_or, ◌&&◌, ◌||◌, ◌==◌, slice_get, slice_set}
 use Rattle.std.specs.Cmp.Lexicographic.{pointwise, pointwise_decides, bytes_decides}
-use Rattle.std.specs.List.{filter_map, cons_option, list_all, list_any}
+use Rattle.std.specs.List.{list_all, list_any}
 use Rattle.std.proofs.lemmas.Bool.{and_parts, eqb-true, eq-eqb, lt-ltb, le-leb}
-use Rattle.std.proofs.lemmas.List.{take-append-drop}
-use Rattle.lks_base.specs.Checking.{plan_fault, has_honest, has_member, unless, each as each_fault, has_peer, has_counted, is_fit, member_fault, copy_fault, peer_fault}
+use Rattle.lks_base.specs.Checking.{plan_fault, has_honest, unless, each as each_fault, has_peer, has_counted, is_fit, member_fault, copy_fault, peer_fault}
 use Rattle.lks_base.specs.Kinds.{is_second}
 use Rattle.lks_base.specs.declared.events.Event.{Event}
 use Rattle.lks_base.specs.declared.names.HashKind.{HashKind}
 use Rattle.lks_base.specs.declared.names.HashKind.TheVariants.{Sha256, Sha512_256}
-use Rattle.lks_base.specs.declared.names.PollName.{PollName}
 use Rattle.lks_base.specs.declared.plans.AuPlan.{AuPlan}
 use Rattle.lks_base.specs.declared.plans.Holding.{Holding}
 use Rattle.lks_base.specs.declared.plans.PeerPlan.{PeerPlan}
 use Rattle.lks_base.specs.declared.plans.Plan.{Plan}
 use Rattle.lks_base.specs.declared.plans.PlanFault.TheVariants.{Bounds, Repeat, BlockCount}
 use Rattle.lks_base.specs.declared.records.Record.{Record}
-use Rattle.lks_base.specs.declared.records.Record.TheVariants.{VoteIn, Replaced, Joined, Committed, Voted, Served, Ended}
+use Rattle.lks_base.specs.declared.records.Record.TheVariants.{Replaced}
 use Rattle.lks_base.proofs.PlanBounds.{one_copy}
 use Rattle.lks_base.proofs.PlanLaws.{no_first, stands, fifth, all_of, lists_stand}
 use Rattle.lks_hash.specs.Hashes.{key_of}
 use Rattle.lks_hash.specs.Running.{hashes_of}
-use Rattle.lks_hash.proofs.RunningLaws.{hashes_length}
 use Rattle.lks_law.specs.Facts.{HasJournal}
 use Rattle.lks_law.specs.Histories.{IsHistory}
-use Rattle.lks_law.specs.Journal.{Opening, deposit_of, contents_at, contents_of, opening_of, vote_in}
-use Rattle.lks_law.specs.Linked.{Each, Has, Any, Fact}
-use Rattle.lks_law.specs.Polls.{Station, limits_of, votes, inner_votes, ballot_of}
-use Rattle.lks_law.specs.Sessions.{Join, Commitment, is_poll, join_in, join_of, commitment_in, commitment_of, hashes_of_vote}
-use Rattle.lks_law.specs.Voting.{named, vote_hashes}
+use Rattle.lks_law.specs.Journal.{Opening, deposit_of, contents_at, contents_of, opening_of}
+use Rattle.lks_law.specs.Linked.{Each, Any, Fact}
+use Rattle.lks_law.specs.Polls.{Station, limits_of, inner_votes, ballot_of}
+use Rattle.lks_law.specs.Voting.{named}
 use Rattle.lks_law.specs.World.{Standing, is_honest, station_of, deposits as deposits_of, peer_at, world}
-use Rattle.lks_law.proofs.Growing.{first_of, each_map, each_front, front_deposit, contents_length, version_length, opening_stays}
-use Rattle.lks_law.proofs.Holding.{snapshot_of}
+use Rattle.lks_law.proofs.Growing.{each_map, front_deposit, contents_length, version_length}
+use Rattle.lks_law.proofs.Holding.{opening_later}
 use Rattle.lks_law.proofs.Journals.{deposits_are, AreDeposits, journals_are_own}
-use Rattle.lks_law.proofs.Keyed.{same_poll}
-use Rattle.lks_law.proofs.Knowing.{none_told, is_had}
-use Rattle.lks_law.proofs.Linking.{AreApart, at_own, place_at}
+use Rattle.lks_law.proofs.Knowing.{is_had}
+use Rattle.lks_law.proofs.Linking.{AreApart, found_at, place_at}
+use Rattle.lks_law.proofs.Lists.{filter_at}
+use Rattle.lks_law.proofs.Matching.{VoteFact, inner_facts, voted_over}
 use Rattle.lks_law.proofs.Starts.{world_holds}
 use Rattle.lks_law.proofs.Worlds.{IsSound, place_of}
 use Rattle.lks_tally.specs.declared.ballots.Ballot.{Ballot}
@@ -53,16 +50,6 @@ use Rattle.lks_evidence.proofs.Evidenced.{held_count}
 use Rattle.lks_evidence.proofs.Told.{opened_once, same_version, joined_once, committed_once}
 
 -- ---- a standing is of a peer of the plan
-
-filter_at : {X : Type 0} (test : X → Bool) (xs : List X) (k : ℕ) (x : X) → slice_get (filter test xs) k ≡ Some x → (i : ℕ) × (slice_get xs i ≡ Some x) × (test x ≡ true)
-filter_at test [] k x e = absurd cc
-filter_at {X = X} test (y ∷ ys) k x e = by_test (test y) refl k e (λ k. filter_at test ys k x)
-  where
-    by_test : (b : Bool) → test y ≡ b → (k : ℕ) → slice_get (cond b (y ∷ filter test ys) (filter test ys)) k ≡ Some x → ((k : ℕ) → slice_get (filter test ys) k ≡ Some x → (i : ℕ) × (slice_get ys i ≡ Some x) × (test x ≡ true))
-        → (i : ℕ) × (slice_get (y ∷ ys) i ≡ Some x) × (test x ≡ true)
-    by_test true is zero f more = let same : y ≡ x = cc in (0, f, ap test (sym same) ∙ is)
-    by_test true is (suc k) f more = let later = more k f in (suc later.0, later.1, later.2)
-    by_test false is k f more = let later = more k f in (suc later.0, later.1, later.2)
 
 list_at : {X : Type 0} (test : X → Bool) (xs : List X) (i : ℕ) (x : X) → list_all test xs ≡ true → slice_get xs i ≡ Some x → test x ≡ true
 list_at test [] i x all at = absurd cc
@@ -172,85 +159,6 @@ honest_in (q ∷ qs) (suc i) p at honest = ap (λ b. (q.id == p.id && not q.corr
     or_last true = refl
     or_last false = refl
 
-peer_place : (v : ℕ) (peers : List Standing) (t : Standing) → peer_at v peers ≡ Some t → (k : ℕ) × (slice_get peers k ≡ Some t)
-unfolding peer_at
-peer_place v [] t e = absurd cc
-peer_place v (p ∷ ps) t e = by_test (eqb p.own.id v) e (peer_place v ps t)
-  where
-    by_test : (b : Bool) → cond b (Some p) (peer_at v ps) ≡ Some t → (peer_at v ps ≡ Some t → (k : ℕ) × (slice_get ps k ≡ Some t)) → (k : ℕ) × (slice_get (p ∷ ps) k ≡ Some t)
-    by_test true f later = (0, f)
-    by_test false f later = let rest = later f in (suc rest.0, rest.1)
-
--- ---- what journals of different peers say of one another
-
-module _ (peers : List Standing) (own : Station) (js : List Record) (all : Each (Fact peers own js) js) where
-  join_match : (q : PollName) (j : Join) → join_of q js ≡ Some j → Any (λ s. Has (λ o. o.au ≡ j.au) (opening_of q.number s.journal)) (peer_at q.poller peers)
-  unfolding join_of
-  join_match q j e = first_of (join_in q) (Fact peers own js) (λ j. Any (λ s. Has (λ o. o.au ≡ j.au) (opening_of q.number s.journal)) (peer_at q.poller peers)) by_record js j e all
-    where
-      by_name : (b : Bool) (p : PollName) (x j : Join) → is_poll p q ≡ b → Any (λ s. Has (λ o. o.au ≡ x.au) (opening_of p.number s.journal)) (peer_at p.poller peers) → cond b (Some x) None ≡ Some j
-          → Any (λ s. Has (λ o. o.au ≡ j.au) (opening_of q.number s.journal)) (peer_at q.poller peers)
-      by_name true p x j same fact e =
-          let is : x ≡ j = cc in
-          subst (λ (y : Join). Any (λ s. Has (λ o. o.au ≡ y.au) (opening_of q.number s.journal)) (peer_at q.poller peers)) is
-          (subst (λ (r : PollName). Any (λ s. Has (λ o. o.au ≡ x.au) (opening_of r.number s.journal)) (peer_at r.poller peers)) (same_poll p q same) fact)
-      by_name false p x j same fact e = absurd cc
-
-      by_record : (r : Record) (j : Join) → join_in q r ≡ Some j → Fact peers own js r → Any (λ s. Has (λ o. o.au ≡ j.au) (opening_of q.number s.journal)) (peer_at q.poller peers)
-      by_record (Joined p au tick low repairs) j e fact = by_name (is_poll p q) p (record { au = au; tick = tick; low = low; repairs = repairs }) j refl fact.1 e
-      by_record (Committed p nonce version kind) j e fact = absurd (none_told (is_poll p q) j e)
-      by_record (Voted p hashes) j e fact = absurd (none_told (is_poll p q) j e)
-      by_record (Served p block) j e fact = absurd (none_told (is_poll p q) j e)
-      by_record (Ended p) j e fact = absurd (none_told (is_poll p q) j e)
-      by_record r j e fact = absurd cc
-
-  commit_match : (q : PollName) (c : Commitment) → commitment_of q js ≡ Some c → Any (λ s. Has (λ o. (o.nonce ≡ c.nonce) × (o.kind ≡ c.kind)) (opening_of q.number s.journal)) (peer_at q.poller peers)
-  unfolding commitment_of
-  commit_match q c e = first_of (commitment_in q) (Fact peers own js) (λ c. Any (λ s. Has (λ o. (o.nonce ≡ c.nonce) × (o.kind ≡ c.kind)) (opening_of q.number s.journal)) (peer_at q.poller peers)) by_record js c e all
-    where
-      by_name : (b : Bool) (p : PollName) (x c : Commitment) → is_poll p q ≡ b → Any (λ s. Has (λ o. (o.nonce ≡ x.nonce) × (o.kind ≡ x.kind)) (opening_of p.number s.journal)) (peer_at p.poller peers) → cond b (Some x) None ≡ Some c
-          → Any (λ s. Has (λ o. (o.nonce ≡ c.nonce) × (o.kind ≡ c.kind)) (opening_of q.number s.journal)) (peer_at q.poller peers)
-      by_name true p x c same fact e =
-          let is : x ≡ c = cc in
-          subst (λ (y : Commitment). Any (λ s. Has (λ o. (o.nonce ≡ y.nonce) × (o.kind ≡ y.kind)) (opening_of q.number s.journal)) (peer_at q.poller peers)) is
-          (subst (λ (r : PollName). Any (λ s. Has (λ o. (o.nonce ≡ x.nonce) × (o.kind ≡ x.kind)) (opening_of r.number s.journal)) (peer_at r.poller peers)) (same_poll p q same) fact)
-      by_name false p x c same fact e = absurd cc
-
-      by_record : (r : Record) (c : Commitment) → commitment_in q r ≡ Some c → Fact peers own js r → Any (λ s. Has (λ o. (o.nonce ≡ c.nonce) × (o.kind ≡ c.kind)) (opening_of q.number s.journal)) (peer_at q.poller peers)
-      by_record (Committed p nonce version kind) c e fact = by_name (is_poll p q) p (record { nonce = nonce; version = version; kind = kind }) c refl fact.1 e
-      by_record (Joined p au tick low repairs) c e fact = absurd (none_told (is_poll p q) c e)
-      by_record (Voted p hashes) c e fact = absurd (none_told (is_poll p q) c e)
-      by_record (Served p block) c e fact = absurd (none_told (is_poll p q) c e)
-      by_record (Ended p) c e fact = absurd (none_told (is_poll p q) c e)
-      by_record r c e fact = absurd cc
-
-  abbrev VoteFact : ℕ → Vote → Type 0
-  VoteFact n v = Any (λ t. hashes_of_vote (named own.id n) t.journal ≡ Some v.hashes) (peer_at v.voter peers) × Has (λ o. length v.hashes ≡ length (contents_of o.au js)) (opening_of n js)
-
-  vote_facts : (n : ℕ) (rs : List Record) → Each (Fact peers own js) rs → Each (VoteFact n) (filter_map (vote_in n) rs)
-  vote_facts n [] each = tt
-  vote_facts n (r ∷ rs) each = by_record r each.0 (vote_facts n rs each.1)
-    where
-      by_record : (r : Record) → Fact peers own js r → Each (VoteFact n) (filter_map (vote_in n) rs) → Each (VoteFact n) (cons_option (vote_in n r) (filter_map (vote_in n) rs))
-      by_record (VoteIn m v hashes) fact rest = by_number (eqb m n) refl
-        where
-          by_number : (b : Bool) → eqb m n ≡ b → Each (VoteFact n) (cons_option (cond b (Some (record { voter = v; hashes = hashes })) None) (filter_map (vote_in n) rs))
-          by_number true same = (subst (λ k. VoteFact k (record { voter = v; hashes = hashes })) (eqb-true m n same) fact, rest)
-          by_number false same = rest
-      by_record r fact rest = rest
-
-  inner_facts : (n : ℕ) (inner : List ℕ) (i : ℕ) → Each (VoteFact n) (inner_votes n inner (take i js))
-  unfolding inner_votes votes
-  inner_facts n inner i = each_filter (votes n (take i js)) (vote_facts n (take i js) (each_front (Fact peers own js) i js all))
-    where
-      each_filter : (vs : List Vote) → Each (VoteFact n) vs → Each (VoteFact n) (filter (λ v. has_member inner v.voter) vs)
-      each_filter [] each = tt
-      each_filter (v ∷ vs) each = by_test (has_member inner v.voter) (each_filter vs each.1)
-        where
-          by_test : (b : Bool) → Each (VoteFact n) (filter (λ v. has_member inner v.voter) vs) → Each (VoteFact n) (cond b (v ∷ filter (λ v. has_member inner v.voter) vs) (filter (λ v. has_member inner v.voter) vs))
-          by_test true rest = (each.0, rest)
-          by_test false rest = rest
-
 each_all : {X : Type 0} (P : X → Type 0) (xs : List X) → Each P xs → (k : ℕ) (d : X) → k < length xs → P (get_or xs k d)
 each_all P [] each k d lt = absurd (omega (arith, lt))
 each_all P (x ∷ xs) each zero d lt = each.0
@@ -266,38 +174,30 @@ module _ (plan : Plan) (good : plan_fault plan ≡ None) (peers : List Standing)
     (at : peer_at s.own.id peers ≡ Some s) (from : peer_at v.voter peers ≡ Some t) (sound : IsSound peers k s) (voter : IsSound peers k t) (is : IsOwned plan t)
     (opened : opening_of n s.journal ≡ Some o) (fact : VoteFact peers s.own s.journal sound.records n v) (counts : count ≡ length (contents_of o.au s.journal)) (within : b < count) where
   borne : bears_out plan.aus (ballot_for s.own.id n o count) t.journal v ≡ true
-  unfolding bears_out is_joined is_committed is_for is_over vote_hashes
+  unfolding bears_out is_joined is_committed is_for is_over
   borne =
       let q = named s.own.id n in
-      let snap = snapshot_of peers k t q v.hashes voter (subst (Any (λ x. hashes_of_vote q x.journal ≡ Some v.hashes)) from fact.0) in
-      let au : o.au ≡ snap.join.au =
-      is_had (λ (x : Opening). x.au ≡ snap.join.au) (opening_of n s.journal) o opened (subst (Any (λ x. Has (λ (y : Opening). y.au ≡ snap.join.au) (opening_of n x.journal))) at (join_match peers t.own t.journal voter.records q snap.join snap.joined)) in
-      let same : (o.nonce ≡ snap.commitment.nonce) × (o.kind ≡ snap.commitment.kind) =
-      is_had (λ (x : Opening). (x.nonce ≡ snap.commitment.nonce) × (x.kind ≡ snap.commitment.kind)) (opening_of n s.journal) o opened
-      (subst (Any (λ x. Has (λ (y : Opening). (y.nonce ≡ snap.commitment.nonce) × (y.kind ≡ snap.commitment.kind)) (opening_of n x.journal))) at (commit_match peers t.own t.journal voter.records q snap.commitment snap.committed)) in
-      let blocks = contents_at snap.join.au snap.commitment.version t.journal in
-      let key = key_of (is_second snap.commitment.kind) s.own.id n snap.commitment.nonce t.own.id snap.join.au (length blocks) in
-      let hashed : length v.hashes ≡ length (contents_of o.au s.journal) = is_had (λ (x : Opening). length v.hashes ≡ length (contents_of x.au s.journal)) (opening_of n s.journal) o opened fact.1 in
-      let whole : length blocks ≡ count = sym (hashes_length (is_second snap.commitment.kind) key blocks) ∙ sym (ap length snap.over) ∙ hashed ∙ sym counts in
-      let own : t.own.id ≡ v.voter = at_own v.voter peers t from in
+      let w = voted_over peers k s t n o v at from sound voter opened fact in
+      let snap = w.snap in
       let version = version_length snap.join.au snap.commitment.version t.journal in
-      let held = some_blocks (deposit_of snap.join.au t.journal) b (omega (arith, version, whole, within)) in
-      let deposit : is_deposited plan.aus o.au t.journal ≡ true = subst (λ a. is_deposited plan.aus a t.journal ≡ true) (sym au) (once_in plan good t is t.journal is.behind_it snap.join.au held.0 held.1).1 in
+      let whole = w.whole in
+      let held = some_blocks (deposit_of snap.join.au t.journal) b (omega (arith, version, whole, counts, within)) in
+      let deposit : is_deposited plan.aus o.au t.journal ≡ true = subst (λ a. is_deposited plan.aus a t.journal ≡ true) (sym w.au) (once_in plan good t is t.journal is.behind_it snap.join.au held.0 held.1).1 in
       let joined = joined_once q t.journal snap.join snap.joined_once snap.joined in
       let committed = committed_once q t.journal snap.commitment snap.committed_once snap.committed in
       let newest : snap.commitment.version ≤ mine.version_now o.au t.journal =
-      subst (λ a. snap.commitment.version ≤ mine.version_now a t.journal) (sym au) (let there = snap.there in let told = same_version snap.join.au t.journal in omega (arith, there, told)) in
+      subst (λ a. snap.commitment.version ≤ mine.version_now a t.journal) (sym w.au) (let there = snap.there in let told = same_version snap.join.au t.journal in omega (arith, there, told)) in
       let over : v.hashes ≡ hashes_of (is_second o.kind) (key_for (ballot_for s.own.id n o count) v.voter) (contents_at o.au snap.commitment.version t.journal) =
-      snap.over ∙ (λ i. hashes_of (is_second (sym same.1 i)) (key_of (is_second (sym same.1 i)) s.own.id n (sym same.0 i) (own i) (sym au i) (whole i)) (contents_at (sym au i) snap.commitment.version t.journal)) in
+      w.over ∙ (λ i. hashes_of (is_second o.kind) (key_of (is_second o.kind) s.own.id n o.nonce v.voter o.au (sym counts i)) (contents_at (sym w.au i) snap.commitment.version t.journal)) in
       rw (
         deposit,
         joined.0,
         joined.1,
-        eq-eqb snap.join.au o.au (sym au),
+        eq-eqb snap.join.au o.au (sym w.au),
         committed.0,
         committed.1,
-        (bytes_decides snap.commitment.nonce o.nonce).1 (sym same.0),
-        kind_same snap.commitment.kind o.kind (sym same.1),
+        (bytes_decides snap.commitment.nonce o.nonce).1 (sym w.nonce),
+        kind_same snap.commitment.kind o.kind (sym w.kind),
         le-leb snap.commitment.version (mine.version_now o.au t.journal) newest,
         (pointwise_decides {E = pointwise eqb} bytes_decides v.hashes (hashes_of (is_second o.kind) (key_for (ballot_for s.own.id n o count) v.voter) (contents_at o.au snap.commitment.version t.journal))).1 over,
       ) refl
@@ -331,7 +231,7 @@ module _ (plan : Plan) (history : List Event) (good : plan_fault plan ≡ None) 
       let fewer : length (contents_of au before) ≡ length held.0 = contents_length au before ∙ ap (λ x. length (unwrap_or x [])) front in
       let same : ballot_of t.own n o (length (contents_of au before)) ≡ ballot_behind plan t.own.id r o = λ j. ballot_for t.own.id n o (sym counts j) in
       let rules : t.own.rules ≡ plan.rules = ap (λ (x : Station). x.rules) of_plan.own in
-      let opened : opening_of n t.journal ≡ Some o = ap (opening_of n) (sym (take-append-drop i t.journal)) ∙ opening_stays n before (drop i t.journal) o evidence.opened in
+      let opened = opening_later n t.journal i o evidence.opened in
       let all_of_it : unwrap_or (count_in plan.aus au) 0 ≡ length (contents_of o.au t.journal) = counts ∙ fewer ∙ sym many ∙ ap (λ a. length (contents_of a t.journal)) (sym evidence.of_au) in
       let old = evidence.few_for_old in
       let new = evidence.few_against_new in
@@ -367,7 +267,7 @@ module _ (plan : Plan) (history : List Event) (good : plan_fault plan ≡ None) 
       founded_by v q None e borne_by = refl
       founded_by v q (Some s) e borne_by =
           let known = shelf_known (world plan history).peers set v.voter s are e in
-          let place = peer_place v.voter (world plan history).peers known.0 known.1 in
+          let place = found_at v.voter (world plan history).peers known.0 known.1 in
           ap (λ js. bears_out plan.aus q js v) known.2
           ∙ borne_by known.0 known.1 ((world_holds plan history good is).linked.each v.voter known.0 known.1) (owned plan history place.0 known.0 place.1)
 

@@ -10,8 +10,9 @@ use Rattle.lks_base.specs.declared.records.Record.{Record}
 use Rattle.lks_base.specs.declared.records.Record.TheVariants.{Joined, Committed, Voted, Served, Ended}
 use Rattle.lks_law.specs.Journal.{Opening, opening_in, opening_of, replacement_in}
 use Rattle.lks_law.specs.Sessions as law
+use Rattle.lks_law.specs.Sessions.{Commitment, is_poll, first_in}
 use Rattle.lks_law.proofs.Growing.{opening_first}
-use Rattle.lks_evidence.specs.Records.{Commitment, is_poll, join_in, commitment_in, openings, version_now, first_in, joins, join_of, commitments, commitment_of}
+use Rattle.lks_evidence.specs.Records.{join_in, commitment_in, openings, version_now, joins, join_of, commitments, commitment_of}
 
 count_is : {X : Type 0} (has : Record → Option X) (js : List Record) → count_by (λ r. is_some (has r)) js ≡ length (filter_map has js)
 count_is has [] = refl
@@ -27,11 +28,11 @@ front_few has js i =
     let all = ap length (filter_map-append has (take i js) (drop i js)) ∙ length-append (filter_map has (take i js)) (filter_map has (drop i js)) in
     omega (arith, whole, all)
 
-found_some : {X : Type 0} (has : Record → Option X) (js : List Record) (x : X) → law.first_in has js ≡ Some x → 1 ≤ length (filter_map has js)
+found_some : {X : Type 0} (has : Record → Option X) (js : List Record) (x : X) → first_in has js ≡ Some x → 1 ≤ length (filter_map has js)
 found_some has [] x e = absurd cc
 found_some {X = X} has (j ∷ js) x e = by_option (has j) e (found_some has js x)
   where
-    by_option : (o : Option X) → cond (is_some o) o (law.first_in has js) ≡ Some x → (law.first_in has js ≡ Some x → 1 ≤ length (filter_map has js)) → 1 ≤ length (cons_option o (filter_map has js))
+    by_option : (o : Option X) → cond (is_some o) o (first_in has js) ≡ Some x → (first_in has js ≡ Some x → 1 ≤ length (filter_map has js)) → 1 ≤ length (cons_option o (filter_map has js))
     by_option None f rest = rest f
     by_option (Some y) f rest = omega arith
 
@@ -55,12 +56,12 @@ module _ {X Y : Type 0} (f : X → Y) (has : Record → Option X) (has' : Record
   some_same None = refl
   some_same (Some x) = refl
 
-  first_same : (js : List Record) → first_in has' js ≡ option_map f (law.first_in has js)
+  first_same : (js : List Record) → first_in has' js ≡ option_map f (first_in has js)
   first_same [] = refl
   first_same (j ∷ js) = ap (λ o. cond (is_some o) o (first_in has' js)) (same j) ∙ by_option (has j) (first_same js)
     where
-      by_option : (o : Option X) → first_in has' js ≡ option_map f (law.first_in has js)
-          → cond (is_some (option_map f o)) (option_map f o) (first_in has' js) ≡ option_map f (cond (is_some o) o (law.first_in has js))
+      by_option : (o : Option X) → first_in has' js ≡ option_map f (first_in has js)
+          → cond (is_some (option_map f o)) (option_map f o) (first_in has' js) ≡ option_map f (cond (is_some o) o (first_in has js))
       by_option None rest = rest
       by_option (Some x) rest = refl
 
@@ -73,8 +74,8 @@ module _ {X Y : Type 0} (f : X → Y) (has : Record → Option X) (has' : Record
 abbrev au_of : law.Join → ℕ
 au_of j = j.au
 
-abbrev told : law.Commitment → Commitment
-told c = record { nonce = c.nonce; version = c.version; kind = c.kind }
+abbrev told : Commitment → Commitment
+told c = c
 
 if_told : {X Y : Type 0} (f : X → Y) (b : Bool) (x : X) → cond b (Some (f x)) None ≡ option_map f (cond b (Some x) None)
 if_told f true x = refl
@@ -110,8 +111,8 @@ joined_once q js j single e =
     let count = count_same au_of (law.join_in q) (join_in q) (join_same q) js ∙ count_is (law.join_in q) js in
     (omega (arith, some, count, single), first_same au_of (law.join_in q) (join_in q) (join_same q) js ∙ ap (option_map au_of) e)
 
-pub committed_once : (q : PollName) (js : List Record) (c : law.Commitment) → length (filter_map (law.commitment_in q) js) ≤ 1 → law.commitment_of q js ≡ Some c
-    → (commitments q js ≡ 1) × (commitment_of q js ≡ Some (told c))
+pub committed_once : (q : PollName) (js : List Record) (c : Commitment) → length (filter_map (law.commitment_in q) js) ≤ 1 → law.commitment_of q js ≡ Some c
+    → (commitments q js ≡ 1) × (commitment_of q js ≡ Some c)
 unfolding commitments commitment_of law.commitment_of
 committed_once q js c single e =
     let some = found_some (law.commitment_in q) js c e in

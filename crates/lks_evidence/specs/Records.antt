@@ -1,10 +1,10 @@
 -- What a journal says that evidence rests on, beside its contents and the votes in it: replaced blocks, and the peer's part in polls of others.
-use Rattle.std.specs.Prelude.{ℕ, Bool, ◌==◌, ◌&&◌, if◌then◌else◌, Option, Some, None, is_some, List, [], ◌∷◌, count_by}
-use Rattle.lks_base.specs.declared.names.HashKind.{HashKind}
+use Rattle.std.specs.Prelude.{ℕ, if◌then◌else◌, Option, Some, None, is_some, List, count_by}
 use Rattle.lks_base.specs.declared.names.PollName.{PollName}
 use Rattle.lks_base.specs.declared.records.Record.{Record}
 use Rattle.lks_base.specs.declared.records.Record.TheVariants.{Deposit, PollOpened, Nominated, OuterOpened, VoteIn, Shut, Asked, RepairBad, Replaced, Closed, Overdue, Joined, Committed, Voted, Served, Ended, Tuned}
 use Rattle.lks_law.specs.Journal.{deposit_in, opening_in, replacement_in}
+use Rattle.lks_law.specs.Sessions.{Commitment, is_poll, first_in}
 
 -- a block that a poll replaced, and its new bytes
 pub record Repair : Type 0 where
@@ -12,15 +12,6 @@ pub record Repair : Type 0 where
   pub au : ℕ
   pub block : ℕ
   pub bytes : List ℕ
-
--- that a voter will vote over this version of its copy, with the poll's nonce and kind of hash as they were told to it
-pub record Commitment : Type 0 where
-  pub nonce : List ℕ
-  pub version : ℕ
-  pub kind : HashKind
-
-abbrev pub is_poll : PollName → PollName → Bool
-is_poll p q = p.poller == q.poller && p.number == q.number
 
 -- Matches on one record.
 
@@ -95,11 +86,6 @@ openings n journal = count_by (λ r. is_some (opening_in n r)) journal
 -- how often a block of the AU was replaced, which is the number of its newest version
 unfoldable pub version_now : ℕ → List Record → ℕ
 version_now au journal = count_by (λ r. is_some (replacement_in au r)) journal
-
--- what the first record that has any has
-abbrev pub first_in : {X : Type 0} → (Record → Option X) → List Record → Option X
-first_in has [] = None
-first_in has (r ∷ rs) = if is_some (has r) then has r else first_in has rs
 
 -- how often the peer joined the poll of another one, and on which AU it did so first
 unfoldable pub joins : PollName → List Record → ℕ

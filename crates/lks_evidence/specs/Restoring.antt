@@ -1,21 +1,20 @@
 -- What a repair restores, where the journals of its poll's voters are known.
-use Rattle.std.specs.Prelude.{◌≡◌, ◌≢◌, ◌<◌, ◌+◌, ◌==◌, ℕ, Bool, true, false, ◌⊎◌, Option, Some, None, option_map, List, ◌++◌, length, take, filter, slice_get, slice_set}
+use Rattle.std.specs.Prelude.{◌≡◌, ◌<◌, ◌+◌, ◌==◌, ℕ, Bool, true, false, ◌⊎◌, Option, Some, None, option_map, List, length, take, filter, slice_get, slice_set}
 use Rattle.std.specs.List.{list_any}
-use Rattle.std.specs.Cmp.Lexicographic.{pointwise}
 use Rattle.lks_base.specs.Kinds.{is_second}
 use Rattle.lks_base.specs.declared.names.PollName.{PollName}
 use Rattle.lks_base.specs.declared.plans.Plan.{Plan}
 use Rattle.lks_base.specs.declared.records.Record.{Record}
 use Rattle.lks_base.specs.declared.records.Record.TheVariants.{Replaced}
-use Rattle.lks_hash.specs.Hashes.{hash_of}
-use Rattle.lks_hash.specs.Running.{running}
 use Rattle.lks_law.specs.Journal.{Opening, contents_at, contents_of, opening_of}
 use Rattle.lks_law.specs.Polls.{limits_of, inner_votes}
+use Rattle.lks_law.specs.Sessions.{Commitment}
+use Rattle.lks_law.specs.Snapshots.{is_front, Collision}
 use Rattle.lks_tally.specs.declared.ballots.Ballot.{Ballot}
 use Rattle.lks_tally.specs.declared.ballots.Vote.{Vote}
 use Rattle.lks_tally.specs.Counting.{key_for}
 use Rattle.lks_evidence.specs.declared.findings.Shelf.{Shelf}
-use Rattle.lks_evidence.specs.Records.{Commitment, join_of, commitment_of}
+use Rattle.lks_evidence.specs.Records.{join_of, commitment_of}
 use Rattle.lks_evidence.specs.Rules.{ballot_for, shelf_of}
 
 -- the journals that are known, by peer
@@ -36,10 +35,6 @@ unfoldable pub named_version : PollName → List Record → Option (List (List �
 named_version q journal = version_by journal (join_of q journal) (commitment_of q journal)
 
 -- whether they are these blocks up to block b
-abbrev pub is_front : List (List ℕ) → ℕ → Option (List (List ℕ)) → Bool
-is_front blocks b None = false
-is_front blocks b (Some version) = pointwise (pointwise ◌==◌) (take (b + 1) version) (take (b + 1) blocks)
-
 abbrev pub held_if : PollName → List (List ℕ) → ℕ → Option (List Record) → Bool
 held_if q blocks b None = false
 held_if q blocks b (Some journal) = is_front blocks b (named_version q journal)
@@ -47,22 +42,6 @@ held_if q blocks b (Some journal) = is_front blocks b (named_version q journal)
 -- the votes of those who are known to have committed to these blocks up to block b
 unfoldable pub holders : Journals → PollName → List (List ℕ) → ℕ → List Vote → List Vote
 holders journals q blocks b votes = filter (λ v. held_if q blocks b (journals v.voter)) votes
-
--- the text is what a link of the running hash over these blocks hashes
-pub record IsInput (second : Bool) (key : List ℕ) (blocks : List (List ℕ)) (text : List ℕ) : Type 0 where
-  pub place : ℕ
-  pub block : List ℕ
-  pub there : slice_get blocks place ≡ Some block
-  pub is : text ≡ running second key (take place blocks) ++ block
-
--- two texts with one hash, one of each running hash
-pub record Collision (second : Bool) (key : List ℕ) (one other : List (List ℕ)) : Type 0 where
-  pub text : List ℕ
-  pub twin : List ℕ
-  pub of_one : IsInput second key one text
-  pub of_other : IsInput second key other twin
-  pub differ : text ≢ twin
-  pub same : hash_of second text ≡ hash_of second twin
 
 -- a collision under the key of a voter of the poll, between the blocks up to b and those to which the voter committed
 pub record Collides (journals : Journals) (q : Ballot) (blocks : List (List ℕ)) (b : ℕ) (votes : List Vote) : Type 0 where

@@ -13,6 +13,7 @@ use Rattle.lks_base.specs.declared.records.Record.{Record}
 use Rattle.lks_hash.specs.Running.{hashes_of}
 use Rattle.lks_law.specs.Journal.{Opening, deposit_of, contents_at, contents_of, opening_of, is_shut}
 use Rattle.lks_law.specs.Polls.{limits_of, inner_votes}
+use Rattle.lks_law.specs.Sessions.{Commitment}
 use Rattle.lks_tally.specs.declared.ballots.Ballot.{Ballot}
 use Rattle.lks_tally.specs.declared.ballots.Vote.{Vote}
 use Rattle.lks_tally.specs.Counting.{key_for, for_at, against_at}
@@ -20,7 +21,7 @@ use Rattle.lks_tally.specs.Keeping.{has_voted}
 use Rattle.lks_evidence.specs.declared.findings.Shelf.{Shelf}
 use Rattle.lks_evidence.specs.declared.findings.Why.{Why}
 use Rattle.lks_evidence.specs.declared.findings.Why.TheVariants as why
-use Rattle.lks_evidence.specs.Records.{Repair, Commitment, deposits, openings, version_now, joins, join_of, commitments, commitment_of}
+use Rattle.lks_evidence.specs.Records.{Repair, deposits, openings, version_now, joins, join_of, commitments, commitment_of}
 
 infixr 20 ◌▹◌
 -- the first of two

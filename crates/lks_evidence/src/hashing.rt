@@ -8,25 +8,11 @@ ghost use Rattle.lks_tally.specs.Counting.{key_for, hash_at, agrees, for_at};
 ghost use Rattle.lks_evidence.specs.Rules.{is_over};
 
 use lks_base::{Bytes, OutOfMemory, PeerId};
-use lks_hash::{Chain, Steps, key};
-use lks_tally::{Ballot, Vote};
+use lks_hash::{Chain, Steps};
+use lks_tally::{Ballot, Vote, voter_key};
 use std::alloc::Global;
 use std::marker::Brand;
 use std::sync::ledger::{Blank, Ledger};
-
-fn key_of(ballot: &Ballot, voter: PeerId) -> [u8; 32]
-    ensures { result ≡ key_for ballot.now voter }
-{
-    key(
-        ballot.kind.second(),
-        ballot.poll.poller,
-        ballot.poll.number,
-        &ballot.nonce,
-        voter,
-        ballot.au,
-        ballot.count,
-    )
-}
 
 fn link_all<L: Ledger>(second: bool, key: [u8; 32], blocks: &[Bytes], blank: Blank) -> [u8; 32]
     requires { Opens blank L.name L.parts }
@@ -46,7 +32,7 @@ fn hash_over(ballot: &Ballot, voter: PeerId, blocks: &[Bytes]) -> [u8; 32]
 {
     link_all::<Brand>(
         ballot.kind.second(),
-        key_of(ballot, voter),
+        voter_key(ballot, voter),
         blocks,
         Blank::new(1),
     )
@@ -113,7 +99,7 @@ fn vote_over(
     hash_each::<Brand>(
         alloc,
         ballot.kind.second(),
-        key_of(ballot, voter),
+        voter_key(ballot, voter),
         blocks,
         Blank::new(1),
     )

@@ -3,7 +3,8 @@
 ghost use Rattle.std.specs.Prelude.{◌≡◌, ◌≤◌, IfOk, length, option_map};
 ghost use Rattle.lks_law.specs.Journal.{deposit_in, deposit_of, opening_in, opening_of, is_shut, vote_in};
 ghost use Rattle.lks_law.specs.Polls.{votes, inner_votes};
-ghost use Rattle.lks_evidence.specs.Records.{repair_in, join_in, commitment_in, is_poll, deposits, openings, version_now, joins, join_of, commitments, commitment_of, repairs};
+ghost use Rattle.lks_law.specs.Sessions.{is_poll};
+ghost use Rattle.lks_evidence.specs.Records.{repair_in, join_in, commitment_in, deposits, openings, version_now, joins, join_of, commitments, commitment_of, repairs};
 
 use lks_base::{AuId, Bytes, HashKind, Limits, OutOfMemory, PollName, Record, has_member};
 use lks_tally::Vote;
@@ -54,7 +55,7 @@ pub struct Commitment<'a> {
 }
 
 impl<'a> Model for Commitment<'a> {
-    ghost use Rattle.lks_evidence.specs.Records.{Commitment as Kept};
+    ghost use Rattle.lks_law.specs.Sessions.{Commitment as Kept};
 
     ghost Value = { Kept };
 

@@ -4,5 +4,6 @@ pub mod Numbers
 pub mod Counted
 pub mod Headings
 pub mod Frames
+pub mod KindFields
 pub mod Once
 pub mod Whole

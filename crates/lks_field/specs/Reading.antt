@@ -19,6 +19,11 @@ given_at given bytes = do
   byte ← byte_at bytes
   if byte.0 == given then Ok (tt, byte.1) else Err Value
 
+-- the byte of the second kind of hash; the first has none
+unfoldable pub kind_at : Bool → List ℕ → Result (Unit {0} × List ℕ) FieldFault
+kind_at false bytes = Ok (tt, bytes)
+kind_at true bytes = given_at 2 bytes
+
 abbrev pub bytes_at : ℕ → List ℕ → Result (List ℕ × List ℕ) FieldFault
 bytes_at n bytes = if nat_lt (length bytes) n then Err Short else Ok (take n bytes, drop n bytes)
 

@@ -1,5 +1,5 @@
 -- How the fields that several crates have are spelled.
-use Rattle.std.specs.Prelude.{ℕ, Bool, true, false, List, ◌∷◌, ◌++◌, length}
+use Rattle.std.specs.Prelude.{ℕ, Bool, true, false, List, [], ◌∷◌, ◌++◌, length}
 use Rattle.std.specs.List.{flat_map}
 use Rattle.std.specs.Int.{w16, to_be_bytes}
 
@@ -7,6 +7,11 @@ use Rattle.std.specs.Int.{w16, to_be_bytes}
 abbrev pub flag : Bool → ℕ
 flag false = 0
 flag true = 1
+
+-- the second kind of hash has a byte, the first none
+abbrev pub kind_bytes : Bool → List ℕ
+kind_bytes false = []
+kind_bytes true = 2 ∷ []
 
 -- numbers behind their count, a byte
 abbrev pub number_bytes : List ℕ → List ℕ

@@ -10,4 +10,6 @@ mod writing;
 pub use fault::FieldFault;
 pub use memory::OutOfMemory;
 pub use reading::Fields;
-pub use writing::{put_be16, put_be32, put_bytes, put_hashes, put_numbers, put_sized, put_u8};
+pub use writing::{
+    put_be16, put_be32, put_bytes, put_hashes, put_kind, put_numbers, put_sized, put_u8,
+};

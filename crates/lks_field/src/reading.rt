@@ -2,7 +2,7 @@
 
 ghost use Rattle.std.specs.Prelude.{◌≡◌, ℕ, List, drop, OnErr, IsErrOf};
 ghost use Rattle.std.specs.Int.{w16, w32};
-ghost use Rattle.lks_field.specs.Reading.{Reads, ReadsBy, byte_at, given_at, bytes_at, hash_at, number_at, upto_at, end_of};
+ghost use Rattle.lks_field.specs.Reading.{Reads, ReadsBy, byte_at, given_at, kind_at, bytes_at, hash_at, number_at, upto_at, end_of};
 
 use crate::fault::FieldFault;
 use std::marker::Model;
@@ -62,6 +62,16 @@ impl<'a> Fields<'a> {
             return Err(FieldFault::Value);
         }
         Ok(())
+    }
+
+    /// The byte of the second kind of hash; the first has none. Another byte is taken all the same.
+    #[tactic(auto, unfolding(crate::specs::Reading::kind_at))]
+    pub fn get_kind(&mut self, second: bool) -> Result<(), FieldFault>
+        ensures read { Reads result self.new (kind_at second self.old) }
+        ensures short { IsErrOf result FieldFault.Short → self.new ≡ self.old }
+        ensures value { IsErrOf result FieldFault.Value → self.new ≡ drop 1 self.old }
+    {
+        if second { self.get_given(2) } else { Ok(()) }
     }
 
     /// A number of two bytes, the higher one first.

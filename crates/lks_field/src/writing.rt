@@ -2,7 +2,7 @@
 
 ghost use Rattle.std.specs.Prelude.{◌≡◌, ◌<◌, ◌^◌, ◌++◌, ◌∷◌, [], length, is_ok, OnOk, if◌then◌else◌};
 ghost use Rattle.std.specs.Int.{w16, w32, to_be_bytes};
-ghost use Rattle.lks_field.specs.Spelling.{number_bytes, hash_bytes, sized_bytes};
+ghost use Rattle.lks_field.specs.Spelling.{number_bytes, hash_bytes, kind_bytes, sized_bytes};
 
 use crate::memory::OutOfMemory;
 
@@ -36,6 +36,13 @@ pub fn put_bytes(out: &mut Vec<u8>, v: &[u8]) -> Result<(), OutOfMemory>
 {
     out.extend_from_slice(v)?;
     Ok(())
+}
+
+/// Appends a byte for the second kind of hash, nothing for the first.
+pub fn put_kind(out: &mut Vec<u8>, second: bool) -> Result<(), OutOfMemory>
+    ensures { out.new.items ≡ (if is_ok result then out.old.items ++ kind_bytes second else out.old.items) }
+{
+    if second { put_u8(out, 2) } else { Ok(()) }
 }
 
 /// Appends bytes behind their length, a number of two bytes. Without memory some of it may stand behind `out`, here and

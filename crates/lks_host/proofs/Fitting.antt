@@ -4,7 +4,7 @@ use Rattle.std.specs.Prelude.{Option, Some, None, is_some, ◌&&◌, ◌*◌, no
 use Rattle.std.specs.List.{filter_map, cons_option}
 use Rattle.std.specs.Option.{option_to_list}
 use Rattle.std.proofs.lemmas.Bool.{and_parts, leb-true}
-use Rattle.std.proofs.lemmas.List.Elements.{All-nil, All-cons, All-head, All-tail}
+use Rattle.std.proofs.lemmas.List.Elements.{All-nil, All-cons}
 use Rattle.std.proofs.lemmas.List.Sums.{sum_by-cons}
 use Rattle.lks_audit.proofs.Holdings.{few_on}
 use Rattle.lks_base.specs.Checking.{has_member}
@@ -32,6 +32,7 @@ use Rattle.lks_hash.proofs.RunningLaws.{hashes_length}
 use Rattle.lks_hash.specs.Hashes.{key_of}
 use Rattle.lks_law.specs.Answering.{is_open, may_join_in, joined_now, invitation_in, proof_at, proof_in, version_at, hashes_for, work_at, work_in, request_at, request_in, end_in}
 use Rattle.lks_law.specs.Facts.{IsHeard}
+use Rattle.lks_law.proofs.Lists.{any_where}
 use Rattle.lks_law.specs.Fitting.{Where, IsPinnedWell}
 use Rattle.lks_law.specs.Journal.{Request}
 use Rattle.lks_law.specs.Polls.{Station, limits_of, ballot_of}
@@ -256,16 +257,8 @@ module _ (own : Station) (s : State) (fit : IsFit own s) where
 
   work_fits : (q : PollName) → FitsBatch (work_in own s.voter q).records
   unfolding work_in hashes_for vote_hashes
-  work_fits q = by_state (pinned_at q s.voter.pinned) (found_well q s.voter.pinned fit.sound.pinned)
+  work_fits q = by_state (pinned_at q s.voter.pinned) (any_where IsPinnedWell (is_pinned_of q) s.voter.pinned fit.sound.pinned)
     where
-      found_well : (q : PollName) (ps : List Pinned) → All IsPinnedWell ps → Where (pinned_at q ps) IsPinnedWell
-      found_well q [] all = tt
-      found_well q (p ∷ ps) all = here (is_pinned_of q p) (found_well q ps (All-tail IsPinnedWell p ps all))
-        where
-          here : (b : Bool) → Where (pinned_at q ps) IsPinnedWell → Where (cond b (Some p) (pinned_at q ps)) IsPinnedWell
-          here true rest = All-head IsPinnedWell p ps all
-          here false rest = rest
-
       by_state : (p : Option Pinned) → Where p IsPinnedWell → FitsBatch (work_at own q p).records
       by_state None well = fits_nothing
       by_state (Some p) well =

@@ -1,6 +1,6 @@
 -- What the rules add fits the state, and its requests stay within their AUs.
 use Rattle.std.proofs.Common.{◌≡◌, ◌+◌, ◌<◌, ◌≤◌, ◌∙◌, ap, sym, subst, ℕ, Bool, true, false, cond, eqb, ltb, leb, not, List, [], ◌∷◌, ◌++◌, length, refl, arith}
-use Rattle.std.specs.Prelude.{Option, Some, None, is_some, ◌&&◌, All, map, find, slice_get}
+use Rattle.std.specs.Prelude.{Option, Some, None, is_some, ◌&&◌, All, map, slice_get}
 use Rattle.std.specs.List.{list_all, filter_map, cons_option}
 use Rattle.std.proofs.lemmas.Bool.{and_parts, eqb-true, ltb-true, leb-true, not-true}
 use Rattle.std.proofs.lemmas.List.{append-nil, length-set}
@@ -25,10 +25,10 @@ use Rattle.lks_base.specs.declared.records.Record.TheVariants as records
 use Rattle.lks_draw.proofs.Picking.{pick_law}
 use Rattle.lks_draw.proofs.Places.{word_fits}
 use Rattle.lks_draw.specs.Words.{drawn_from, words_of}
-use Rattle.lks_law.specs.Fitting.{Where, FitsOutcome, Fits, AreFitting, AsksWithin, IsCounted, AreSmall, AreLegal, IsOnHeld, IsPinnedWell, IsCastWell, marks_left, IsSound, most_numbered, has_room}
+use Rattle.lks_law.specs.Fitting.{Where, FitsOutcome, Fits, AreFitting, AsksWithin, IsCounted, AreSmall, AreWell, AreLegal, IsOnHeld, IsPinnedWell, IsCastWell, marks_left, IsSound, most_numbered, has_room}
+use Rattle.lks_law.proofs.Lists.{without_any, changed_any, any_where}
 use Rattle.lks_law.specs.Answering.{is_open, open_sessions, was_ended, may_join_in, is_admitted_in, joined_now, invitation_in, proof_at, proof_in, version_at, hashes_for, work_at, work_in, request_at, request_in, end_in}
 use Rattle.lks_law.specs.Facts.{IsHeard}
-use Rattle.lks_law.specs.Firsts.{changed_first, without_first}
 use Rattle.lks_law.specs.Journal.{Request, numbers_after}
 use Rattle.lks_law.specs.Polls.{Station, limits_of, ballot_of}
 use Rattle.lks_law.specs.Reacting.{for_poll, if_may, may_open_copy, may_open_in, inner_of, opened_as, open_in, widen_in, silent_in, nudge_in, give_up_in, receipts_of, shut_once, shut_in, closed_as, asked_for, verdict_of, supplier, tallied_as, tally_in, must_note_copy, overdue_of, check_in, is_invited_to, challenge_in, has_nominated_in, nominate_in, vote_in_poll, said_of, repair_in}
@@ -76,32 +76,6 @@ without_each P n (p ∷ ps) all = here (eqb p.number n) (without_each P n ps (Al
 
 abbrev HasSmall : Copy → Type 0
 HasSmall c = AreSmall c.blocks
-
--- Lists of which what is true of each stays so.
-
-without_any : {X : Type 0} (P : X → Type 0) (test : X → Bool) (xs : List X) → All P xs → All P (without_first test xs)
-without_any P test [] all = all
-without_any P test (x ∷ xs) all = here (test x) (without_any P test xs (All-tail P x xs all))
-  where
-    here : (b : Bool) → All P (without_first test xs) → All P (cond b xs (x ∷ without_first test xs))
-    here true rest = All-tail P x xs all
-    here false rest = All-cons P x (without_first test xs) (All-head P x xs all) rest
-
-changed_any : {X : Type 0} (P : X → Type 0) (test : X → Bool) (f : X → X) (xs : List X) → ((x : X) → P x → P (f x)) → All P xs → All P (changed_first test f xs)
-changed_any P test f [] keeps all = all
-changed_any P test f (x ∷ xs) keeps all = here (test x) (changed_any P test f xs keeps (All-tail P x xs all))
-  where
-    here : (b : Bool) → All P (changed_first test f xs) → All P (cond b (f x ∷ xs) (x ∷ changed_first test f xs))
-    here true rest = All-cons P (f x) xs (keeps x (All-head P x xs all)) (All-tail P x xs all)
-    here false rest = All-cons P x (changed_first test f xs) (All-head P x xs all) rest
-
-any_where : {X : Type 0} (P : X → Type 0) (test : X → Bool) (xs : List X) → All P xs → Where (find test xs) P
-any_where P test [] all = tt
-any_where P test (x ∷ xs) all = here (test x) (any_where P test xs (All-tail P x xs all))
-  where
-    here : (b : Bool) → Where (find test xs) P → Where (cond b (Some x) (find test xs)) P
-    here true rest = All-head P x xs all
-    here false rest = rest
 
 abbrev HasBlocks : Copy → Type 0
 HasBlocks c = IsCounted c.blocks
@@ -238,12 +212,12 @@ module _ (own : Station) (s : State) where
 
   -- Sessions.
 
-  copy_well : (cs : List Copy) → All HasBlocks cs → All HasSmall cs → (au : ℕ) → is_some (copy_at au cs) ≡ true → IsCounted (blocks_at au cs) × AreSmall (blocks_at au cs)
+  copy_well : (cs : List Copy) → All HasBlocks cs → All HasSmall cs → (au : ℕ) → is_some (copy_at au cs) ≡ true → AreWell (blocks_at au cs)
   copy_well [] counted small au e = absurd cc
   copy_well (c ∷ cs) counted small au e = here (eqb c.au au) e (λ e. copy_well cs (All-tail HasBlocks c cs counted) (All-tail HasSmall c cs small) au e)
     where
-      here : (b : Bool) → is_some (cond b (Some c) (copy_at au cs)) ≡ true → (is_some (copy_at au cs) ≡ true → IsCounted (blocks_at au cs) × AreSmall (blocks_at au cs))
-          → IsCounted (blocks_in (cond b (Some c) (copy_at au cs))) × AreSmall (blocks_in (cond b (Some c) (copy_at au cs)))
+      here : (b : Bool) → is_some (cond b (Some c) (copy_at au cs)) ≡ true → (is_some (copy_at au cs) ≡ true → AreWell (blocks_at au cs))
+          → AreWell (blocks_in (cond b (Some c) (copy_at au cs)))
       here true e rest = (All-head HasBlocks c cs counted, All-head HasSmall c cs small)
       here false e rest = rest e
 

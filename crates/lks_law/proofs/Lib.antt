@@ -1,5 +1,6 @@
 pub mod Batches
 pub mod Breaking
+pub mod Colliding
 pub mod Counts
 pub mod Doing
 pub mod Fitting
@@ -19,9 +20,12 @@ pub mod Phases
 pub mod PollStates
 pub mod Knowing
 pub mod Linking
+pub mod Lists
+pub mod Matching
 pub mod Letters
 pub mod Ranges
 pub mod Repairs
+pub mod Restoring
 pub mod Rows
 pub mod RunningPolls
 pub mod Samples

@@ -3,7 +3,7 @@ use Rattle.std.proofs.Common.{◌≡◌, ◌≤◌, ◌<◌, ◌^◌, ◌+◌, �
 use Rattle.std.specs.Prelude.{Option, Some, None, not, map, nat_le, ◌||◌, ◌&&◌}
 use Rattle.std.specs.List.{filter_map, cons_option, list_all, list_any}
 use Rattle.std.proofs.lemmas.Bool.{eqb-true, eq-eqb, and_parts, leb-true, not-true}
-use Rattle.std.proofs.lemmas.List.{append-nil, length-append}
+use Rattle.std.proofs.lemmas.List.{append-nil}
 use Rattle.std.proofs.lemmas.List.Folds.{list_any-append}
 use Rattle.lks_base.specs.Checking.{plan_fault, is_within, is_fit, unless, each as each_fault, has_peer, has_corrupt, peer_fault}
 use Rattle.lks_base.specs.Sizes.{is_small_copy, is_small_peer}
@@ -20,7 +20,7 @@ use Rattle.lks_base.specs.declared.records.Record.TheVariants.{Deposit}
 use Rattle.lks_law.specs.Journal.{openings, opening_in}
 use Rattle.lks_law.specs.Sessions.{join_in, commitment_in, hashes_in}
 use Rattle.lks_law.specs.Polls.{Station}
-use Rattle.lks_law.specs.World.{Standing, World, is_honest, station_of, standing_of, deposit_for, deposits, start, peer_at, happens, happen_all, world}
+use Rattle.lks_law.specs.World.{Standing, World, is_honest, station_of, standing_of, deposit_for, deposits, start, peer_at, happens, world}
 use Rattle.lks_law.specs.Histories.{IsHistory, MayHappen, MayAllHappen}
 use Rattle.lks_law.specs.Linked.{Each, Fact}
 use Rattle.lks_law.proofs.Doing.{none_open, not_open}

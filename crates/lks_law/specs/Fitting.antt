@@ -31,6 +31,10 @@ IsCounted blocks = (1 ≤ length blocks) × (length blocks ≤ MOST_BLOCKS)
 abbrev pub AreSmall : List (List ℕ) → Type 0
 AreSmall blocks = All (λ (b : List ℕ). length b ≤ MOST_BLOCK_BYTES) blocks
 
+-- both, as of each version of a copy
+abbrev pub AreWell : List (List ℕ) → Type 0
+AreWell blocks = IsCounted blocks × AreSmall blocks
+
 -- numbers with which a poll may be opened
 abbrev pub AreLegal : ℕ → ℕ → Type 0
 AreLegal quorum minority = (1 ≤ quorum) × (quorum ≤ MOST_CIRCLE) × (obeys_quorum_rule quorum minority ≡ true)
@@ -92,7 +96,7 @@ IsOnHeld copies x = is_some (copy_at x.au copies) ≡ true
 
 -- a version that is pinned has as many blocks as an AU has, none of them too large
 abbrev pub IsPinnedWell : Pinned → Type 0
-IsPinnedWell p = IsCounted p.blocks × AreSmall p.blocks
+IsPinnedWell p = AreWell p.blocks
 
 -- and its vote no more hashes
 abbrev pub IsCastWell : Cast → Type 0

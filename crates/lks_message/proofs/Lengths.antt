@@ -9,9 +9,9 @@ use Rattle.std.proofs.lemmas.List.Elements.{recursion_from_All}
 use Rattle.lks_base.specs.declared.limits.TheConstants.{MOST_FORGED_BYTES}
 use Rattle.lks_base.specs.declared.messages.Message.{Message}
 use Rattle.lks_base.specs.declared.messages.Message.TheVariants.{Poll, PollChallenge, PollProof, Nominate, Vote, RepairRequest, Repair, Receipt}
-use Rattle.lks_base.specs.declared.names.HashKind.{HashKind}
-use Rattle.lks_base.specs.declared.names.HashKind.TheVariants.{Sha256, Sha512_256}
-use Rattle.lks_message.specs.Spelling.{spelling, kind_bytes, IsInLimits}
+use Rattle.lks_base.specs.Kinds.{is_second}
+use Rattle.lks_field.proofs.KindFields.{kind_length}
+use Rattle.lks_message.specs.Spelling.{spelling, IsInLimits}
 
 joined_length : (hashes : List (List ℕ)) → AllByRecursion (λ h. length h ≡ 32) hashes → length (flat_map (λ h. h) hashes) ≡ 32 * length hashes
 joined_length [] h = refl
@@ -32,17 +32,13 @@ nominee_length : (nominees : List ℕ) → length (flat_map (to_be_bytes w16) no
 nominee_length [] = refl
 nominee_length (x ∷ xs) = ap length (flat_map-cons (to_be_bytes w16) x xs) ∙ simp length-append (omega (arith, nominee_length xs))
 
-kind_length : (kind : HashKind) → length (kind_bytes kind) ≤ 1
-kind_length Sha256 = omega arith
-kind_length Sha512_256 = omega arith
-
 -- a message in its limits is no longer than a forged one may be
 pub short_spelling : (m : Message) → IsInLimits m → length (spelling m) ≤ MOST_FORGED_BYTES
 unfolding spelling
 short_spelling (Poll number au) h = omega arith
 short_spelling (PollChallenge number joins) h = omega arith
 short_spelling (PollProof number nonce kind proof) h =
-    let k = kind_length kind in
+    let k = kind_length (is_second kind) in
     let few = h.0 in
     let size = h.1.1 in
     simp length-append (omega (arith, k, few, size))

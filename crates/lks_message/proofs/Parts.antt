@@ -2,22 +2,22 @@
 use Rattle.std.proofs.Common.{◌≡◌, ℕ, ◌^◌, ◌<◌, ◌≤◌, cond, eqb, List, [], ◌∷◌, ◌++◌, length, Ok, Err, refl, arith}
 use Rattle.std.specs.Prelude.{All}
 use Rattle.std.specs.Int.{w16, w32, to_be_bytes}
+use Rattle.lks_base.specs.Kinds.{is_second}
 use Rattle.lks_base.specs.declared.limits.TheConstants.{LAST_BLOCK, MOST_BLOCKS, MOST_BLOCK_BYTES, MOST_NOMINEES, MOST_PROOF_BYTES}
 use Rattle.lks_base.specs.declared.names.HashKind.{HashKind}
 use Rattle.lks_base.specs.declared.names.HashKind.TheVariants.{Sha256, Sha512_256}
-use Rattle.lks_field.specs.Reading.{byte_at, hash_at, number_at, upto_at, tagged}
-use Rattle.lks_field.proofs.Takes.{IsBytes, Takes, IsField, bind_ok, told_field, byte_field, given_field, hash_field}
-use Rattle.lks_field.proofs.Steps.{IsTail, reads_end}
+use Rattle.lks_field.specs.Reading.{byte_at, kind_at, hash_at, number_at, upto_at, tagged}
+use Rattle.lks_field.proofs.KindFields.{kind_field as plain_kind_field}
+use Rattle.lks_field.proofs.Takes.{IsBytes, Takes, IsField, bind_ok, told_field, byte_field, hash_field}
 use Rattle.lks_field.proofs.Numbers.{be16_field, be32_field, u8_upto, be16_upto}
 use Rattle.lks_field.proofs.Counted.{sized_field, list_field}
 use Rattle.lks_field.proofs.Headings.{AreTags, tag_row, form_row}
-use Rattle.lks_message.specs.declared.fault.MsgFault.{MsgFault}
 use Rattle.lks_message.specs.declared.fault.MsgFault.TheVariants.{Version}
 use Rattle.lks_message.specs.declared.heading.Heading.{Heading}
 use Rattle.lks_message.specs.declared.heading.Heading.TheVariants.{Poll, PollChallenge, PollProof, Nominate, Vote, RepairRequest, Repair, Receipt}
 use Rattle.lks_message.specs.Faults.{told_as, field}
 use Rattle.lks_message.specs.Spelling.{version_of, kind_bytes, proof_bytes, nominee_bytes, hash_bytes, content_bytes}
-use Rattle.lks_message.specs.Reading.{first_heading, second_heading, heading_at, kind_at, proof_at, nominees_at, hashes_at, block_at, content_at}
+use Rattle.lks_message.specs.Reading.{first_heading, second_heading, heading_at, proof_at, nominees_at, hashes_at, block_at, content_at}
 
 -- ---- fields
 
@@ -53,13 +53,8 @@ pub hashes_field : IsField hashes_at hash_bytes (λ xs. (length xs ≤ MOST_BLOC
 unfolding hashes_at
 hashes_field = told_field told_as (list_field (be16_upto MOST_BLOCKS (omega arith)) hash_field)
 
-pub kind_field : (kind : HashKind) → IsField (kind_at kind) (λ x. kind_bytes kind) (λ x. Unit {0})
-unfolding kind_at
-kind_field Sha256 = record { takes = none.takes tt; again = λ x rest h. refl }
-  where
-    none : IsTail {E = MsgFault} (λ (x : Unit {0}). []) (λ x. Unit {0}) [] (Unit {0}) (λ bytes. Ok (tt, bytes))
-    none = reads_end tt (λ h. (refl, tt))
-kind_field Sha512_256 = told_field told_as (given_field 2)
+pub kind_field : (kind : HashKind) → IsField (λ bytes. field (kind_at (is_second kind) bytes)) (λ x. kind_bytes (is_second kind)) (λ x. Unit {0})
+kind_field kind = told_field told_as (plain_kind_field (is_second kind))
 
 -- ---- headings
 

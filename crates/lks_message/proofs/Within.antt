@@ -6,13 +6,14 @@ use Rattle.std.proofs.lemmas.List.{length-take}
 use Rattle.lks_base.specs.declared.limits.TheConstants.{LAST_BLOCK, MOST_BLOCKS, MOST_BLOCK_BYTES, MOST_NOMINEES, MOST_PROOF_BYTES}
 use Rattle.lks_base.specs.declared.messages.Message.{Message}
 use Rattle.lks_base.specs.declared.messages.Message.TheVariants as messages
+use Rattle.lks_base.specs.Kinds.{is_second}
 use Rattle.lks_base.specs.declared.names.HashKind.{HashKind}
 use Rattle.lks_field.proofs.Takes.{bind_ok, guard_ok, ok_is, told_ok}
-use Rattle.lks_field.specs.Reading.{◌>>=◌, byte_at, bytes_at, hash_at, number_at, upto_at, many_at, sized_at, list_at, end_of}
+use Rattle.lks_field.specs.Reading.{◌>>=◌, byte_at, bytes_at, hash_at, kind_at, number_at, upto_at, many_at, sized_at, list_at, end_of}
 use Rattle.lks_field.specs.declared.fault.FieldFault.{FieldFault}
 use Rattle.lks_field.specs.declared.fault.FieldFault.TheVariants.{Short, Value}
 use Rattle.lks_message.specs.Faults.{told_as, field}
-use Rattle.lks_message.specs.Reading.{heading_at, message_at, kind_at, proof_at, nominees_at, hashes_at, block_at, content_at, poll_at, challenge_at, poll_proof_at, nominate_at, vote_at, request_at, repair_at, decode_of}
+use Rattle.lks_message.specs.Reading.{heading_at, message_at, proof_at, nominees_at, hashes_at, block_at, content_at, poll_at, challenge_at, poll_proof_at, nominate_at, vote_at, request_at, repair_at, decode_of}
 use Rattle.lks_message.specs.Spelling.{IsWithin}
 use Rattle.lks_message.specs.declared.fault.MsgFault.{MsgFault}
 use Rattle.lks_message.specs.declared.heading.Heading.{Heading}
@@ -99,8 +100,8 @@ said_is made x e = ok_is {E = MsgFault} made x e
 proof_within : (kind : HashKind) (number : ℕ) → Tells (poll_proof_at kind number) IsWithin
 unfolding poll_proof_at
 proof_within kind number bytes x e =
-    let a = bind_ok (field (hash_at bytes)) (λ nonce. kind_at kind nonce.1 >>= λ known. proof_at known.1 >>= λ proof. Ok (messages.PollProof number nonce.0 kind proof.0, proof.1)) x e in
-    let b = bind_ok (kind_at kind a.0.1) (λ known. proof_at known.1 >>= λ proof. Ok (messages.PollProof number a.0.0 kind proof.0, proof.1)) x a.2 in
+    let a = bind_ok (field (hash_at bytes)) (λ nonce. field (kind_at (is_second kind) nonce.1) >>= λ known. proof_at known.1 >>= λ proof. Ok (messages.PollProof number nonce.0 kind proof.0, proof.1)) x e in
+    let b = bind_ok (field (kind_at (is_second kind) a.0.1)) (λ known. proof_at known.1 >>= λ proof. Ok (messages.PollProof number a.0.0 kind proof.0, proof.1)) x a.2 in
     let c = bind_ok (proof_at b.0.1) (λ proof. Ok (messages.PollProof number a.0.0 kind proof.0, proof.1)) x b.2 in
     let made : Said = (messages.PollProof number a.0.0 kind c.0.0, c.0.1) in
     is_within made x (said_is made x c.2) (proof_tells b.0.1 c.0 c.1)

@@ -1,12 +1,13 @@
 -- Reading a message from left to right, with the first fault that is met.
 use Rattle.std.specs.Prelude.{◌==◌, ℕ, List, Result, Ok, Err, if◌then◌else◌}
 use Rattle.std.specs.Int.{w16, w32}
+use Rattle.lks_base.specs.Kinds.{is_second}
 use Rattle.lks_base.specs.declared.limits.TheConstants.{LAST_BLOCK, MOST_BLOCKS, MOST_BLOCK_BYTES, MOST_NOMINEES, MOST_PROOF_BYTES}
 use Rattle.lks_base.specs.declared.messages.Message.{Message}
 use Rattle.lks_base.specs.declared.messages.Message.TheVariants as messages
 use Rattle.lks_base.specs.declared.names.HashKind.{HashKind}
 use Rattle.lks_base.specs.declared.names.HashKind.TheVariants.{Sha256, Sha512_256}
-use Rattle.lks_field.specs.Reading.{◌>>=◌, byte_at, given_at, hash_at, number_at, upto_at, sized_at, list_at, end_of, tagged, GivesBut, ReadsBut}
+use Rattle.lks_field.specs.Reading.{◌>>=◌, byte_at, kind_at, hash_at, number_at, upto_at, sized_at, list_at, end_of, tagged, GivesBut, ReadsBut}
 use Rattle.lks_message.specs.declared.fault.MsgFault.{MsgFault}
 use Rattle.lks_message.specs.declared.fault.MsgFault.TheVariants.{Version, Tag}
 use Rattle.lks_message.specs.declared.heading.Heading.{Heading}
@@ -41,11 +42,6 @@ heading_at bytes = do
       else Err Version
 
 -- ---- fields
-
--- the second kind is spelled by a byte, the first by none
-unfoldable pub kind_at : HashKind → List ℕ → Result (Unit {0} × List ℕ) MsgFault
-kind_at Sha256 bytes = Ok (tt, bytes)
-kind_at Sha512_256 bytes = field (given_at 2 bytes)
 
 -- a proof of effort behind its length, a byte
 unfoldable pub proof_at : List ℕ → Result (List ℕ × List ℕ) MsgFault
@@ -85,7 +81,7 @@ challenge_at number bytes = do
 unfoldable pub poll_proof_at : HashKind → ℕ → List ℕ → Result (Message × List ℕ) MsgFault
 poll_proof_at kind number bytes = do
   nonce ← field (hash_at bytes)
-  known ← kind_at kind nonce.1
+  known ← field (kind_at (is_second kind) nonce.1)
   proof ← proof_at known.1
   Ok (messages.PollProof number nonce.0 kind proof.0, proof.1)
 

@@ -2,7 +2,7 @@
 
 ghost use Rattle.std.specs.Prelude.{◌≡◌, IfOk};
 ghost use Rattle.lks_message.specs.Spelling.{spelling, IsInLimits};
-ghost use Rattle.lks_message.specs.Reading.{Reads, Gives, kind_at, proof_at, nominees_at, hashes_at, block_at, content_at, poll_at, challenge_at, poll_proof_at, nominate_at, vote_at, request_at, repair_at, message_at, decode_of};
+ghost use Rattle.lks_message.specs.Reading.{Reads, Gives, proof_at, nominees_at, hashes_at, block_at, content_at, poll_at, challenge_at, poll_proof_at, nominate_at, vote_at, request_at, repair_at, message_at, decode_of};
 
 use crate::fault::MsgFault;
 use crate::heading::{Heading, heading_of};
@@ -12,16 +12,6 @@ use lks_base::{
 };
 use lks_field::Fields;
 use std::alloc::Global;
-
-#[tactic(auto, unfolding(crate::specs::Reading::kind_at))]
-fn kind_of(kind: HashKind, fields: &mut Fields<'_>) -> Result<(), MsgFault>
-    ensures { Reads result fields.new (kind_at kind fields.old) }
-{
-    if !kind.second() {
-        return Ok(());
-    }
-    Ok(fields.get_given(2)?)
-}
 
 #[tactic(auto, unfolding(crate::specs::Reading::proof_at, lks_field::specs::Reading::sized_at))]
 fn proof_of(alloc: Global, fields: &mut Fields<'_>) -> Result<Bytes, MsgFault>
@@ -89,7 +79,7 @@ fn poll_proof_of(
     ensures { Reads result fields.new (poll_proof_at kind number fields.old) }
 {
     let nonce = fields.get_hash()?;
-    kind_of(kind, fields)?;
+    fields.get_kind(kind.second())?;
     let proof = proof_of(alloc, fields)?;
     Ok(Message::PollProof {
         number,

@@ -2,11 +2,13 @@
 
 ghost use Rattle.std.specs.Prelude.{◌≡◌, ◌≤◌, ◌++◌, length, OnOk, IfOk};
 ghost use Rattle.lks_base.specs.declared.limits.TheConstants.{MOST_BLOCKS, MOST_BLOCK_BYTES, MOST_FORGED_BYTES, MOST_NOMINEES, MOST_PROOF_BYTES};
-ghost use Rattle.lks_message.specs.Spelling.{start, version_of, kind_bytes, proof_bytes, spelling, IsWithin, IsSized};
+ghost use Rattle.lks_message.specs.Spelling.{start, version_of, proof_bytes, spelling, IsWithin, IsSized};
 ghost use Rattle.lks_message.specs.Reading.{decode_of};
 
 use lks_base::{HashKind, Message, OutOfMemory};
-use lks_field::{put_be16, put_be32, put_bytes, put_hashes, put_numbers, put_sized, put_u8};
+use lks_field::{
+    put_be16, put_be32, put_bytes, put_hashes, put_kind, put_numbers, put_sized, put_u8,
+};
 use std::alloc::Global;
 
 type Written = Result<(), lks_field::OutOfMemory>;
@@ -33,15 +35,6 @@ fn version_byte(kind: HashKind) -> u8
     match kind {
         HashKind::Sha256 => 1,
         HashKind::Sha512_256 => 2,
-    }
-}
-
-fn put_kind(out: &mut Vec<u8>, kind: HashKind) -> Written
-    ensures { OnOk result (out.new.items ≡ out.old.items ++ kind_bytes kind) }
-{
-    match kind {
-        HashKind::Sha256 => Ok(()),
-        HashKind::Sha512_256 => put_u8(out, 2),
     }
 }
 
@@ -77,7 +70,7 @@ fn put_poll_proof(
 {
     put_start(out, version_byte(kind), 3, number)?;
     put_bytes(out, nonce)?;
-    put_kind(out, kind)?;
+    put_kind(out, kind.second())?;
     put_proof(out, proof)
 }
 

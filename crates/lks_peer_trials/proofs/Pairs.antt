@@ -1,13 +1,14 @@
 -- A session can be committed to two blocks.
-use Rattle.std.proofs.Common.{◌≡◌, sym, subst, ℕ, List, [], ◌∷◌, arith}
+use Rattle.std.proofs.Common.{◌≡◌, ◌≤◌, sym, subst, ℕ, List, [], ◌∷◌, length, arith}
 use Rattle.std.proofs.lemmas.List.Elements.{All-nil, All-cons}
+use Rattle.lks_base.specs.declared.limits.TheConstants.{MOST_BLOCK_BYTES}
+use Rattle.lks_law.specs.Fitting.{AreWell}
 use Rattle.lks_peer_trials.specs.Pair.{pair}
-use Rattle.lks_sessions.specs.Sendable.{IsShort, CanPin}
 
-pub pair_pins : (blocks : List (List ℕ)) → blocks ≡ pair → CanPin blocks
+abbrev IsShort : List ℕ → Type 0
+IsShort bytes = length bytes ≤ MOST_BLOCK_BYTES
+
+pub pair_pins : (blocks : List (List ℕ)) → blocks ≡ pair → AreWell blocks
 pair_pins blocks is =
-    subst CanPin (sym is)
-    (record {
-      counted = (omega arith, omega arith);
-      short = All-cons IsShort (65 ∷ []) ((66 ∷ []) ∷ []) (omega arith) (All-cons IsShort (66 ∷ []) [] (omega arith) (All-nil IsShort));
-    })
+    subst AreWell (sym is)
+    ((omega arith, omega arith), All-cons IsShort (65 ∷ []) ((66 ∷ []) ∷ []) (omega arith) (All-cons IsShort (66 ∷ []) [] (omega arith) (All-nil IsShort)))

@@ -5,7 +5,7 @@ ghost use Rattle.lks_base.specs.declared.limits.TheConstants as limits;
 ghost use Rattle.lks_blocks.specs.Block.{AllOf, bytes_of};
 ghost use Rattle.lks_sessions.specs.Kept.{voter_of, IsOf};
 ghost use Rattle.lks_peer_trials.specs.Pair.{pair};
-ghost use Rattle.lks_sessions.specs.Sendable.{CanPin, IsSendable};
+ghost use Rattle.lks_sessions.specs.Sendable.{IsSendable};
 ghost use Rattle.lks_versions.specs.Each.{EachOf};
 ghost use Rattle.lks_versions.specs.Shelf.{newest_of};
 

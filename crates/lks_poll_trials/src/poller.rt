@@ -99,7 +99,7 @@ fn decide(session: &mut PollSession, copy: &Pair) -> Result<Option<Next>, OutOfM
 {
     match session.stage() {
         Stage::Shut => {}
-        _ => return Ok(None),
+        Stage::Inviting | Stage::Widened | Stage::Asking | Stage::Closed => return Ok(None),
     }
     let verdict = session.verdict(copy);
     Ok(Some(session.judge(verdict)?))
@@ -317,7 +317,7 @@ fn note_request(session: &mut PollSession, voter: u16) -> Result<bool, OutOfMemo
             session.asked(1, voter)?;
             Ok(true)
         }
-        _ => Ok(false),
+        Stage::Inviting | Stage::Widened | Stage::Asking | Stage::Closed => Ok(false),
     }
 }
 
@@ -401,23 +401,27 @@ const ENTRIES: [Entry; 17] = [
     Entry::Next(Next::Close(Outcome::Agreed)),
 ];
 
-/// The session after these entries.
-fn noted_session<R: Abort>(
+/// Enters these into a session without votes, on a copy whose second block is `42`.
+fn enter_all<R: Abort>(
     rt: &R,
+    session: &mut PollSession,
     alloc: Global,
     entries: &[Entry],
-) -> Result<PollSession, OutOfMemory> {
+) -> Result<(), OutOfMemory>
+    requires count { session.old.tally.ballot.count ≡ 2 }
+    requires cache { (blocks : List (List ℕ)) → IsCacheOf session.old.tally blocks }
+{
     let mut copy = Pair(*b"B");
-    let mut session = opened(alloc)?;
     for (at, entry) in entries.iter().enumerate() {
-        assert!(rt; enters(&mut session, alloc, &mut copy, *entry)?, "{at}");
+        assert!(rt; enters(session, alloc, &mut copy, *entry)?, "{at}");
     }
-    Ok(session)
+    Ok(())
 }
 
 #[test]
 fn noted(rt: HostRuntime) -> Result<(), OutOfMemory> {
-    let session = noted_session(&rt, rt.alloc(), &ENTRIES)?;
+    let mut session = opened(rt.alloc())?;
+    enter_all(&rt, &mut session, rt.alloc(), &ENTRIES)?;
     assert_eq!(rt; session.voters(), [6, 2, 4, 3].as_slice());
     Ok(())
 }

@@ -1,17 +1,11 @@
 //! What several subjects are tried with: numbers of a poll, a copy of two blocks, and votes over it.
 
-ghost use Rattle.std.specs.Prelude.{◌≡◌, ◌≤◌, ◌+◌, [], ◌∷◌, length, IfOk};
+ghost use Rattle.std.specs.Prelude.{◌≡◌, ◌+◌, [], ◌∷◌, length, IfOk};
 ghost use Rattle.lks_tally.specs.Keeping.{IsReserved};
-ghost use Rattle.lks_versions.specs.Each.{EachOf};
-ghost use Rattle.lks_versions.specs.Shelf.{current_of, newest_of};
 
-use lks_base::{Bytes, Contents, HashKind, Hashes, OutOfMemory, PeerId, PollName, Rules};
-use lks_blocks::{BlockPool, Refs};
+use lks_base::{Contents, HashKind, Hashes, OutOfMemory, PollName, Rules};
 use lks_tally::{Tally, VoteFault};
-use lks_versions::{PinTag, Versions};
-use lks_work::VoteJob;
 use std::alloc::Global;
-use std::sync::Wait;
 
 pub const POLL: PollName = PollName {
     poller: 1,
@@ -20,11 +14,6 @@ pub const POLL: PollName = PollName {
 
 pub const NONCE: &[u8; 32] =
     b"\x0d\x00\xe5\xe6\xa8\xa8\x16\xce\x10\x26\x5b\xd3\x71\xe0\x54\x0c\xe6\x12\x67\xae\xae\x9a\x83\x5e\x35\xde\x02\x48\x49\x3c\x5d\x44";
-
-pub const TAG: PinTag = PinTag {
-    first: 0,
-    version: 0,
-};
 
 /// A quorum of 3, and at most 1 vote in a minority.
 pub const RULES: Rules = Rules {
@@ -48,12 +37,6 @@ pub const PUBLISHED: [[u8; 32]; 2] = [
     *b"\x1c\xc0\x9c\x4e\x0a\x7e\xaf\x35\x6b\xc7\x82\x44\x6c\x15\xc9\xca\x4a\x24\x0a\x4b\x7b\x46\x03\x74\xbd\x05\xc9\x74\x4e\x4c\x24\xa7",
 ];
 
-/// The same by SHA-512/256.
-pub const PUBLISHED_SECOND: [[u8; 32]; 2] = [
-    *b"\xfd\x58\x26\xcd\x71\x04\x22\x7a\xec\xff\x33\xcc\x6f\xb2\xad\x18\x14\xf3\x14\x15\xfc\x9f\x73\x8b\x17\xd3\x51\x67\x86\x12\x23\x1e",
-    *b"\x87\x4a\xb5\xcf\x6f\x41\xe1\xad\x2e\xed\x1d\x66\x80\x56\x2e\x76\xa0\x0b\x1b\xad\x56\xa9\x86\x84\xae\x17\x4b\xa0\xa9\x62\xb8\x03",
-];
-
 /// A copy of the block `41` and another one.
 #[derive(Clone, Copy)]
 pub struct Pair(pub [u8; 1]);
@@ -67,22 +50,6 @@ impl Contents for Pair {
 
     fn block(&self, b: u16) -> &[u8] {
         if b == 0 { b"A" } else { &self.0 }
-    }
-}
-
-/// The job of a peer's vote over these blocks.
-pub fn vote_job(peer: PeerId, kind: HashKind, refs: Refs) -> VoteJob
-    requires { length refs ≤ 65535 }
-    ensures { result.refs ≡ refs }
-{
-    VoteJob {
-        peer,
-        poll: POLL,
-        au: 1,
-        kind,
-        nonce: *NONCE,
-        tag: TAG,
-        refs,
     }
 }
 
@@ -107,36 +74,4 @@ pub fn add_vote(tally: &mut Tally, voter: u16, hashes: Hashes) -> Result<(), Vot
     ensures nothing_kept { IfOk result (λ _. (tally.new.kept ≡ 0) × (tally.new.hashes ≡ [])) }
 {
     tally.add_vote(voter, hashes)
-}
-
-fn block_of(alloc: Global, bytes: &[u8]) -> Result<Bytes, OutOfMemory> {
-    Ok(Bytes::from_vec(bytes.to_vec(alloc)?))
-}
-
-/// Two blocks with these bytes.
-fn two_blocks(alloc: Global, first: &[u8], second: &[u8]) -> Result<Vec<Bytes>, OutOfMemory>
-    ensures { IfOk result (λ blocks. length blocks.items ≡ 2) }
-{
-    let mut blocks = Vec::with_capacity(alloc, 2)?;
-    blocks.push_reserved(block_of(alloc, first)?);
-    blocks.push_reserved(block_of(alloc, second)?);
-    Ok(blocks)
-}
-
-/// A copy of two blocks with these bytes, in the pool.
-#[tactic(auto, using(lks_blocks::proofs::Bytes::bytes_count))]
-pub fn deposited<R: Wait>(
-    rt: &R,
-    alloc: Global,
-    pool: &BlockPool,
-    first: &[u8],
-    second: &[u8],
-) -> Result<Versions, OutOfMemory>
-    ensures of { IfOk result (λ v. EachOf pool.now v.lists) }
-    ensures count { IfOk result (λ v. length (newest_of v) ≡ 2) }
-    ensures current { IfOk result (λ v. current_of v ≡ 0) }
-    ensures pins { IfOk result (λ v. v.pins ≡ []) }
-{
-    let blocks = two_blocks(alloc, first, second)?;
-    Versions::put(alloc, rt, pool, blocks.as_slice())
 }

@@ -6,22 +6,50 @@ ghost use Rattle.lks_blocks.specs.Block.{AllOf};
 ghost use Rattle.lks_hash.specs.Counting.{Opens};
 ghost use Rattle.lks_tally.specs.Keeping.{IsReserved, IsSame};
 
-use crate::samples::{
-    POLL, PUBLISHED, PUBLISHED_SECOND, TAG, add_vote, deposited, tally_without_votes, vote_job,
-};
+use crate::samples::{NONCE, POLL, PUBLISHED, add_vote, tally_without_votes};
 use lks_base::{Entry, Event, HashKind, Hashes, OutOfMemory, PeerId, Seq};
-use lks_blocks::{BlockPool, Refs};
+use lks_blocks::{BlockPool, BlockRef, Refs};
 use lks_hash::Steps;
 use lks_tally::{Tally, Verdict, VoteFault};
-use lks_work::{FreeGate, Gate, Job, JobDone, JobName, TallyDone, TallyJob, hash_tally, hash_vote};
+use lks_versions::PinTag;
+use lks_work::{
+    FreeGate, Gate, Job, JobDone, JobName, TallyDone, TallyJob, VoteJob, hash_tally, hash_vote,
+};
 use std::alloc::Global;
 use std::marker::Brand;
 use std::sync::Wait;
 use std::sync::ledger::{Blank, Ledger};
 use std::test::Fail;
 
+const TAG: PinTag = PinTag {
+    first: 0,
+    version: 0,
+};
+
+/// Hashes that another implementation of FIPS 180-4 computed, as [`PUBLISHED`], but by SHA-512/256.
+const PUBLISHED_SECOND: [[u8; 32]; 2] = [
+    *b"\xfd\x58\x26\xcd\x71\x04\x22\x7a\xec\xff\x33\xcc\x6f\xb2\xad\x18\x14\xf3\x14\x15\xfc\x9f\x73\x8b\x17\xd3\x51\x67\x86\x12\x23\x1e",
+    *b"\x87\x4a\xb5\xcf\x6f\x41\xe1\xad\x2e\xed\x1d\x66\x80\x56\x2e\x76\xa0\x0b\x1b\xad\x56\xa9\x86\x84\xae\x17\x4b\xa0\xa9\x62\xb8\x03",
+];
+
+/// A block of one byte, in the pool.
+fn stored<R: Wait>(
+    rt: &R,
+    alloc: Global,
+    pool: &BlockPool,
+    byte: &[u8; 1],
+) -> Result<BlockRef, OutOfMemory>
+    ensures { IfOk result (λ block. block.pool ≡ pool.now) }
+{
+    let bytes = byte.to_vec(alloc)?;
+    match pool.put(rt, bytes) {
+        Ok(block) => Ok(block),
+        Err(_bytes) => Err(OutOfMemory),
+    }
+}
+
 /// The block `41` and another one, in the pool.
-#[tactic(auto, using(lks_versions::specs::Each::each_at, lks_versions::specs::Shelf::kept_newest))]
+#[tactic(auto, unfolding(lks_blocks::specs::Block::AllOf))]
 fn pair_of<R: Wait>(
     rt: &R,
     alloc: Global,
@@ -31,8 +59,26 @@ fn pair_of<R: Wait>(
     ensures of { IfOk result (λ refs. AllOf pool.now refs) }
     ensures count { IfOk result (λ refs. length refs ≡ 2) }
 {
-    let versions = deposited(rt, alloc, pool, b"A", second)?;
-    Ok(Refs::from_vec(versions.refs(versions.current())?))
+    let mut refs = Vec::with_capacity(alloc, 2)?;
+    refs.push_reserved(stored(rt, alloc, pool, b"A")?);
+    refs.push_reserved(stored(rt, alloc, pool, second)?);
+    Ok(Refs::from_vec(refs))
+}
+
+/// The job of a peer's vote over these blocks.
+fn vote_job(peer: PeerId, kind: HashKind, refs: Refs) -> VoteJob
+    requires { length refs ≤ 65535 }
+    ensures { result.refs ≡ refs }
+{
+    VoteJob {
+        peer,
+        poll: POLL,
+        au: 1,
+        kind,
+        nonce: *NONCE,
+        tag: TAG,
+        refs,
+    }
 }
 
 /// Hashes a vote of a peer.
@@ -75,6 +121,31 @@ fn cast(
     }
 }
 
+/// Takes the votes of these peers over these references.
+fn cast_all(
+    alloc: Global,
+    pool: &BlockPool,
+    tally: &mut Tally,
+    voters: &[PeerId],
+    refs: &Refs,
+) -> Result<(), VoteFault>
+    requires of { AllOf pool.now refs.now }
+    requires count { length refs.now ≡ 2 }
+    requires few { length voters.now ≤ MOST_CIRCLE }
+    requires reserved { IsReserved tally.old }
+    requires no_votes { tally.old.votes ≡ [] }
+    requires nothing_kept { (tally.old.kept ≡ 0) × (tally.old.hashes ≡ []) }
+    ensures reserved { IfOk result (λ _. IsReserved tally.new) }
+    ensures votes { IfOk result (λ _. length tally.new.votes ≡ length voters.now) }
+    ensures count { IfOk result (λ _. tally.new.ballot.count ≡ tally.old.ballot.count) }
+    ensures nothing_kept { IfOk result (λ _. (tally.new.kept ≡ 0) × (tally.new.hashes ≡ [])) }
+{
+    for i in 0..voters.len() {
+        cast(alloc, pool, tally, voters[i], refs)?;
+    }
+    Ok(())
+}
+
 /// The tally of the votes of these peers over these references.
 fn tally_of(alloc: Global, pool: &BlockPool, voters: &[PeerId], refs: &Refs) -> Result<Tally, Fail>
     requires of { AllOf pool.now refs.now }
@@ -83,9 +154,7 @@ fn tally_of(alloc: Global, pool: &BlockPool, voters: &[PeerId], refs: &Refs) -> 
     ensures { IfOk result (λ t. (IsReserved t) × (length t.votes ≡ length voters.now) × (t.ballot.count ≡ 2) × (t.kept ≡ 0) × (t.hashes ≡ [])) }
 {
     let mut tally = tally_without_votes(alloc, HashKind::Sha256, 2)?;
-    for i in 0..voters.len() {
-        cast(alloc, pool, &mut tally, voters[i], refs)?;
-    }
+    cast_all(alloc, pool, &mut tally, voters, refs)?;
     Ok(tally)
 }
 

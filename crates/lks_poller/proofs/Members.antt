@@ -1,37 +1,15 @@
 -- Votes by their voters.
-use Rattle.std.proofs.Common.{◌≡◌, ◌≢◌, ◌<◌, ◌≤◌, ℕ, suc, Bool, true, false, ◌||◌, ◌==◌, ◌⊎◌, List, [], ◌∷◌, ◌++◌, length, map, refl, sym, ◌∙◌, ap, subst, inl, inr, append_assoc, arith}
-use Rattle.std.specs.Prelude.{nat_eq}
-use Rattle.std.specs.Cmp.{nat_eq_equiv}
-use Rattle.std.specs.List.{All, AllPairs}
-use Rattle.std.specs.Set.{is_member}
+use Rattle.std.proofs.Common.{◌≡◌, ◌≢◌, ℕ, suc, Bool, true, false, ◌||◌, ◌==◌, ◌⊎◌, List, [], ◌∷◌, ◌++◌, refl, sym, ◌∙◌, ap, subst, inl, inr, append_assoc, arith}
+use Rattle.std.specs.List.{All}
 use Rattle.std.proofs.lemmas.Bool.{or_cases, or_parts, or_from, eqb-true, eq-eqb, ne_eqb, false≢true}
-use Rattle.std.proofs.lemmas.Bool.Decides.{Decides-eqb}
-use Rattle.std.proofs.lemmas.List.{append-nil, get_or-map}
+use Rattle.std.proofs.lemmas.List.{append-nil}
 use Rattle.std.proofs.lemmas.List.Elements.{All-head, All-tail}
 use Rattle.std.proofs.lemmas.List.Folds.{list_any_at, list_any-append}
 use Rattle.std.proofs.lemmas.List.Quantifiers.{all_pairs_push}
-use Rattle.std.proofs.lemmas.Map.Made.{IsDistinct-from_AllPairs, length-le_from_is_member}
 use Rattle.lks_base.specs.Checking.{has_member}
 use Rattle.lks_tally.specs.declared.ballots.Vote.{Vote}
 use Rattle.lks_tally.specs.Distinct.{AreDistinct}
 use Rattle.lks_tally.specs.Keeping.{has_voted}
-
--- the voters of the votes, in order
-abbrev voters : List Vote → List ℕ
-voters votes = map (λ v. v.voter) votes
-
-length_voters : (votes : List Vote) → length (voters votes) ≡ length votes
-length_voters [] = refl
-length_voters (w ∷ ws) = ap suc (length_voters ws)
-
-is_member_votes : (votes : List Vote) (v : ℕ) → is_member nat_eq (voters votes) v ≡ has_voted votes v
-is_member_votes [] v = refl
-is_member_votes (w ∷ ws) v = λ i. nat_eq_equiv.symm v w.voter i || is_member_votes ws v i
-
-is_member_ids : (ids : List ℕ) (v : ℕ) → is_member nat_eq ids v ≡ has_member ids v
-unfolding has_member
-is_member_ids [] v = refl
-is_member_ids (w ∷ ws) v = λ i. nat_eq_equiv.symm v w i || is_member_ids ws v i
 
 -- who hasn't voted is the voter of no vote
 unvoted_apart : (votes : List Vote) (v : ℕ) → has_voted votes v ≡ false → All (λ w. w.voter ≢ v) votes
@@ -41,23 +19,6 @@ unvoted_apart votes v new = λ k d within same.
 -- the vote of a peer that hasn't voted
 pub distinct_more : (votes : List Vote) (v : Vote) → AreDistinct votes → has_voted votes v.voter ≡ false → AreDistinct (votes ++ v ∷ [])
 distinct_more votes v distinct new = all_pairs_push (λ x y. x.voter ≢ y.voter) votes v distinct (unvoted_apart votes v.voter new)
-
-distinct_voters : (votes : List Vote) → AreDistinct votes → AllPairs ◌≢◌ (voters votes)
-distinct_voters votes distinct = λ i j d before within same.
-    let vote : Vote = record { voter = d; hashes = [] } in
-    let second : j < length votes = omega (arith, within, length_voters votes) in
-    let first : i < length votes = omega arith in
-    distinct i j vote before second
-    (sym (get_or-map (λ (v : Vote). v.voter) votes i vote d first) ∙ same ∙ get_or-map (λ (v : Vote). v.voter) votes j vote d second)
-
--- distinct voters out of a circle are no more than it has members
-pub few_voters : (ids : List ℕ) (votes : List Vote) → AreDistinct votes → ((v : ℕ) → has_voted votes v ≡ true → has_member ids v ≡ true)
-    → length votes ≤ length ids
-few_voters ids votes distinct within =
-    let fewer : length (voters votes) ≤ length ids =
-    length-le_from_is_member nat_eq_equiv (voters votes) ids (IsDistinct-from_AllPairs Decides-eqb (voters votes) (distinct_voters votes distinct))
-    (λ v found. is_member_ids ids v ∙ within v (sym (is_member_votes votes v) ∙ found)) in
-    rw (← length_voters votes) fewer
 
 -- one member more
 pub member_more : (ids : List ℕ) (x v : ℕ) → has_member (ids ++ x ∷ []) v ≡ has_member ids v || (x == v || false)

@@ -4,6 +4,7 @@ use Rattle.std.specs.List.{list_any}
 use Rattle.std.proofs.lemmas.Bool.{and_parts, or_parts, not-true, eqb-true}
 use Rattle.lks_base.specs.Checking.{has_member}
 use Rattle.lks_base.specs.declared.limits.TheConstants.{MOST_CIRCLE}
+use Rattle.lks_tally.proofs.Voters.{few_voters}
 use Rattle.lks_tally.specs.declared.ballots.Vote.{Vote}
 use Rattle.lks_tally.specs.Distinct.{AreDistinct}
 use Rattle.lks_tally.specs.Keeping as keeping
@@ -13,7 +14,7 @@ use Rattle.lks_tally.specs.PollRules as poll
 use Rattle.lks_poller.specs.Polling.{Polled, voted_inner, voted_outer}
 use Rattle.lks_poller.specs.Rules.{is_voting, is_invited, has_voted, may_vote, names}
 use Rattle.lks_poller.specs.Sound.{IsSound}
-use Rattle.lks_poller.proofs.Members.{distinct_more, few_voters, voted_more, member_more, votes_more}
+use Rattle.lks_poller.proofs.Members.{distinct_more, voted_more, member_more, votes_more}
 
 -- The parts of the rules.
 

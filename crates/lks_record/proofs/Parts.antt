@@ -4,6 +4,7 @@ use Rattle.std.specs.Prelude.{IfSome, All}
 use Rattle.std.specs.Int.{w16, w32, to_be_bytes}
 use Rattle.std.proofs.lemmas.Bool.{ltb-true}
 use Rattle.std.proofs.Math.Dec.{eqb-suc-zero}
+use Rattle.lks_base.specs.Kinds.{is_second}
 use Rattle.lks_base.specs.declared.limits.TheConstants.{LAST_BLOCK, MOST_BLOCKS, MOST_BLOCK_BYTES, MOST_CIRCLE, MOST_REPAIRS}
 use Rattle.lks_base.specs.Quorums.{obeys_quorum_rule}
 use Rattle.lks_base.specs.declared.names.HashKind.{HashKind}
@@ -12,8 +13,9 @@ use Rattle.lks_base.specs.declared.names.Limits.{Limits}
 use Rattle.lks_base.specs.declared.names.PollName.{PollName}
 use Rattle.lks_base.specs.declared.names.Outcome.{Outcome}
 use Rattle.lks_base.specs.declared.names.Outcome.TheVariants.{Agreed, Inquorate, Split, NoSupplier}
-use Rattle.lks_field.specs.Reading.{byte_at, given_at, number_at, upto_at}
-use Rattle.lks_field.proofs.Takes.{IsField, told_field, field_as, given_field, hash_field}
+use Rattle.lks_field.specs.Reading.{byte_at, given_at, kind_at, number_at, upto_at}
+use Rattle.lks_field.proofs.KindFields.{kind_field as plain_kind_field}
+use Rattle.lks_field.proofs.Takes.{IsField, told_field, field_as, hash_field}
 use Rattle.lks_field.proofs.Steps.{Reader, IsTail, reads_then, reads_end, goes_first, goes_then, guarded_field}
 use Rattle.lks_field.proofs.Numbers.{be16_field, be32_field, u8_upto, be16_upto, flag_is}
 use Rattle.lks_field.proofs.Counted.{sized_field, list_field}
@@ -21,7 +23,7 @@ use Rattle.lks_record.specs.declared.fault.RecFault.{RecFault}
 use Rattle.lks_record.specs.declared.fault.RecFault.TheVariants.{Limit}
 use Rattle.lks_record.specs.Faults.{told_as, field}
 use Rattle.lks_record.specs.Spelling.{kind_bytes, flag_bytes, peer_bytes, hash_bytes, content_bytes, block_bytes, poll_bytes, limit_bytes, optional, outcome_bytes, AreLimits, HasBlock, IsPoll, AreHashes, ArePeers}
-use Rattle.lks_record.specs.Reading.{id_at, long_at, nonce_at, flag_at, from_one_at, peers_at, hashes_at, block_at, content_at, blocks_at, poll_at, minority_at, limits_at, repairs_at, optional_at, kind_at, last_block, outcome_as, outcome_at}
+use Rattle.lks_record.specs.Reading.{id_at, long_at, nonce_at, flag_at, from_one_at, peers_at, hashes_at, block_at, content_at, blocks_at, poll_at, minority_at, limits_at, repairs_at, optional_at, said_kind_at, last_block, outcome_as, outcome_at}
 
 -- ---- numbers
 
@@ -76,19 +78,18 @@ flag_field = record { takes = reads.takes tt; again = again }
     again true rest h = (goes_then _ (goes_first flag_at) (byte_upto 1 (omega arith)) 1 (omega arith)).at rest
     again false rest h = (goes_then _ (goes_first flag_at) (byte_upto 1 (omega arith)) 0 (omega arith)).at rest
 
-kind_tail : (kind : HashKind) → IsTail kind_bytes (λ k. k ≡ kind) [] (Unit {0}) (kind_at kind)
-unfolding kind_at
-kind_tail Sha256 = reads_end Sha256 (λ h. (refl, refl))
-kind_tail Sha512_256 = reads_then _ (told_field told_as (given_field 2)) (λ known. reads_end Sha512_256 (λ h. (refl, refl)))
+kind_tail : (kind : HashKind) → IsTail (λ k. kind_bytes (is_second k)) (λ k. k ≡ kind) [] (Unit {0}) (said_kind_at kind)
+unfolding said_kind_at
+kind_tail kind = reads_then _ (told_field told_as (plain_kind_field (is_second kind))) (λ known. reads_end kind (λ h. (refl, refl)))
 
-kind_again : (kind k : HashKind) (rest : List ℕ) → k ≡ kind → kind_at kind (kind_bytes k ++ rest) ≡ Ok (k, rest)
-unfolding kind_at given_at
+kind_again : (kind k : HashKind) (rest : List ℕ) → k ≡ kind → said_kind_at kind (kind_bytes (is_second k) ++ rest) ≡ Ok (k, rest)
+unfolding said_kind_at kind_at given_at
 kind_again Sha256 Sha256 rest e = refl
 kind_again Sha256 Sha512_256 rest e = absurd cc
 kind_again Sha512_256 Sha256 rest e = absurd cc
 kind_again Sha512_256 Sha512_256 rest e = refl
 
-pub kind_field : (kind : HashKind) → IsField (kind_at kind) kind_bytes (λ k. k ≡ kind)
+pub kind_field : (kind : HashKind) → IsField (said_kind_at kind) (λ k. kind_bytes (is_second k)) (λ k. k ≡ kind)
 kind_field kind = record { takes = (kind_tail kind).takes tt; again = kind_again kind }
 
 module _ {X : Type 0} {reader : Reader X RecFault} {spell : X → List ℕ} {Fits : X → Type 0} (is : IsField reader spell Fits) where

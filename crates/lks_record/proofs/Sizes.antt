@@ -8,14 +8,14 @@ use Rattle.std.proofs.lemmas.List.Concat.{length-flat_map, flat_map-cons}
 use Rattle.std.proofs.lemmas.List.Elements.{recursion_from_All}
 use Rattle.std.proofs.lemmas.List.Sums.{sum_by-le, sum_by-cons}
 use Rattle.lks_base.specs.declared.limits.TheConstants.{MOST_BLOCKS, MOST_BLOCK_BYTES, MOST_CIRCLE, MOST_NOMINEES}
-use Rattle.lks_base.specs.declared.names.HashKind.{HashKind}
-use Rattle.lks_base.specs.declared.names.HashKind.TheVariants.{Sha256, Sha512_256}
 use Rattle.lks_base.specs.declared.names.Limits.{Limits}
 use Rattle.lks_base.specs.declared.names.Outcome.{Outcome}
 use Rattle.lks_base.specs.declared.names.Outcome.TheVariants.{Agreed, Inquorate, Split, NoSupplier}
 use Rattle.lks_base.specs.declared.names.PollName.{PollName}
 use Rattle.lks_base.specs.declared.records.Record.{Record}
 use Rattle.lks_base.specs.declared.records.Record.TheVariants.{Deposit, PollOpened, Nominated, OuterOpened, VoteIn, Shut, Asked, RepairBad, Replaced, Closed, Overdue, Joined, Committed, Voted, Served, Ended, Tuned}
+use Rattle.lks_base.specs.Kinds.{is_second}
+use Rattle.lks_field.proofs.KindFields.{kind_length}
 use Rattle.lks_record.specs.Spelling.{flag_bytes, kind_bytes, peer_bytes, hash_bytes, content_bytes, block_bytes, poll_bytes, limit_bytes, optional, outcome_bytes, spelling, batch_spelling, AreHashes, IsInLimits, IsBatch}
 use Rattle.lks_record.specs.Sizes.{most_bytes, most_batch_bytes}
 
@@ -44,10 +44,6 @@ short_repairs : (repairs : Option ℕ) → length (optional (to_be_bytes w16) re
 short_repairs None = omega arith
 short_repairs (Some repairs) = omega arith
 
-short_kind : (kind : HashKind) → length (kind_bytes kind) ≤ 1
-short_kind Sha256 = omega arith
-short_kind Sha512_256 = omega arith
-
 one_flag : (flag : Bool) → length (flag_bytes flag) ≡ 1
 one_flag true = refl
 one_flag false = refl
@@ -74,7 +70,7 @@ five_parts a b c d e = omega (arith, length-append (a ++ b ++ c ++ d) e, four_pa
 pub short_record : (r : Record) → IsInLimits r → length (spelling r) ≤ most_bytes r
 unfolding spelling
 short_record (Deposit au blocks) h = omega (arith, short_blocks blocks h.0.1 h.0.2)
-short_record (PollOpened number au nonce inner tick limits kind) h = omega (arith, five_parts nonce (peer_bytes inner) (to_be_bytes w32 tick) (optional limit_bytes limits) (kind_bytes kind), h.1.2, short_peers inner MOST_CIRCLE h.0.0, short_limits limits, short_kind kind)
+short_record (PollOpened number au nonce inner tick limits kind) h = omega (arith, five_parts nonce (peer_bytes inner) (to_be_bytes w32 tick) (optional limit_bytes limits) (kind_bytes (is_second kind)), h.1.2, short_peers inner MOST_CIRCLE h.0.0, short_limits limits, kind_length (is_second kind))
 short_record (Nominated number voter nominees) h = omega (arith, short_peers nominees MOST_NOMINEES h.0)
 short_record (OuterOpened number outer) h = omega (arith, short_peers outer MOST_CIRCLE h.0)
 short_record (VoteIn number voter hashes) h = omega (arith, short_hashes hashes h.0 h.1.2)
@@ -85,7 +81,7 @@ short_record (Replaced number au block bytes) h = omega (arith, h.0.1)
 short_record (Closed number outcome tick) h = omega (arith, length-append (outcome_bytes outcome) (to_be_bytes w32 tick), three_bytes outcome)
 short_record (Overdue au tick) h = omega arith
 short_record (Joined poll au tick low repairs) h = omega (arith, five_parts (poll_bytes poll) (to_be_bytes w16 au) (to_be_bytes w32 tick) (flag_bytes low) (optional (to_be_bytes w16) repairs), six_bytes poll, one_flag low, short_repairs repairs)
-short_record (Committed poll nonce version kind) h = omega (arith, four_parts (poll_bytes poll) nonce (to_be_bytes w32 version) (kind_bytes kind), six_bytes poll, h.1.1, short_kind kind)
+short_record (Committed poll nonce version kind) h = omega (arith, four_parts (poll_bytes poll) nonce (to_be_bytes w32 version) (kind_bytes (is_second kind)), six_bytes poll, h.1.1, kind_length (is_second kind))
 short_record (Voted poll hashes) h = omega (arith, length-append (poll_bytes poll) (hash_bytes hashes), six_bytes poll, short_hashes hashes h.0 h.1.1)
 short_record (Served poll block) h = omega (arith, length-append (poll_bytes poll) (to_be_bytes w16 block), six_bytes poll)
 short_record (Ended poll) h = omega (arith, six_bytes poll)

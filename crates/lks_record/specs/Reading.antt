@@ -4,6 +4,7 @@ use Rattle.std.specs.Int.{w16, w32}
 use Rattle.lks_base.specs.declared.limits.TheConstants.{LAST_BLOCK, MOST_BLOCKS, MOST_BLOCK_BYTES, MOST_CIRCLE, MOST_NOMINEES, MOST_REPAIRS}
 use Rattle.lks_base.specs.declared.records.Record.{Record}
 use Rattle.lks_base.specs.declared.records.Record.TheVariants as records
+use Rattle.lks_base.specs.Kinds.{is_second}
 use Rattle.lks_base.specs.declared.names.HashKind.{HashKind}
 use Rattle.lks_base.specs.declared.names.HashKind.TheVariants.{Sha256, Sha512_256}
 use Rattle.lks_base.specs.declared.names.Limits.{Limits}
@@ -11,7 +12,7 @@ use Rattle.lks_base.specs.declared.names.PollName.{PollName}
 use Rattle.lks_base.specs.declared.names.Outcome.{Outcome}
 use Rattle.lks_base.specs.declared.names.Outcome.TheVariants as outcomes
 use Rattle.lks_base.specs.Quorums.{obeys_quorum_rule}
-use Rattle.lks_field.specs.Reading.{◌>>=◌, byte_at, given_at, hash_at, number_at, upto_at, sized_at, list_at, end_of, tagged, FailsBut, GivesBut, ReadsBut}
+use Rattle.lks_field.specs.Reading.{◌>>=◌, byte_at, kind_at, hash_at, number_at, upto_at, sized_at, list_at, end_of, tagged, FailsBut, GivesBut, ReadsBut}
 use Rattle.lks_record.specs.declared.fault.RecFault.{RecFault}
 use Rattle.lks_record.specs.declared.fault.RecFault.TheVariants.{Form, Tag, Limit}
 use Rattle.lks_record.specs.declared.heading.Opening.{Opening}
@@ -142,12 +143,11 @@ optional_at reader true bytes = do
   x ← reader bytes
   Ok (Some x.0, x.1)
 
--- the second kind is spelled by a byte, the first by none
-unfoldable pub kind_at : HashKind → List ℕ → Result (HashKind × List ℕ) RecFault
-kind_at Sha256 bytes = Ok (Sha256, bytes)
-kind_at Sha512_256 bytes = do
-  known ← field (given_at 2 bytes)
-  Ok (Sha512_256, known.1)
+-- the kind that a heading tells, and its byte
+unfoldable pub said_kind_at : HashKind → List ℕ → Result (HashKind × List ℕ) RecFault
+said_kind_at kind bytes = do
+  known ← field (kind_at (is_second kind) bytes)
+  Ok (kind, known.1)
 
 -- the greatest block that may follow a code
 abbrev pub last_block : ℕ → ℕ
@@ -198,7 +198,7 @@ opened_at opening bytes = do
   inner ← peers_at MOST_CIRCLE nonce.1
   tick ← long_at inner.1
   limits ← optional_at limits_at (is_limited opening) tick.1
-  kind ← kind_at (kind_in opening) limits.1
+  kind ← said_kind_at (kind_in opening) limits.1
   Ok (records.PollOpened number.0 au.0 nonce.0 inner.0 tick.0 limits.0 kind.0, kind.1)
 
 -- a nomination that came in
@@ -286,7 +286,7 @@ committed_at as_kind bytes = do
   poll ← poll_at bytes
   nonce ← nonce_at poll.1
   version ← long_at nonce.1
-  kind ← kind_at as_kind version.1
+  kind ← said_kind_at as_kind version.1
   Ok (records.Committed poll.0 nonce.0 version.0 kind.0, kind.1)
 
 -- a vote that went out

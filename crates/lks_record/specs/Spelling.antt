@@ -2,6 +2,7 @@
 use Rattle.std.specs.Prelude.{◌≡◌, ℕ, ◌<◌, ◌≤◌, ◌^◌, Bool, true, Option, None, Some, IfSome, List, [], ◌∷◌, ◌++◌, length, All}
 use Rattle.std.specs.List.{flat_map}
 use Rattle.std.specs.Int.{w16, w32, to_be_bytes}
+use Rattle.lks_base.specs.Kinds.{is_second}
 use Rattle.lks_base.specs.declared.limits.TheConstants.{LAST_BLOCK, MOST_BLOCKS, MOST_BLOCK_BYTES, MOST_CIRCLE, MOST_NOMINEES, MOST_REPAIRS}
 use Rattle.lks_base.specs.declared.records.Record.{Record}
 use Rattle.lks_base.specs.declared.records.Record.TheVariants.{Deposit, PollOpened, Nominated, OuterOpened, VoteIn, Shut, Asked, RepairBad, Replaced, Closed, Overdue, Joined, Committed, Voted, Served, Ended, Tuned}
@@ -13,7 +14,7 @@ use Rattle.lks_base.specs.declared.names.Outcome.{Outcome}
 use Rattle.lks_base.specs.declared.names.Outcome.TheVariants.{Agreed, Inquorate, Split, NoSupplier}
 use Rattle.lks_base.specs.Quorums.{obeys_quorum_rule}
 use Rattle.lks_field.specs.Spelling.{flag}
-pub use Rattle.lks_field.specs.Spelling.{number_bytes as peer_bytes, hash_bytes, sized_bytes as content_bytes}
+pub use Rattle.lks_field.specs.Spelling.{kind_bytes, number_bytes as peer_bytes, hash_bytes, sized_bytes as content_bytes}
 
 -- what each record begins with: its form and its tag
 abbrev pub start : ℕ → ℕ → List ℕ
@@ -38,11 +39,6 @@ committed_form Sha512_256 = 2
 -- the byte of yes or no
 abbrev pub flag_bytes : Bool → List ℕ
 flag_bytes told = flag told ∷ []
-
--- the second kind has a byte, the first none
-abbrev pub kind_bytes : HashKind → List ℕ
-kind_bytes Sha256 = []
-kind_bytes Sha512_256 = 2 ∷ []
 
 -- blocks behind their count
 abbrev pub block_bytes : List (List ℕ) → List ℕ
@@ -74,7 +70,7 @@ outcome_bytes (NoSupplier block) = 3 ∷ to_be_bytes w16 block
 unfoldable pub spelling : Record → List ℕ
 spelling (Deposit au blocks) = start 1 1 ++ to_be_bytes w16 au ++ block_bytes blocks
 spelling (PollOpened number au nonce inner tick limits kind) =
-    start (opening_form limits kind) 2 ++ to_be_bytes w32 number ++ to_be_bytes w16 au ++ nonce ++ peer_bytes inner ++ to_be_bytes w32 tick ++ optional limit_bytes limits ++ kind_bytes kind
+    start (opening_form limits kind) 2 ++ to_be_bytes w32 number ++ to_be_bytes w16 au ++ nonce ++ peer_bytes inner ++ to_be_bytes w32 tick ++ optional limit_bytes limits ++ kind_bytes (is_second kind)
 spelling (Nominated number voter nominees) = start 1 3 ++ to_be_bytes w32 number ++ to_be_bytes w16 voter ++ peer_bytes nominees
 spelling (OuterOpened number outer) = start 1 4 ++ to_be_bytes w32 number ++ peer_bytes outer
 spelling (VoteIn number voter hashes) = start 1 5 ++ to_be_bytes w32 number ++ to_be_bytes w16 voter ++ hash_bytes hashes
@@ -85,7 +81,7 @@ spelling (Replaced number au block bytes) = start 1 9 ++ to_be_bytes w32 number 
 spelling (Closed number outcome tick) = start 1 10 ++ to_be_bytes w32 number ++ outcome_bytes outcome ++ to_be_bytes w32 tick
 spelling (Overdue au tick) = start 1 11 ++ to_be_bytes w16 au ++ to_be_bytes w32 tick
 spelling (Joined poll au tick low repairs) = start (joined_form repairs) 12 ++ poll_bytes poll ++ to_be_bytes w16 au ++ to_be_bytes w32 tick ++ flag_bytes low ++ optional (to_be_bytes w16) repairs
-spelling (Committed poll nonce version kind) = start (committed_form kind) 13 ++ poll_bytes poll ++ nonce ++ to_be_bytes w32 version ++ kind_bytes kind
+spelling (Committed poll nonce version kind) = start (committed_form kind) 13 ++ poll_bytes poll ++ nonce ++ to_be_bytes w32 version ++ kind_bytes (is_second kind)
 spelling (Voted poll hashes) = start 1 14 ++ poll_bytes poll ++ hash_bytes hashes
 spelling (Served poll block) = start 1 15 ++ poll_bytes poll ++ to_be_bytes w16 block
 spelling (Ended poll) = start 1 16 ++ poll_bytes poll

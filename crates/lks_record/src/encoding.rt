@@ -7,11 +7,11 @@ ghost use Rattle.lks_record.specs.Reading.{decode_of};
 ghost use Rattle.lks_record.specs.Sizes.{most_batch_bytes};
 
 use crate::writing::{
-    Written, put_blocks, put_flag, put_kind, put_limits, put_optional_limits, put_optional_repairs,
+    Written, put_blocks, put_flag, put_limits, put_optional_limits, put_optional_repairs,
     put_outcome, put_poll, put_start,
 };
 use lks_base::{Bytes, HashKind, Limits, OutOfMemory, Outcome, PollName, Record};
-use lks_field::{put_be16, put_be32, put_bytes, put_hashes, put_numbers, put_sized};
+use lks_field::{put_be16, put_be32, put_bytes, put_hashes, put_kind, put_numbers, put_sized};
 use std::alloc::Global;
 
 fn form_of_opening(limits: Option<Limits>, kind: HashKind) -> u8
@@ -76,7 +76,7 @@ fn put_opened(
     put_numbers(out, inner)?;
     put_be32(out, tick)?;
     put_optional_limits(out, limits)?;
-    put_kind(out, kind)
+    put_kind(out, kind.second())
 }
 
 #[tactic(auto, unfolding(crate::specs::Spelling::spelling))]
@@ -214,7 +214,7 @@ fn put_committed(
     put_poll(out, poll)?;
     put_bytes(out, nonce)?;
     put_be32(out, version)?;
-    put_kind(out, kind)
+    put_kind(out, kind.second())
 }
 
 #[tactic(auto, unfolding(crate::specs::Spelling::spelling))]

@@ -2,7 +2,7 @@
 
 ghost use Rattle.std.specs.Prelude.{◌≡◌};
 ghost use Rattle.lks_field.specs.Reading.{many_at};
-ghost use Rattle.lks_record.specs.Reading.{Reads, id_at, long_at, nonce_at, flag_at, from_one_at, peers_at, hashes_at, block_at, content_at, blocks_at, poll_at, minority_at, limits_at, repairs_at, optional_at, kind_at, outcome_at};
+ghost use Rattle.lks_record.specs.Reading.{Reads, id_at, long_at, nonce_at, flag_at, from_one_at, peers_at, hashes_at, block_at, content_at, blocks_at, poll_at, minority_at, limits_at, repairs_at, optional_at, said_kind_at, outcome_at};
 
 use crate::fault::RecFault;
 use lks_base::{
@@ -163,17 +163,12 @@ pub fn optional_repairs(told: bool, fields: &mut Fields<'_>) -> Result<Option<u1
 }
 
 /// The kind, which has a byte only where it is the second.
-#[tactic(auto, unfolding(crate::specs::Reading::kind_at))]
+#[tactic(auto, unfolding(crate::specs::Reading::said_kind_at))]
 pub fn kind_of(kind: HashKind, fields: &mut Fields<'_>) -> Result<HashKind, RecFault>
-    ensures { Reads result fields.new (kind_at kind fields.old) }
+    ensures { Reads result fields.new (said_kind_at kind fields.old) }
 {
-    match kind {
-        HashKind::Sha256 => Ok(HashKind::Sha256),
-        HashKind::Sha512_256 => {
-            fields.get_given(2)?;
-            Ok(HashKind::Sha512_256)
-        }
-    }
+    fields.get_kind(kind.second())?;
+    Ok(kind)
 }
 
 #[tactic(auto, unfolding(crate::specs::Reading::outcome_at))]

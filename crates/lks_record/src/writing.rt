@@ -3,9 +3,9 @@
 ghost use Rattle.std.specs.Prelude.{◌≡◌, ◌≤◌, ◌++◌, ◌∷◌, length, OnOk, All};
 ghost use Rattle.std.specs.Int.{w16, to_be_bytes};
 ghost use Rattle.lks_base.specs.declared.limits.TheConstants.{MOST_BLOCKS, MOST_BLOCK_BYTES};
-ghost use Rattle.lks_record.specs.Spelling.{start, kind_bytes, block_bytes, flag_bytes, poll_bytes, limit_bytes, optional, outcome_bytes};
+ghost use Rattle.lks_record.specs.Spelling.{start, block_bytes, flag_bytes, poll_bytes, limit_bytes, optional, outcome_bytes};
 
-use lks_base::{Bytes, HashKind, Limits, Outcome, PollName};
+use lks_base::{Bytes, Limits, Outcome, PollName};
 use lks_field::{put_be16, put_be32, put_sized, put_u8};
 
 pub type Written = Result<(), lks_field::OutOfMemory>;
@@ -63,16 +63,6 @@ pub fn put_optional_repairs(out: &mut Vec<u8>, repairs: Option<u16>) -> Written
     match repairs {
         None => Ok(()),
         Some(repairs) => put_be16(out, repairs),
-    }
-}
-
-/// A byte for the second kind, nothing for the first.
-pub fn put_kind(out: &mut Vec<u8>, kind: HashKind) -> Written
-    ensures { OnOk result (out.new.items ≡ out.old.items ++ kind_bytes kind) }
-{
-    match kind {
-        HashKind::Sha256 => Ok(()),
-        HashKind::Sha512_256 => put_u8(out, 2),
     }
 }
 

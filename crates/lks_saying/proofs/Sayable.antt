@@ -53,7 +53,7 @@ version_small : (kind : HashKind) → version_of kind < 256
 version_small Sha256 = omega arith
 version_small Sha512_256 = omega arith
 
-kind_are : (kind : HashKind) → AreBytes (kind_bytes kind)
+kind_are : (kind : HashKind) → AreBytes (kind_bytes (is_second kind))
 kind_are Sha256 = no_bytes
 kind_are Sha512_256 = single_bytes 2 (omega arith)
 
@@ -74,8 +74,8 @@ unfolding spelling
 proof_sayable number nonce kind proof hash short are = record {
   few = short_spelling (message.PollProof 0 nonce kind proof) (short, (omega arith, hash.size));
   are =
-      append_bytes (start (version_of kind) 3 number ++ nonce ++ kind_bytes kind) (proof_bytes proof)
-      (append_bytes (start (version_of kind) 3 number ++ nonce) (kind_bytes kind)
+      append_bytes (start (version_of kind) 3 number ++ nonce ++ kind_bytes (is_second kind)) (proof_bytes proof)
+      (append_bytes (start (version_of kind) 3 number ++ nonce) (kind_bytes (is_second kind))
       (append_bytes (start (version_of kind) 3 number) nonce (start_bytes (version_of kind) 3 number (version_small kind) (omega arith)) hash.are)
       (kind_are kind))
       (cons_bytes (length proof) proof (omega (arith, short)) are);

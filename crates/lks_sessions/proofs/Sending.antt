@@ -14,13 +14,14 @@ use Rattle.lks_hash.proofs.RunningLaws.{hashes_length}
 use Rattle.lks_hash.specs.Hashes.{key_of}
 use Rattle.lks_hash.specs.Running.{hashes_of}
 use Rattle.lks_law.specs.Answering.{hashes_for}
+use Rattle.lks_law.specs.Fitting.{AreSmall, IsPinnedWell, IsCastWell}
 use Rattle.lks_law.specs.Polls.{Station}
 use Rattle.lks_law.specs.Reaction.{nothing}
 use Rattle.lks_law.specs.Sessions.{is_poll}
 use Rattle.lks_law.specs.Voting.{vote_hashes, answers, adds, serves}
 use Rattle.lks_sessions.specs.Giving.{repair, given}
 use Rattle.lks_sessions.specs.Kept.{Kept, pinned_of, cast_of, voter_of, IsPinnedOf, IsCastOf, IsOf}
-use Rattle.lks_sessions.specs.Sendable.{IsShort, CanVote, CanSend, IsSendable}
+use Rattle.lks_sessions.specs.Sendable.{IsSendable}
 use Rattle.lks_sessions.specs.declared.stages.PinnedSession.{PinnedSession}
 use Rattle.lks_sessions.specs.declared.stages.CastSession.{CastSession}
 use Rattle.lks_voter.specs.Voting.{answer_of}
@@ -46,11 +47,11 @@ module _ {E : Type 0} (P : E → Type 0) (t : E → Bool) where
       here true is rest = let same : x ≡ e = cc in subst P same (All-head P x es all)
       here false is rest = rest is
 
-pub can_vote : (q : PollName) (k : Kept) (p : PinnedSession) → Some p ≡ find (λ (p : PinnedSession). is_poll p.committed.joined.poll q) k.pinned → IsSendable (voter_of k) → CanVote (pinned_of p)
-can_vote q k p is all = found_is pinned_of CanVote (λ (p : PinnedSession). is_poll p.committed.joined.poll q) k.pinned p is all.pinned
+pub can_vote : (q : PollName) (k : Kept) (p : PinnedSession) → Some p ≡ find (λ (p : PinnedSession). is_poll p.committed.joined.poll q) k.pinned → IsSendable (voter_of k) → IsPinnedWell (pinned_of p)
+can_vote q k p is all = found_is pinned_of IsPinnedWell (λ (p : PinnedSession). is_poll p.committed.joined.poll q) k.pinned p is all.pinned
 
-pub can_send : (q : PollName) (k : Kept) (c : CastSession) → Some c ≡ find (λ (c : CastSession). is_poll c.voted.committed.joined.poll q) k.cast → IsSendable (voter_of k) → CanSend (cast_of c)
-can_send q k c is all = found_is cast_of CanSend (λ (c : CastSession). is_poll c.voted.committed.joined.poll q) k.cast c is all.cast
+pub can_send : (q : PollName) (k : Kept) (c : CastSession) → Some c ≡ find (λ (c : CastSession). is_poll c.voted.committed.joined.poll q) k.cast → IsSendable (voter_of k) → IsCastWell (cast_of c)
+can_send q k c is all = found_is cast_of IsCastWell (λ (c : CastSession). is_poll c.voted.committed.joined.poll q) k.cast c is all.cast
 
 pub pinned_from : (pool : List ℕ) (q : PollName) (k : Kept) (p : PinnedSession) → Some p ≡ find (λ (p : PinnedSession). is_poll p.committed.joined.poll q) k.pinned → IsOf pool k → AllOf pool p.refs
 pinned_from pool q k p is of = found_so (IsPinnedOf pool) (λ (p : PinnedSession). is_poll p.committed.joined.poll q) k.pinned p is of.pinned
@@ -74,10 +75,10 @@ hashes_count own p = hashes_length (is_second p.committed.kind) _ (bytes_of p.re
 
 -- A repair.
 
-pub short_at : (bs : List (List ℕ)) (b : ℕ) (bytes : List ℕ) → slice_get bs b ≡ Some bytes → All IsShort bs → length bytes ≤ MOST_BLOCK_BYTES
+pub short_at : (bs : List (List ℕ)) (b : ℕ) (bytes : List ℕ) → slice_get bs b ≡ Some bytes → AreSmall bs → length bytes ≤ MOST_BLOCK_BYTES
 short_at [] b bytes is all = absurd cc
-short_at (x ∷ bs) zero bytes is all = let same : x ≡ bytes = cc in subst IsShort same (All-head IsShort x bs all)
-short_at (x ∷ bs) (suc b) bytes is all = short_at bs b bytes is (All-tail IsShort x bs all)
+short_at (x ∷ bs) zero bytes is all = let same : x ≡ bytes = cc in subst (λ b. length b ≤ MOST_BLOCK_BYTES) same (All-head (λ b. length b ≤ MOST_BLOCK_BYTES) x bs all)
+short_at (x ∷ bs) (suc b) bytes is all = short_at bs b bytes is (All-tail (λ b. length b ≤ MOST_BLOCK_BYTES) x bs all)
 
 pub given_seen : (q : PollName) (b : ℕ) (c : CastSession) (bytes : List ℕ) → serves q b c.repairs c.voted.served (Some bytes) ≡ given q b bytes (answer_of c.voted b c.repairs)
 given_seen q b c bytes = by_member (has_member c.voted.served b) (nat_lt (length c.voted.served) c.repairs) (nat_le c.repairs (length c.voted.served)) (grind (arith, nat_tests))

@@ -1,10 +1,9 @@
 -- What a record of a peer's part in a poll of another needs, and what can be sent.
-use Rattle.std.specs.Prelude.{◌≡◌, ◌<◌, ◌≤◌, ℕ, false, List, length, All}
+use Rattle.std.specs.Prelude.{◌≡◌, ◌<◌, ℕ, false, List, length, All}
 use Rattle.lks_base.specs.Checking.{has_member}
-use Rattle.lks_base.specs.declared.limits.TheConstants.{MOST_BLOCKS, MOST_BLOCK_BYTES}
 use Rattle.lks_base.specs.declared.names.PollName.{PollName}
-use Rattle.lks_law.specs.Fitting.{Where, IsCounted}
-use Rattle.lks_law.specs.Taking.{Session, Pinned, Cast, Voter, session_at, cast_at}
+use Rattle.lks_law.specs.Fitting.{Where, IsPinnedWell, IsCastWell}
+use Rattle.lks_law.specs.Taking.{Session, Cast, Voter, session_at, cast_at}
 
 -- Records.
 
@@ -22,27 +21,7 @@ MayServe q block casts = Where (cast_at q casts) (MayHave block)
 
 -- Messages.
 
--- a block of which a repair can be made
-abbrev pub IsShort : List ℕ → Type 0
-IsShort bytes = length bytes ≤ MOST_BLOCK_BYTES
-
--- blocks of a version to which a session can be committed
-pub record CanPin (blocks : List (List ℕ)) : Type 0 where
-  pub counted : IsCounted blocks
-  pub short : All IsShort blocks
-
--- a session of which a vote can be made
-pub record CanVote (p : Pinned) : Type 0 where
-  pub counted : IsCounted p.blocks
-  pub short : All IsShort p.blocks
-
--- a session of which votes and repairs can be sent
-pub record CanSend (c : Cast) : Type 0 where
-  pub counted : IsCounted c.pinned.blocks
-  pub short : All IsShort c.pinned.blocks
-  pub hashes : length c.hashes ≤ MOST_BLOCKS
-
--- a voter all of whose sessions are such
+-- a voter of whose sessions votes and repairs can be sent
 pub record IsSendable (v : Voter) : Type 0 where
-  pub pinned : All CanVote v.pinned
-  pub cast : All CanSend v.cast
+  pub pinned : All IsPinnedWell v.pinned
+  pub cast : All IsCastWell v.cast

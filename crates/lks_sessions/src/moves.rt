@@ -3,9 +3,10 @@
 ghost use Rattle.std.specs.Prelude.{◌≡◌, ◌<◌, ◌↔◌, ◌++◌, IsTrue, ℕ, List, map, vec_len, vec_capacity, OnOk, OnErr, All};
 ghost use Rattle.lks_blocks.specs.Block.{AllOf, bytes_of};
 ghost use Rattle.lks_law.specs.Firsts.{changed_first, without_first};
+ghost use Rattle.lks_law.specs.Fitting.{AreWell, IsPinnedWell};
 ghost use Rattle.lks_law.specs.Taking.{is_session_of, is_pinned_of, is_cast_of, session_at, pinned_at, pinning, casting, serving};
 ghost use Rattle.lks_sessions.specs.Kept.{session_of, pinned_of, cast_of, IsPinnedOf, IsCastOf};
-ghost use Rattle.lks_sessions.specs.Sendable.{CanPin, CanVote, PinsBlocks, MayHave, MayServe};
+ghost use Rattle.lks_sessions.specs.Sendable.{PinsBlocks, MayHave, MayServe};
 
 use crate::stages::{
     CastSession, JoinedSession, PinnedSession, place_of_cast, place_of_joined, place_of_pinned,
@@ -62,7 +63,7 @@ pub fn pin(
 ) -> Result<(), OutOfMemory>
     ensures left { OnOk result (map session_of joined.new.items ≡ without_first (is_session_of poll) (map session_of joined.old.items)) }
     ensures pinned { OnOk result ((blocks : ℕ → List (List ℕ)) → PinsBlocks blocks poll (bytes_of refs) (map session_of joined.old.items) → map pinned_of pinned.new.items ≡ map pinned_of pinned.old.items ++ pinning blocks (record { nonce = nonce; version = version; kind = kind }) (session_at poll (map session_of joined.old.items))) }
-    ensures sendable { CanPin (bytes_of refs) → All CanVote (map pinned_of pinned.old.items) → All CanVote (map pinned_of pinned.new.items) }
+    ensures sendable { AreWell (bytes_of refs) → All IsPinnedWell (map pinned_of pinned.old.items) → All IsPinnedWell (map pinned_of pinned.new.items) }
     ensures of { (pool : List ℕ) → AllOf pool refs → All (IsPinnedOf pool) pinned.old.items → All (IsPinnedOf pool) pinned.new.items }
     ensures err { OnErr result ((joined.new.items ≡ joined.old.items) × (pinned.new.items ≡ pinned.old.items)) }
 {

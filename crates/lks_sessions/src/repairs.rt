@@ -4,9 +4,10 @@ ghost use Rattle.std.specs.Prelude.{◌≡◌, ◌≤◌, Some, IfOk, length};
 ghost use Rattle.lks_base.specs.declared.limits.TheConstants.{LAST_BLOCK, MOST_BLOCK_BYTES};
 ghost use Rattle.lks_blocks.specs.Block.{AllOf};
 ghost use Rattle.lks_law.specs.Answering.{end_in, request_at, request_in};
+ghost use Rattle.lks_law.specs.Fitting.{IsCastWell};
 ghost use Rattle.lks_sessions.specs.Giving.{given, repair};
 ghost use Rattle.lks_sessions.specs.Kept.{cast_of, voter_of, IsOf};
-ghost use Rattle.lks_sessions.specs.Sendable.{CanSend, IsSendable};
+ghost use Rattle.lks_sessions.specs.Sendable.{IsSendable};
 
 use crate::sessions::Sessions;
 use crate::stages::CastSession;
@@ -67,7 +68,7 @@ fn serve(
     block: u16,
 ) -> Result<Reaction, OutOfMemory>
     requires of { AllOf pool.now session.now.refs }
-    requires sendable { CanSend (cast_of session.now) }
+    requires sendable { IsCastWell (cast_of session.now) }
     ensures { IfOk result (λ r. r ≡ request_at poll block (Some (cast_of session.now))) }
 {
     let version = Newest::new(pool, session.refs.as_slice());

@@ -9,12 +9,12 @@ ghost use Rattle.lks_base.specs.declared.events.PeerStep.TheVariants as steps;
 ghost use Rattle.lks_base.specs.declared.records.Record.TheVariants as record_of;
 ghost use Rattle.lks_blocks.specs.Block.{AllOf, bytes_of};
 ghost use Rattle.lks_law.specs.Answering as answering;
-ghost use Rattle.lks_law.specs.Fitting.{marks_left};
+ghost use Rattle.lks_law.specs.Fitting.{AreWell, marks_left};
 ghost use Rattle.lks_law.specs.Journal as journal;
 ghost use Rattle.lks_law.specs.Sessions.{is_poll};
 ghost use Rattle.lks_law.specs.Taking.{newcomer, voter_after, session_at, pinned_at, cast_at, mark_at};
 ghost use Rattle.lks_sessions.specs.Kept.{session_of, pinned_of, cast_of, voter_of, IsOf, StaysOf, StaysSendable};
-ghost use Rattle.lks_sessions.specs.Sendable.{CanPin, IsSendable, MayServe, PinsBlocks};
+ghost use Rattle.lks_sessions.specs.Sendable.{IsSendable, MayServe, PinsBlocks};
 
 use crate::marks::{Mark, can_all_grow, count_given, count_received, mark_of};
 use crate::moves;
@@ -141,7 +141,7 @@ impl Sessions {
     ) -> Result<(), OutOfMemory>
         ensures state { OnOk result ((rules : RulesOf) (blocks : ℕ → List (List ℕ)) → PinsBlocks blocks poll (bytes_of refs) (voter_of self.old).sessions → voter_of self.new ≡ voter_after rules blocks (record_of.Committed poll nonce version kind) (voter_of self.old)) }
         ensures of { (pool : List ℕ) → AllOf pool refs → IsOf pool self.old → IsOf pool self.new }
-        ensures sendable { CanPin (bytes_of refs) → StaysSendable self.old self.new }
+        ensures sendable { AreWell (bytes_of refs) → StaysSendable self.old self.new }
         ensures err { OnErr result (self.new ≡ self.old) }
     {
         moves::pin(

@@ -5,12 +5,13 @@ ghost use Rattle.lks_base.specs.declared.limits.TheConstants.{MOST_BLOCKS, MOST_
 ghost use Rattle.lks_base.specs.declared.messages.Message.TheVariants as message;
 ghost use Rattle.lks_blocks.specs.Block.{AllOf};
 ghost use Rattle.lks_law.specs.Answering.{hashes_for, proof_in, version_at, work_in};
+ghost use Rattle.lks_law.specs.Fitting.{IsCastWell, IsPinnedWell};
 ghost use Rattle.lks_law.specs.Reaction.{letter};
 ghost use Rattle.lks_law.specs.Voting as law;
 ghost use Rattle.lks_law.specs.Voting.{commits, commits_again, nominates, votes_with};
 ghost use Rattle.lks_audit.specs.Copied.{copies_of};
 ghost use Rattle.lks_sessions.specs.Kept.{cast_of, commitment_of, pinned_of, voter_of, IsOf};
-ghost use Rattle.lks_sessions.specs.Sendable.{CanSend, CanVote, IsSendable};
+ghost use Rattle.lks_sessions.specs.Sendable.{IsSendable};
 
 use crate::draws::pick_nominees;
 use crate::sessions::Sessions;
@@ -153,7 +154,7 @@ fn vote_again(
     nonce: &[u8; 32],
     kind: HashKind,
 ) -> Result<Reaction, OutOfMemory>
-    requires sendable { CanSend (cast_of session.now) }
+    requires sendable { IsCastWell (cast_of session.now) }
     requires proof { length own.now.proof ≤ MOST_PROOF_BYTES }
     ensures { IfOk result (λ r. r ≡ commits_again own.now refs.now poll (commitment_of session.now.voted.committed) nonce.now kind (Some session.now.voted.hashes)) }
 {
@@ -206,7 +207,7 @@ fn hash_pinned(
     session: &PinnedSession,
 ) -> Result<Hashes, OutOfMemory>
     requires of { AllOf pool.now session.now.refs }
-    requires counted { CanVote (pinned_of session.now) }
+    requires counted { IsPinnedWell (pinned_of session.now) }
     ensures hashes { IfOk result (λ hashes. hashes ≡ hashes_for own.now (pinned_of session.now)) }
     ensures few { IfOk result (λ hashes. length hashes ≤ MOST_BLOCKS) }
 {
@@ -237,7 +238,7 @@ fn vote(
     poll: PollName,
 ) -> Result<Reaction, OutOfMemory>
     requires of { AllOf pool.now session.now.refs }
-    requires counted { CanVote (pinned_of session.now) }
+    requires counted { IsPinnedWell (pinned_of session.now) }
     requires proof { length own.now.proof ≤ MOST_PROOF_BYTES }
     ensures { IfOk result (λ r. r ≡ votes_with own.now poll (hashes_for own.now (pinned_of session.now))) }
 {

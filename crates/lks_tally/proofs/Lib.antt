@@ -3,3 +3,4 @@ pub mod Caching
 pub mod Deciding
 mod RowLaws
 mod Steps
+pub mod Voters

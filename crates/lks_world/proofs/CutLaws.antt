@@ -1,5 +1,5 @@
 -- Who takes a step, and which step a line cuts off.
-use Rattle.std.proofs.Common.{◌≡◌, ◌≤◌, ◌<◌, ap, subst, ℕ, suc, Bool, true, false, cond, eqb, List, [], ◌∷◌, length, refl, arith}
+use Rattle.std.proofs.Common.{◌≡◌, ◌≤◌, ◌<◌, ap, subst, ℕ, Bool, true, false, cond, List, [], ◌∷◌, length, refl, arith}
 use Rattle.std.specs.Prelude.{Option, Some, None, IfSome, slice_get, option_map, nat_lt}
 use Rattle.std.proofs.lemmas.Bool.{ltb-true}
 use Rattle.lks_base.specs.declared.events.Envelope.{Envelope}
@@ -9,7 +9,7 @@ use Rattle.lks_base.specs.declared.events.PeerStep.TheVariants.{OpenPoll, Widen,
 use Rattle.lks_base.specs.declared.messages.Message.{Message}
 use Rattle.lks_base.specs.declared.plans.Plan.{Plan}
 use Rattle.lks_law.proofs.Happening.{delivery_may, lose_may, standing_honest}
-use Rattle.lks_law.proofs.Linking.{at_own}
+use Rattle.lks_law.proofs.Linking.{at_own, found_at}
 use Rattle.lks_law.specs.Due.{pending, first_waiting, next_to_lose}
 use Rattle.lks_law.specs.Entries.{receiver_of}
 use Rattle.lks_law.specs.Histories.{IsHonest, MayStep}
@@ -46,15 +46,6 @@ whose_deed bag (Deliver envelope judged) = by_envelope (slice_get bag envelope)
     by_envelope (Some e) = by_message e (message_in e.bytes)
 
 -- a peer of a world is honest
-
-found_at : (id : ℕ) (peers : List Standing) (s : Standing) → peer_at id peers ≡ Some s → (k : ℕ) × (slice_get peers k ≡ Some s)
-unfolding peer_at
-found_at id [] s e = absurd cc
-found_at id (p ∷ ps) s e = by_id (eqb p.own.id id) e (found_at id ps s)
-  where
-    by_id : (b : Bool) → cond b (Some p) (peer_at id ps) ≡ Some s → (peer_at id ps ≡ Some s → (k : ℕ) × (slice_get ps k ≡ Some s)) → (k : ℕ) × (slice_get (p ∷ ps) k ≡ Some s)
-    by_id true e rest = (0, e)
-    by_id false e rest = let r = rest e in (suc r.0, r.1)
 
 pub honest_at : (plan : Plan) (history : List Event) (id : ℕ) (s : Standing) → peer_at id (world plan history).peers ≡ Some s → IsHonest plan id
 honest_at plan history id s e =

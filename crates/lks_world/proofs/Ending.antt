@@ -1,5 +1,5 @@
 -- Steps during which the power fails, in the state of a world.
-use Rattle.std.proofs.Common.{◌≡◌, ◌≤◌, ◌<◌, ◌⊎◌, ◌∙◌, inl, inr, ap, sym, subst, ℕ, zero, suc, Bool, true, false, cond, eqb, List, [], ◌∷◌, ◌++◌, length, refl, arith}
+use Rattle.std.proofs.Common.{◌≡◌, ◌≤◌, ◌<◌, ◌⊎◌, ◌∙◌, inl, inr, ap, sym, subst, ℕ, Bool, true, false, cond, eqb, List, [], ◌∷◌, ◌++◌, length, refl, arith}
 use Rattle.std.specs.Prelude.{Option, Some, None, Result, Ok, Err, OnOk, IsErrOf, IsSome, MatchOption, is_some, filter, map, not, option_map, slice_get}
 use Rattle.std.specs.List.{range_with_len}
 use Rattle.std.proofs.lemmas.List.{append-nil}
@@ -15,6 +15,7 @@ use Rattle.lks_base.specs.declared.records.Record.{Record}
 use Rattle.lks_disk.specs.Face.{Face}
 use Rattle.lks_host.specs.Hosted.{IsMadeBy}
 use Rattle.lks_law.proofs.Journals.{journals_are_own}
+use Rattle.lks_law.proofs.Lists.{filter_at}
 use Rattle.lks_law.specs.Entries.{carried, entry_for, entry_of}
 use Rattle.lks_law.specs.Facts.{HasJournal}
 use Rattle.lks_law.specs.Histories.{IsHonest, MayStep, added_by}
@@ -36,17 +37,6 @@ use Rattle.lks_world.specs.declared.faults.WorldFault.{WorldFault}
 use Rattle.lks_world.specs.declared.faults.WorldFault.TheVariants.{Disk}
 use Rattle.lks_world.specs.declared.seats.Seat.{Seat}
 use Rattle.lks_world.specs.declared.states.State.{State}
-
--- what a filter lets pass stands in the list
-filter_at : {X : Type 0} (test : X → Bool) (xs : List X) (k : ℕ) (x : X) → slice_get (filter test xs) k ≡ Some x → (i : ℕ) × (slice_get xs i ≡ Some x) × (test x ≡ true)
-filter_at test [] k x at = absurd cc
-filter_at {X = X} test (y ∷ ys) k x at = by_test (test y) refl k at (filter_at test ys)
-  where
-    by_test : (b : Bool) → test y ≡ b → (k : ℕ) → slice_get (cond b (y ∷ filter test ys) (filter test ys)) k ≡ Some x
-        → ((k : ℕ) (x : X) → slice_get (filter test ys) k ≡ Some x → (i : ℕ) × (slice_get ys i ≡ Some x) × (test x ≡ true)) → (i : ℕ) × (slice_get (y ∷ ys) i ≡ Some x) × (test x ≡ true)
-    by_test true is zero at later = let same : y ≡ x = cc in (0, at, ap test (sym same) ∙ is)
-    by_test true is (suc k) at later = let r = later k x at in (suc r.0, r.1, r.2)
-    by_test false is k at later = let r = later k x at in (suc r.0, r.1, r.2)
 
 not_corrupt : (b : Bool) → not b ≡ true → b ≡ false
 not_corrupt true honest = absurd cc

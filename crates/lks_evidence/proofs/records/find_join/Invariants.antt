@@ -1,5 +1,6 @@
 use Rattle.std.proofs.Common.{◌≡◌, drop}
-use Rattle.lks_evidence.specs.Records.{first_in, join_in}
+use Rattle.lks_law.specs.Sessions.{first_in}
+use Rattle.lks_evidence.specs.Records.{join_in}
 use Rattle.lks_evidence.proofs.records.find_join.Given as goal
 
 abbrev pub invariant-loop-r : goal.invariant-loop-r

@@ -1,6 +1,9 @@
-use Rattle.std.proofs.Common.{◌≡◌, ◌∙◌, ◌+◌, ◌≤◌, ◌<◌, inl, inr, ⊎_elim, ap, sym, subst, [], length, arith, rules}
+use Rattle.std.proofs.Common.{◌≡◌, ◌∙◌, ◌+◌, ◌≤◌, ◌<◌, ◌⊎◌, inl, inr, ⊎_elim, ap, sym, subst, ℕ, List, [], length, refl, arith, rules}
 use Rattle.std.specs.Prelude.{IsErrOf}
+use Rattle.lks_base.specs.declared.reactions.Input.{Input}
 use Rattle.lks_base.specs.declared.reactions.Reaction.{Reaction}
+use Rattle.lks_base.specs.declared.records.Record.{Record}
+use Rattle.lks_disk.specs.Counts.{Rose}
 use Rattle.lks_law.specs.Table.{react_on}
 use Rattle.lks_host.proofs.Cuts.{cut_lies, cut_read, kept_by_count, lost_by_count, little_longer, none_or_some, rose_between}
 use Rattle.lks_host.specs.Cutting.{IsCutShort}
@@ -12,172 +15,157 @@ use Rattle.lks_law.specs.Batches.{with_batch}
 use Rattle.lks_law.specs.Polls.{Station}
 use Rattle.lks_peer.specs.Knows.{Knowing}
 use Rattle.lks_record.specs.Spelling.{batch_spelling}
+use Rattle.lks_host.proofs.cutting.cut_step.Given.{Over}
+use Rattle.lks_host.proofs.cutting.cut_step.Goals.{In-Ok, In-Err-Cut}
 use Rattle.lks_host.proofs.cutting.cut_step.Goals as goal
+
+-- each disk tells what it holds
+tells : (g : Over) (disk : g.row.D.Denot) → g.D.Disk.face.told disk
+tells g disk = (g.met.D.CrashDisk g.world.𝓛 g.world.𝓜 g.world.𝓡 ((λ s x. x), (λ x. x), (λ x. x), λ x. x)).tells disk
+
+-- what a peer answers
+abbrev answered : Knowing → ℕ → Input → Reaction
+answered k tick input = react_on k.own k.state tick input
+
+-- Of a step that was done.
+
+stands_done : (g : Over) (c : In-Ok g) (batches : List (List Record)) → StandsFor g.D.Disk.face c.args.host.now batches → StandsFor g.D.Disk.face c.step-done.new.self (with_batch batches c.in-Ok.reaction.records)
+stands_done g c batches at = c.in-Ok.ensures.stands (tells g c.fuse.new.self.journal.disk) batches (c.fuse.ensures.stands batches at)
+
+lies_done : (g : Over) (c : In-Ok g) (batches : List (List Record)) → StandsFor g.D.Disk.face c.args.host.now batches
+    → LiesOn g.D.Disk.face c.power_cut.new.self.peer.own c.power_cut.new.self.journal.disk (with_batch batches c.in-Ok.reaction.records)
+lies_done g c batches at = c.power_cut.ensures.lies (with_batch batches c.in-Ok.reaction.records) (stands_done g c batches at)
+
+-- Of one that was cut off.
+
+is_cut : (g : Over) (c : In-Err-Cut g) → IsErrOf (as_journal c.step-done.result) Cut
+is_cut g c = search rules
+
+enough : (g : Over) (c : In-Err-Cut g) → IsErrOf c.step-done.result Memory → ⊥
+enough g c = search rules
+
+same_own : (g : Over) (c : In-Err-Cut g) → c.fuse.new.self.peer.own ≡ c.power_cut.new.self.peer.own
+same_own g c = sym (ap (λ (k : Knowing). k.own) c.power_cut.ensures.peer ∙ c.step-done.ensures.stepped.own)
+
+some_added : (g : Over) (c : In-Err-Cut g) → (answered c.fuse.new.self.peer c.args.tick c.args.input.now).records ≡ [] → ⊥
+some_added g c none = c.step-done.ensures.stepped.calls.uncut none (is_cut g c)
+
+-- the disk holds the batches from before, or the new one too
+lies_cut : (g : Over) (c : In-Err-Cut g) (batches : List (List Record)) → StandsFor g.D.Disk.face c.args.host.now batches
+    → LiesOn g.D.Disk.face c.fuse.new.self.peer.own c.power_cut.new.self.journal.disk batches
+    ⊎ ((2 ≤ c.args.calls) × LiesOn g.D.Disk.face c.fuse.new.self.peer.own c.power_cut.new.self.journal.disk (with_batch batches (answered c.fuse.new.self.peer c.args.tick c.args.input.now).records))
+lies_cut g c batches at =
+    let stood = c.fuse.ensures.stands batches at in
+    let read = c.step-done.ensures.read (enough g c) in
+    cut_lies g.D.Disk.face c.fuse.new.self c.step-done.new.self c.power_cut.new.self.journal.disk batches (answered c.fuse.new.self.peer c.args.tick c.args.input.now).records c.args.calls (as_journal c.step-done.result) stood
+    read.fit (c.step-done.ensures.adds (tells g c.fuse.new.self.journal.disk) batches stood) (is_cut g c) c.fuse.ensures.fused.left read.read c.power_cut.ensures.lost
+
+-- the fuse was too short for it, and burned
+short_fuse : (g : Over) (c : In-Err-Cut g) → IsCutShort (answered c.args.host.now.peer c.args.tick c.args.input.now) c.args.calls
+short_fuse g c =
+    let some = some_added g c in
+    let few : c.args.calls < 4 = omega (arith, ((c.step-done.ensures.stepped.calls.called some).fuse.cut (is_cut g c)).1, c.fuse.ensures.fused.left) in
+    subst (λ (k : Knowing). IsCutShort (answered k c.args.tick c.args.input.now) c.args.calls) c.fuse.ensures.peer (record { adds = some; few = few })
+
+burned : (g : Over) (c : In-Err-Cut g) → Rose (g.D.Disk.face.burns c.args.host.now.journal.disk) (g.D.Disk.face.burns c.step-done.new.self.journal.disk)
+burned g c =
+    let fuse = (c.step-done.ensures.stepped.calls.called (some_added g c)).fuse in
+    rose_between _ _ _ _ c.fuse.ensures.fused.burns (fuse.burn c.fuse.ensures.fused.whole (fuse.cut (is_cut g c)).2) refl
+
+-- Goals.
 
 pub recover-requires-clause-can : goal.recover-requires-clause-can
 recover-requires-clause-can g c =
-    let laws = g.met.D.CrashDisk g.world.𝓛 g.world.𝓜 g.world.𝓡 ((λ s x. x), (λ x. x), (λ x. x), λ x. x) in
-    let stands = c.requires.can.stands (laws.tells c.args.host.now.journal.disk) in
-    let batches = stands.0 in
-    let at = stands.1 in
-    let told : g.D.Disk.face.told c.fuse.new.self.journal.disk = laws.tells c.fuse.new.self.journal.disk in
-    let stood = c.fuse.ensures.stands batches at in
-    let there = c.in-Ok.ensures.stands told batches stood in
-    let more = with_batch batches c.in-Ok.reaction.records in
-    let lies : LiesOn g.D.Disk.face c.power_cut.new.self.peer.own c.power_cut.new.self.journal.disk more = c.power_cut.ensures.lies more there in
-    λ κs lives. record { pooled = search rules; unfused = search rules; lies = (more, lies) }
+    let stands = c.requires.can.stands (tells g c.args.host.now.journal.disk) in
+    let lies = lies_done g (goal.at.recover-requires-clause-can g c).In-Ok stands.0 stands.1 in
+    λ κs lives. record { pooled = search rules; unfused = search rules; lies = (with_batch stands.0 c.in-Ok.reaction.records, lies) }
 
 pub recover-requires-in-Err-Cut-clause-can : goal.recover-requires-in-Err-Cut-clause-can
 recover-requires-in-Err-Cut-clause-can g c =
-    let laws = g.met.D.CrashDisk g.world.𝓛 g.world.𝓜 g.world.𝓡 ((λ s x. x), (λ x. x), (λ x. x), λ x. x) in
-    let stands = c.requires.can.stands (laws.tells c.args.host.now.journal.disk) in
+    let cut = (goal.at.recover-requires-in-Err-Cut-clause-can g c).In-Err-Cut in
+    let stands = c.requires.can.stands (tells g c.args.host.now.journal.disk) in
     let batches = stands.0 in
-    let at = stands.1 in
-    let told : g.D.Disk.face.told c.fuse.new.self.journal.disk = laws.tells c.fuse.new.self.journal.disk in
-    let stood = c.fuse.ensures.stands batches at in
-    let peer = c.fuse.new.self.peer in
-    let records = (react_on peer.own peer.state c.args.tick c.args.input.now).records in
-    let cut : IsErrOf (as_journal c.step-done.result) Cut = search rules in
-    let enough : IsErrOf c.step-done.result Memory → ⊥ = search rules in
-    let own : c.fuse.new.self.peer.own ≡ c.power_cut.new.self.peer.own = sym (ap (λ (k : Knowing). k.own) c.power_cut.ensures.peer ∙ c.step-done.ensures.stepped.own) in
-    let either = cut_lies g.D.Disk.face c.fuse.new.self c.step-done.new.self c.power_cut.new.self.journal.disk batches records c.args.calls (as_journal c.step-done.result) stood
-    (c.step-done.ensures.read enough).fit (c.step-done.ensures.adds told batches stood) cut c.fuse.ensures.fused.left (c.step-done.ensures.read enough).read c.power_cut.ensures.lost in
+    let more = with_batch batches (answered c.fuse.new.self.peer c.args.tick c.args.input.now).records in
+    let lies = lies_cut g cut batches stands.1 in
+    let disk = c.power_cut.new.self.journal.disk in
     λ κs lives. record {
       pooled = search rules;
       unfused = search rules;
-      lies = elim either [
-        | inl lies ↦ (batches, (subst (λ (o : Station). LiesOn g.D.Disk.face o c.power_cut.new.self.journal.disk batches) own lies))
-        | inr p ↦ (with_batch batches records, (subst (λ (o : Station). LiesOn g.D.Disk.face o c.power_cut.new.self.journal.disk (with_batch batches records)) own p.1))
+      lies = elim lies [
+        | inl before ↦ (batches, subst (λ (o : Station). LiesOn g.D.Disk.face o disk batches) (same_own g cut) before)
+        | inr after ↦ (more, subst (λ (o : Station). LiesOn g.D.Disk.face o disk more) (same_own g cut) after.1)
       ];
     }
 
 pub returns-in_ok-recover-in-Ok-clause-cuts : goal.returns-in_ok-recover-in-Ok-clause-cuts
 returns-in_ok-recover-in-Ok-clause-cuts g c = λ batches at.
-    let laws = g.met.D.CrashDisk g.world.𝓛 g.world.𝓜 g.world.𝓡 ((λ s x. x), (λ x. x), (λ x. x), λ x. x) in
-    let told : g.D.Disk.face.told c.fuse.new.self.journal.disk = laws.tells c.fuse.new.self.journal.disk in
-    let stood = c.fuse.ensures.stands batches at in
-    let there = c.in-Ok.ensures.stands told batches stood in
-    let more = with_batch batches c.in-Ok.reaction.records in
-    let lies : LiesOn g.D.Disk.face c.power_cut.new.self.peer.own c.power_cut.new.self.journal.disk more = c.power_cut.ensures.lies more there in
-    let same : c.in-Ok.reaction ≡ react_on c.args.host.now.peer.own c.args.host.now.peer.state c.args.tick c.args.input.now =
-    c.in-Ok.ensures.stepped.reaction ∙ ap (λ (k : Knowing). react_on k.own k.state c.args.tick c.args.input.now) c.fuse.ensures.peer in
-    let now = (react_on c.fuse.new.self.peer.own c.fuse.new.self.peer.state c.args.tick c.args.input.now).records in
+    let lies = lies_done g (goal.at.returns-in_ok-recover-in-Ok-clause-cuts g c).In-Ok batches at in
+    let still = ap (λ (k : Knowing). answered k c.args.tick c.args.input.now) c.fuse.ensures.peer in
+    let same : c.in-Ok.reaction ≡ answered c.args.host.now.peer c.args.tick c.args.input.now = c.in-Ok.ensures.stepped.reaction ∙ still in
+    let now = (answered c.fuse.new.self.peer c.args.tick c.args.input.now).records in
     let spent : (now ≡ [] → ⊥) → 4 ≤ c.args.calls = λ some.
     let passed : g.D.Disk.face.left c.step-done.new.self.journal.disk + 4 ≡ g.D.Disk.face.left c.fuse.new.self.journal.disk = (c.in-Ok.ensures.stepped.calls.called some).fuse.passes c.fuse.ensures.fused.fused in
-    omega (arith, passed, c.fuse.ensures.fused.left) in
-    let still : now ≡ (react_on c.args.host.now.peer.own c.args.host.now.peer.state c.args.tick c.args.input.now).records = ap (λ (k : Knowing). (react_on k.own k.state c.args.tick c.args.input.now).records) c.fuse.ensures.peer in (
+    omega (arith, passed, c.fuse.ensures.fused.left) in (
       same,
-      subst (λ (r : Reaction). StandsFor g.D.Disk.face c.recover.new.self (with_batch batches r.records)) same (c.in_ok-recover-in-Ok.ensures.recovers more lies).stands,
-      ⊎_elim (λ none. inl (sym still ∙ none)) (λ some. inr (spent some)) (none_or_some now),
+      subst (λ (r : Reaction). StandsFor g.D.Disk.face c.recover.new.self (with_batch batches r.records)) same (c.in_ok-recover-in-Ok.ensures.recovers (with_batch batches c.in-Ok.reaction.records) lies).stands,
+      ⊎_elim (λ none. inl (sym (ap (λ (r : Reaction). r.records) still) ∙ none)) (λ some. inr (spent some)) (none_or_some now),
       c.in_ok-recover-in-Ok.ensures.behaves.unset c.power_cut.ensures.lost.unfused ∙ c.power_cut.ensures.lost.burns ∙ c.in-Ok.ensures.stepped.behaves.unburned ∙ c.fuse.ensures.fused.burns,
     )
 
 pub returns-in_ok-recover-in-Ok-clause-end : goal.returns-in_ok-recover-in-Ok-clause-end
 returns-in_ok-recover-in-Ok-clause-end g c =
-    let laws = g.met.D.CrashDisk g.world.𝓛 g.world.𝓜 g.world.𝓡 ((λ s x. x), (λ x. x), (λ x. x), λ x. x) in
-    let stands = c.requires.can.stands (laws.tells c.args.host.now.journal.disk) in
-    let batches = stands.0 in
-    let at = stands.1 in
-    let told : g.D.Disk.face.told c.fuse.new.self.journal.disk = laws.tells c.fuse.new.self.journal.disk in
-    let stood = c.fuse.ensures.stands batches at in
-    let there = c.in-Ok.ensures.stands told batches stood in
-    let more = with_batch batches c.in-Ok.reaction.records in
-    let lies : LiesOn g.D.Disk.face c.power_cut.new.self.peer.own c.power_cut.new.self.journal.disk more = c.power_cut.ensures.lies more there in
-    let back = (c.in_ok-recover-in-Ok.ensures.recovers more lies).stands in
+    let done = (goal.at.returns-in_ok-recover-in-Ok-clause-end g c).In-Ok in
+    let stands = c.requires.can.stands (tells g c.args.host.now.journal.disk) in
+    let there = stands_done g done stands.0 stands.1 in
+    let back = (c.in_ok-recover-in-Ok.ensures.recovers (with_batch stands.0 c.in-Ok.reaction.records) (lies_done g done stands.0 stands.1)).stands in
     omega (arith, back.disk.end, there.disk.end, c.in-Ok.ensures.stepped.end, c.fuse.ensures.end)
 
 pub returns-then-found-before-clause-cuts : goal.returns-then-found-before-clause-cuts
 returns-then-found-before-clause-cuts g c = λ batches at.
-    let laws = g.met.D.CrashDisk g.world.𝓛 g.world.𝓜 g.world.𝓡 ((λ s x. x), (λ x. x), (λ x. x), λ x. x) in
-    let told : g.D.Disk.face.told c.fuse.new.self.journal.disk = laws.tells c.fuse.new.self.journal.disk in
-    let stood = c.fuse.ensures.stands batches at in
-    let peer = c.fuse.new.self.peer in
-    let records = (react_on peer.own peer.state c.args.tick c.args.input.now).records in
-    let cut : IsErrOf (as_journal c.step-done.result) Cut = search rules in
-    let enough : IsErrOf c.step-done.result Memory → ⊥ = search rules in
-    let own : c.fuse.new.self.peer.own ≡ c.power_cut.new.self.peer.own = sym (ap (λ (k : Knowing). k.own) c.power_cut.ensures.peer ∙ c.step-done.ensures.stepped.own) in
-    let either = cut_lies g.D.Disk.face c.fuse.new.self c.step-done.new.self c.power_cut.new.self.journal.disk batches records c.args.calls (as_journal c.step-done.result) stood
-    (c.step-done.ensures.read enough).fit (c.step-done.ensures.adds told batches stood) cut c.fuse.ensures.fused.left (c.step-done.ensures.read enough).read c.power_cut.ensures.lost in
-    let some : records ≡ [] → ⊥ = λ none. c.step-done.ensures.stepped.calls.uncut none cut in
-    let read = cut_read g.D.Disk.face c.recover-in-Err-Cut.new.self batches records c.args.calls c.in_ok-found-in-Err-Cut.found c.power_cut.new.self peer.own own some either c.in_ok-found-in-Err-Cut.ensures.recovers in
-    let before : c.count-before.result ≡ length batches = c.count-before.ensures ∙ at.count in
-    let still : react_on peer.own peer.state c.args.tick c.args.input.now ≡ react_on c.args.host.now.peer.own c.args.host.now.peer.state c.args.tick c.args.input.now =
-    ap (λ (k : Knowing). react_on k.own k.state c.args.tick c.args.input.now) c.fuse.ensures.peer in
-    let few : c.args.calls < 4 = omega (arith, ((c.step-done.ensures.stepped.calls.called some).fuse.cut cut).1, c.fuse.ensures.fused.left) in
-    let short : IsCutShort (react_on c.args.host.now.peer.own c.args.host.now.peer.state c.args.tick c.args.input.now) c.args.calls =
-    subst (λ (r : Reaction). IsCutShort r c.args.calls) still (record { adds = some; few = few }) in
-    let fuse = (c.step-done.ensures.stepped.calls.called some).fuse in
-    let rose = rose_between _ _ _ _ c.fuse.ensures.fused.burns (fuse.burn c.fuse.ensures.fused.whole (fuse.cut cut).2)
-    (c.in_ok-found-in-Err-Cut.ensures.behaves.unset c.power_cut.ensures.lost.unfused ∙ c.power_cut.ensures.lost.burns) in
-    let kept = kept_by_count g.D.Disk.face c.recover-in-Err-Cut.new.self batches records c.args.calls c.in_ok-found-in-Err-Cut.found c.count-before.result read before c.if-found-before.true in
-    (kept.last ∙ ap (λ (r : Reaction). r.records) still, short, kept.two, subst (λ (r : Reaction). StandsFor g.D.Disk.face c.recover-in-Err-Cut.new.self (with_batch batches r.records)) still kept.stands, rose)
+    let cut = (goal.at.returns-then-found-before-clause-cuts g c).In-Err-Cut in
+    let still = ap (λ (k : Knowing). answered k c.args.tick c.args.input.now) c.fuse.ensures.peer in
+    let records = (answered c.fuse.new.self.peer c.args.tick c.args.input.now).records in
+    let read = cut_read g.D.Disk.face c.recover-in-Err-Cut.new.self batches records c.args.calls c.in_ok-found-in-Err-Cut.found c.power_cut.new.self c.fuse.new.self.peer.own (same_own g cut) (some_added g cut) (lies_cut g cut batches at)
+    c.in_ok-found-in-Err-Cut.ensures.recovers in
+    let kept = kept_by_count g.D.Disk.face c.recover-in-Err-Cut.new.self batches records c.args.calls c.in_ok-found-in-Err-Cut.found c.count-before.result read (c.count-before.ensures ∙ at.count) c.if-found-before.true in (
+      kept.last ∙ ap (λ (r : Reaction). r.records) still,
+      short_fuse g cut,
+      kept.two,
+      subst (λ (r : Reaction). StandsFor g.D.Disk.face c.recover-in-Err-Cut.new.self (with_batch batches r.records)) still kept.stands,
+      rose_between _ _ _ _ refl (burned g cut) (c.in_ok-found-in-Err-Cut.ensures.behaves.unset c.power_cut.ensures.lost.unfused ∙ c.power_cut.ensures.lost.burns),
+    )
 
 pub returns-then-found-before-clause-end : goal.returns-then-found-before-clause-end
 returns-then-found-before-clause-end g c =
-    let laws = g.met.D.CrashDisk g.world.𝓛 g.world.𝓜 g.world.𝓡 ((λ s x. x), (λ x. x), (λ x. x), λ x. x) in
-    let stands = c.requires.can.stands (laws.tells c.args.host.now.journal.disk) in
+    let cut = (goal.at.returns-then-found-before-clause-end g c).In-Err-Cut in
+    let stands = c.requires.can.stands (tells g c.args.host.now.journal.disk) in
     let batches = stands.0 in
-    let at = stands.1 in
-    let told : g.D.Disk.face.told c.fuse.new.self.journal.disk = laws.tells c.fuse.new.self.journal.disk in
-    let stood = c.fuse.ensures.stands batches at in
-    let peer = c.fuse.new.self.peer in
-    let records = (react_on peer.own peer.state c.args.tick c.args.input.now).records in
-    let cut : IsErrOf (as_journal c.step-done.result) Cut = search rules in
-    let enough : IsErrOf c.step-done.result Memory → ⊥ = search rules in
-    let own : c.fuse.new.self.peer.own ≡ c.power_cut.new.self.peer.own = sym (ap (λ (k : Knowing). k.own) c.power_cut.ensures.peer ∙ c.step-done.ensures.stepped.own) in
-    let either = cut_lies g.D.Disk.face c.fuse.new.self c.step-done.new.self c.power_cut.new.self.journal.disk batches records c.args.calls (as_journal c.step-done.result) stood
-    (c.step-done.ensures.read enough).fit (c.step-done.ensures.adds told batches stood) cut c.fuse.ensures.fused.left (c.step-done.ensures.read enough).read c.power_cut.ensures.lost in
-    let some : records ≡ [] → ⊥ = λ none. c.step-done.ensures.stepped.calls.uncut none cut in
-    let read = cut_read g.D.Disk.face c.recover-in-Err-Cut.new.self batches records c.args.calls c.in_ok-found-in-Err-Cut.found c.power_cut.new.self peer.own own some either c.in_ok-found-in-Err-Cut.ensures.recovers in
-    let before : c.count-before.result ≡ length batches = c.count-before.ensures ∙ at.count in
-    let kept = kept_by_count g.D.Disk.face c.recover-in-Err-Cut.new.self batches records c.args.calls c.in_ok-found-in-Err-Cut.found c.count-before.result read before c.if-found-before.true in
-    let short : (records ≡ [] → ⊥) → length (batch_spelling records) ≤ 32763 = λ more. omega (arith, ((c.step-done.ensures.read enough).read more).short, (c.step-done.ensures.read enough).batch.short) in
-    let longer = little_longer g.D.Disk.face c.fuse.new.self c.recover-in-Err-Cut.new.self batches records stood kept.stands short in
+    let records = (answered c.fuse.new.self.peer c.args.tick c.args.input.now).records in
+    let read = cut_read g.D.Disk.face c.recover-in-Err-Cut.new.self batches records c.args.calls c.in_ok-found-in-Err-Cut.found c.power_cut.new.self c.fuse.new.self.peer.own (same_own g cut) (some_added g cut) (lies_cut g cut batches stands.1)
+    c.in_ok-found-in-Err-Cut.ensures.recovers in
+    let kept = kept_by_count g.D.Disk.face c.recover-in-Err-Cut.new.self batches records c.args.calls c.in_ok-found-in-Err-Cut.found c.count-before.result read (c.count-before.ensures ∙ stands.1.count) c.if-found-before.true in
+    let told = c.step-done.ensures.read (enough g cut) in
+    let short : (records ≡ [] → ⊥) → length (batch_spelling records) ≤ 32763 = λ more. omega (arith, (told.read more).short, told.batch.short) in
+    let longer = little_longer g.D.Disk.face c.fuse.new.self c.recover-in-Err-Cut.new.self batches records (c.fuse.ensures.stands batches stands.1) kept.stands short in
     omega (arith, longer, c.fuse.ensures.end)
 
 pub returns-else-found-before-clause-cuts : goal.returns-else-found-before-clause-cuts
 returns-else-found-before-clause-cuts g c = λ batches at.
-    let laws = g.met.D.CrashDisk g.world.𝓛 g.world.𝓜 g.world.𝓡 ((λ s x. x), (λ x. x), (λ x. x), λ x. x) in
-    let told : g.D.Disk.face.told c.fuse.new.self.journal.disk = laws.tells c.fuse.new.self.journal.disk in
-    let stood = c.fuse.ensures.stands batches at in
-    let peer = c.fuse.new.self.peer in
-    let records = (react_on peer.own peer.state c.args.tick c.args.input.now).records in
-    let cut : IsErrOf (as_journal c.step-done.result) Cut = search rules in
-    let enough : IsErrOf c.step-done.result Memory → ⊥ = search rules in
-    let own : c.fuse.new.self.peer.own ≡ c.power_cut.new.self.peer.own = sym (ap (λ (k : Knowing). k.own) c.power_cut.ensures.peer ∙ c.step-done.ensures.stepped.own) in
-    let either = cut_lies g.D.Disk.face c.fuse.new.self c.step-done.new.self c.power_cut.new.self.journal.disk batches records c.args.calls (as_journal c.step-done.result) stood
-    (c.step-done.ensures.read enough).fit (c.step-done.ensures.adds told batches stood) cut c.fuse.ensures.fused.left (c.step-done.ensures.read enough).read c.power_cut.ensures.lost in
-    let some : records ≡ [] → ⊥ = λ none. c.step-done.ensures.stepped.calls.uncut none cut in
-    let read = cut_read g.D.Disk.face c.recover-in-Err-Cut.new.self batches records c.args.calls c.in_ok-found-in-Err-Cut.found c.power_cut.new.self peer.own own some either c.in_ok-found-in-Err-Cut.ensures.recovers in
-    let before : c.count-before.result ≡ length batches = c.count-before.ensures ∙ at.count in
-    let still : react_on peer.own peer.state c.args.tick c.args.input.now ≡ react_on c.args.host.now.peer.own c.args.host.now.peer.state c.args.tick c.args.input.now =
-    ap (λ (k : Knowing). react_on k.own k.state c.args.tick c.args.input.now) c.fuse.ensures.peer in
-    let few : c.args.calls < 4 = omega (arith, ((c.step-done.ensures.stepped.calls.called some).fuse.cut cut).1, c.fuse.ensures.fused.left) in
-    let short : IsCutShort (react_on c.args.host.now.peer.own c.args.host.now.peer.state c.args.tick c.args.input.now) c.args.calls =
-    subst (λ (r : Reaction). IsCutShort r c.args.calls) still (record { adds = some; few = few }) in
-    let fuse = (c.step-done.ensures.stepped.calls.called some).fuse in
-    let rose = rose_between _ _ _ _ c.fuse.ensures.fused.burns (fuse.burn c.fuse.ensures.fused.whole (fuse.cut cut).2)
-    (c.in_ok-found-in-Err-Cut.ensures.behaves.unset c.power_cut.ensures.lost.unfused ∙ c.power_cut.ensures.lost.burns) in
-    let lost = lost_by_count g.D.Disk.face c.recover-in-Err-Cut.new.self batches records c.args.calls c.in_ok-found-in-Err-Cut.found c.count-before.result read before (omega (arith, c.if-found-before.false)) in
-    (short, lost.stands, rose)
+    let cut = (goal.at.returns-else-found-before-clause-cuts g c).In-Err-Cut in
+    let records = (answered c.fuse.new.self.peer c.args.tick c.args.input.now).records in
+    let read = cut_read g.D.Disk.face c.recover-in-Err-Cut.new.self batches records c.args.calls c.in_ok-found-in-Err-Cut.found c.power_cut.new.self c.fuse.new.self.peer.own (same_own g cut) (some_added g cut) (lies_cut g cut batches at)
+    c.in_ok-found-in-Err-Cut.ensures.recovers in
+    let lost = lost_by_count g.D.Disk.face c.recover-in-Err-Cut.new.self batches records c.args.calls c.in_ok-found-in-Err-Cut.found c.count-before.result read (c.count-before.ensures ∙ at.count) (omega (arith, c.if-found-before.false)) in
+    (short_fuse g cut, lost.stands, rose_between _ _ _ _ refl (burned g cut) (c.in_ok-found-in-Err-Cut.ensures.behaves.unset c.power_cut.ensures.lost.unfused ∙ c.power_cut.ensures.lost.burns))
 
 pub returns-else-found-before-clause-end : goal.returns-else-found-before-clause-end
 returns-else-found-before-clause-end g c =
-    let laws = g.met.D.CrashDisk g.world.𝓛 g.world.𝓜 g.world.𝓡 ((λ s x. x), (λ x. x), (λ x. x), λ x. x) in
-    let stands = c.requires.can.stands (laws.tells c.args.host.now.journal.disk) in
+    let cut = (goal.at.returns-else-found-before-clause-end g c).In-Err-Cut in
+    let stands = c.requires.can.stands (tells g c.args.host.now.journal.disk) in
     let batches = stands.0 in
-    let at = stands.1 in
-    let told : g.D.Disk.face.told c.fuse.new.self.journal.disk = laws.tells c.fuse.new.self.journal.disk in
-    let stood = c.fuse.ensures.stands batches at in
-    let peer = c.fuse.new.self.peer in
-    let records = (react_on peer.own peer.state c.args.tick c.args.input.now).records in
-    let cut : IsErrOf (as_journal c.step-done.result) Cut = search rules in
-    let enough : IsErrOf c.step-done.result Memory → ⊥ = search rules in
-    let own : c.fuse.new.self.peer.own ≡ c.power_cut.new.self.peer.own = sym (ap (λ (k : Knowing). k.own) c.power_cut.ensures.peer ∙ c.step-done.ensures.stepped.own) in
-    let either = cut_lies g.D.Disk.face c.fuse.new.self c.step-done.new.self c.power_cut.new.self.journal.disk batches records c.args.calls (as_journal c.step-done.result) stood
-    (c.step-done.ensures.read enough).fit (c.step-done.ensures.adds told batches stood) cut c.fuse.ensures.fused.left (c.step-done.ensures.read enough).read c.power_cut.ensures.lost in
-    let some : records ≡ [] → ⊥ = λ none. c.step-done.ensures.stepped.calls.uncut none cut in
-    let read = cut_read g.D.Disk.face c.recover-in-Err-Cut.new.self batches records c.args.calls c.in_ok-found-in-Err-Cut.found c.power_cut.new.self peer.own own some either c.in_ok-found-in-Err-Cut.ensures.recovers in
-    let before : c.count-before.result ≡ length batches = c.count-before.ensures ∙ at.count in
-    let lost = lost_by_count g.D.Disk.face c.recover-in-Err-Cut.new.self batches records c.args.calls c.in_ok-found-in-Err-Cut.found c.count-before.result read before (omega (arith, c.if-found-before.false)) in
+    let stood = c.fuse.ensures.stands batches stands.1 in
+    let records = (answered c.fuse.new.self.peer c.args.tick c.args.input.now).records in
+    let read = cut_read g.D.Disk.face c.recover-in-Err-Cut.new.self batches records c.args.calls c.in_ok-found-in-Err-Cut.found c.power_cut.new.self c.fuse.new.self.peer.own (same_own g cut) (some_added g cut) (lies_cut g cut batches stands.1)
+    c.in_ok-found-in-Err-Cut.ensures.recovers in
+    let lost = lost_by_count g.D.Disk.face c.recover-in-Err-Cut.new.self batches records c.args.calls c.in_ok-found-in-Err-Cut.found c.count-before.result read (c.count-before.ensures ∙ stands.1.count) (omega (arith, c.if-found-before.false)) in
     omega (arith, lost.stands.disk.end, stood.disk.end, c.fuse.ensures.end)

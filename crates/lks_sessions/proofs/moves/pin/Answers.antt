@@ -2,11 +2,11 @@ use Rattle.std.proofs.Common.{◌∙◌, ap, sym, subst, [], ◌∷◌, ◌++◌
 use Rattle.std.specs.Prelude.{map, All}
 use Rattle.std.proofs.lemmas.List.{map_push}
 use Rattle.std.proofs.lemmas.List.Elements.{All-push}
+use Rattle.lks_law.specs.Fitting.{IsPinnedWell}
 use Rattle.lks_law.specs.Taking.{pinning, session_at}
 use Rattle.lks_sessions.proofs.Keyed.{session_stays, session_pins, nothing_pins, place_in}
 use Rattle.lks_sessions.proofs.moves.pin.Goals as goal
 use Rattle.lks_sessions.specs.Kept.{session_of, pinned_of, commitment_of, IsPinnedOf}
-use Rattle.lks_sessions.specs.Sendable.{CanVote}
 use Rattle.lks_sessions.specs.declared.stages.PinnedSession.{PinnedSession}
 use Rattle.lks_voter.specs.States.{Commitment}
 
@@ -26,10 +26,10 @@ returns-in_ok-reserve-in-Some-clause-of c = λ pool of all.
 pub returns-in_ok-reserve-in-Some-clause-sendable : goal.returns-in_ok-reserve-in-Some-clause-sendable
 returns-in_ok-reserve-in-Some-clause-sendable c = λ can all.
     let p : PinnedSession = record { committed = c.commit.result; repairs = c.remove-session.result.repairs; refs = c.args.refs } in
-    subst (λ ps. All CanVote (map pinned_of ps))
+    subst (λ ps. All IsPinnedWell (map pinned_of ps))
     (sym (c.push_reserved.ensures.items ∙ ap (λ xs. xs ++ p ∷ []) c.reserve.ensures.items))
-    (subst (All CanVote) (sym (map_push pinned_of c.args.pinned.now.items p))
-    (All-push CanVote (map pinned_of c.args.pinned.now.items) (pinned_of p) all (record { counted = can.counted; short = can.short })))
+    (subst (All IsPinnedWell) (sym (map_push pinned_of c.args.pinned.now.items p))
+    (All-push IsPinnedWell (map pinned_of c.args.pinned.now.items) (pinned_of p) all can))
 
 pub returns-in-None-clause-left : goal.returns-in-None-clause-left
 returns-in-None-clause-left c = session_stays c.args.poll c.args.joined.now.items (place_in _ _ _ _ _ c.as_slice.ensures.value c.place_of_joined.ensures c.in-None.is)

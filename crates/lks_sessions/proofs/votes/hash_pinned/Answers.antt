@@ -21,4 +21,4 @@ returns-in-Ok-clause-hashes c =
 pub returns-in-Ok-clause-few : goal.returns-in-Ok-clause-few
 returns-in-Ok-clause-few c =
     subst (λ (hs : List (List ℕ)). length hs ≤ MOST_BLOCKS) (sym (returns-in-Ok-clause-hashes c))
-    (let counted = c.requires.counted.counted in let same = hashes_count c.args.own.now c.args.session.now in omega arith)
+    (let counted = c.requires.counted.0 in let same = hashes_count c.args.own.now c.args.session.now in omega arith)

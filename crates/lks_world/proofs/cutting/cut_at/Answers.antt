@@ -1,15 +1,21 @@
 use Rattle.lks_world.proofs.CutLaws.{if_some}
 use Rattle.lks_world.proofs.SeatEnds.{peers_end, seats_burn}
 use Rattle.lks_world.proofs.HostLaws.{ok_then}
-use Rattle.lks_world.proofs.SeatLaws.{acts_at, acts_there, acts_ranked, acts_on, counted_one}
+use Rattle.lks_world.proofs.SeatLaws.{ActsAt, acts_at, acts_there, acts_ranked, acts_on, counted_one}
+use Rattle.lks_world.proofs.cutting.cut_at.Given.{Over}
+use Rattle.lks_world.proofs.cutting.cut_at.Goals.{In-Host}
 use Rattle.lks_world.proofs.cutting.cut_at.Goals as goal
+
+seat_acts : (g : Over) (c : In-Host g) → ActsAt g.D.Disk.face c.args.id c.args.seats.now.items c.in-Some.place c.in-Host.host
+seat_acts g c =
+    acts_at g.D.Disk.face c.args.id c.deref.result.now c.args.seats.now.items c.in-Some.place c.index_mut.result.now c.deref.ensures.value c.in-Some.ensures c.index_mut.ensures.value c.in-Host.host c.in-Host.is
 
 pub cut_as-requires-clause-ready : goal.cut_as-requires-clause-ready
 cut_as-requires-clause-ready g c = λ κs lives.
     let f = g.D.Disk.face in
     let seats = c.args.seats.now.items in
     let h = c.in-Host.host in
-    let acts = acts_at f c.args.id c.deref.result.now seats c.in-Some.place c.index_mut.result.now c.deref.ensures.value c.in-Some.ensures c.index_mut.ensures.value h c.in-Host.is in
+    let acts = seat_acts g (goal.at.cut_as-requires-clause-ready g c).In-Host in
     c.requires.ready acts.stands.rank h (acts_ranked f c.args.id seats c.in-Some.place h acts)
 
 pub cut_as-requires-clause-made : goal.cut_as-requires-clause-made
@@ -17,7 +23,7 @@ cut_as-requires-clause-made g c = λ κs lives.
     let f = g.D.Disk.face in
     let seats = c.args.seats.now.items in
     let h = c.in-Host.host in
-    let acts = acts_at f c.args.id c.deref.result.now seats c.in-Some.place c.index_mut.result.now c.deref.ensures.value c.in-Some.ensures c.index_mut.ensures.value h c.in-Host.is in
+    let acts = seat_acts g (goal.at.cut_as-requires-clause-made g c).In-Host in
     c.requires.made acts.stands.rank h (acts_ranked f c.args.id seats c.in-Some.place h acts)
 
 pub cut_as-requires-clause-heard : goal.cut_as-requires-clause-heard
@@ -28,7 +34,7 @@ returns-clause-ends g c =
     let f = g.D.Disk.face in
     let seats = c.args.seats.now.items in
     let h = c.in-Host.host in
-    let acts = acts_at f c.args.id c.deref.result.now seats c.in-Some.place c.index_mut.result.now c.deref.ensures.value c.in-Some.ensures c.index_mut.ensures.value h c.in-Host.is in
+    let acts = seat_acts g (goal.at.returns-clause-ends g c).In-Host in
     peers_end f c.args.id seats c.in-Some.place h acts c.cut_as.new.host c.args.tick c.args.deed.now c.args.power.calls c.cut_as.result (if_some c.args.deed.now (λ d told. told.1) c.requires.told) c.cut_as.ensures.ends
 
 pub returns-clause-on : goal.returns-clause-on
@@ -36,7 +42,7 @@ returns-clause-on g c =
     let f = g.D.Disk.face in
     let seats = c.args.seats.now.items in
     let h = c.in-Host.host in
-    let acts = acts_at f c.args.id c.deref.result.now seats c.in-Some.place c.index_mut.result.now c.deref.ensures.value c.in-Some.ensures c.index_mut.ensures.value h c.in-Host.is in
+    let acts = seat_acts g (goal.at.returns-clause-on g c).In-Host in
     ok_then c.cut_as.result (acts_on f c.args.id seats c.in-Some.place h acts c.cut_as.new.host) c.cut_as.ensures.on
 
 pub returns-clause-counted : goal.returns-clause-counted
@@ -44,7 +50,7 @@ returns-clause-counted g c =
     let f = g.D.Disk.face in
     let seats = c.args.seats.now.items in
     let h = c.in-Host.host in
-    let acts = acts_at f c.args.id c.deref.result.now seats c.in-Some.place c.index_mut.result.now c.deref.ensures.value c.in-Some.ensures c.index_mut.ensures.value h c.in-Host.is in
+    let acts = seat_acts g (goal.at.returns-clause-counted g c).In-Host in
     counted_one f seats c.in-Some.place h c.cut_as.new.host c.cut_as.result (acts_there f c.args.id seats c.in-Some.place h acts) c.cut_as.ensures.acted
 
 pub returns-clause-burns : goal.returns-clause-burns
@@ -52,5 +58,5 @@ returns-clause-burns g c =
     let f = g.D.Disk.face in
     let seats = c.args.seats.now.items in
     let h = c.in-Host.host in
-    let acts = acts_at f c.args.id c.deref.result.now seats c.in-Some.place c.index_mut.result.now c.deref.ensures.value c.in-Some.ensures c.index_mut.ensures.value h c.in-Host.is in
+    let acts = seat_acts g (goal.at.returns-clause-burns g c).In-Host in
     seats_burn f c.args.id seats c.in-Some.place h acts c.cut_as.new.host c.args.power.choice c.cut_as.result c.cut_as.ensures.burns

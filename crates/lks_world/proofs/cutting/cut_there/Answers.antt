@@ -21,7 +21,24 @@ use Rattle.lks_world.specs.Seats.{hosts_of}
 use Rattle.lks_world.specs.States.{left_after}
 use Rattle.lks_world.specs.declared.seats.Seat.{Seat}
 use Rattle.lks_world.specs.declared.faults.WorldFault.TheVariants.{Memory}
+use Rattle.lks_world.proofs.cutting.cut_there.Given.{Over}
+use Rattle.lks_world.proofs.cutting.cut_there.Goals.{After-taker-id, In_ok-deed, In_ok-note_step}
 use Rattle.lks_world.proofs.cutting.cut_there.Goals as goal
+
+taker_is : (g : Over) (c : After-taker-id g) → c.taker-id.result ≡ taker_of c.args.state.now.bag.items c.args.s
+taker_is g c = c.taker-id.ensures ∙ ap (λ (b : List Envelope). taker_of b c.args.s) c.deref.ensures.value
+
+deed_is : (g : Over) (c : In_ok-deed g) → c.in_ok-deed.deed ≡ deed_of c.args.state.now.bag.items c.args.s
+deed_is g c = c.in_ok-deed.ensures.deed ∙ ap (λ (b : List Envelope). deed_of b c.args.s) c.deref-2.ensures.value
+
+noted_history : (g : Over) (c : In_ok-note_step g)
+    → c.note_step.new.state.history.items
+    ≡ c.args.state.now.history.items
+    ++ entry_for (event_for c.args.s c.in_ok-ending.ending) (carried c.args.state.now.bag.items c.args.s) (notes_for c.in_ok-ending.ending) (length (sends_for c.in_ok-ending.ending)) ∷ []
+noted_history g c =
+    let s = c.args.state.now in
+    let told = c.told-event.ensures in
+    c.in_ok-note_step.ensures.history ∙ (λ i. s.history.items ++ entry_for (told.event i) (carried s.bag.items c.args.s) (told.notes i) (length (told.sends i)) ∷ [])
 
 pub cut_at-requires-clause-ready : goal.cut_at-requires-clause-ready
 cut_at-requires-clause-ready g c κs within = can_step g.D.Disk.face c.args.plan.now c.args.state.now c.requires.state c.requires.can.room
@@ -33,8 +50,9 @@ pub cut_at-requires-clause-told : goal.cut_at-requires-clause-told
 cut_at-requires-clause-told g c κs within =
     let bag = c.args.state.now.bag.items in
     let s = c.args.s in
-    let deed = c.in_ok-deed.ensures.deed ∙ ap (λ (b : List Envelope). deed_of b s) c.deref-2.ensures.value in
-    let id : c.taker-id.result ≡ taker_of bag s = c.taker-id.ensures ∙ ap (λ (b : List Envelope). taker_of b s) c.deref.ensures.value in
+    let at = goal.at.cut_at-requires-clause-told g c in
+    let deed = deed_is g at.In_ok-deed in
+    let id = taker_is g at.After-taker-id in
     if_both (λ d. IsHeard d.input) (λ d. d.peer ≡ c.taker-id.result) c.in_ok-deed.deed c.in_ok-deed.ensures.heard
     (subst (λ (n : ℕ). IfSome c.in_ok-deed.deed (λ d. d.peer ≡ n)) (sym id) (subst (λ o. IfSome o (λ d. d.peer ≡ taker_of bag s)) (sym deed) (whose_deed bag s)))
 
@@ -56,7 +74,8 @@ returns-clause-ended g c =
     let calls = c.args.power.calls in
     let noted = c.in_ok-note_step.ensures in
     let told = c.told-event.ensures in
-    let deed = c.in_ok-deed.ensures.deed ∙ ap (λ (b : List Envelope). deed_of b p) c.deref-2.ensures.value in
+    let at = goal.at.returns-clause-ended g c in
+    let deed = deed_is g at.In_ok-deed in
     let actor = c.actor.ensures ∙ ap actor_of deed in
     let ends =
     subst (λ (ss : List (Seat g.row.D.Denot)). PeersEnd s.tick (deed_of s.bag.items p) calls (peers_of f (hosts_of s.seats.items)) (peers_of f (hosts_of ss)) e) (sym noted.seats)
@@ -66,7 +85,7 @@ returns-clause-ended g c =
     (has_ended f plan s t p calls c.requires.state (room_left f s c.requires.can.room) c.requires.can.may e ends noted.tick
     (noted.bag ∙ (λ i. s.bag.items ++ map (sent_by (actor i)) (told.sends i)))
     (noted.pending ∙ ap (λ (sends : List Outgoing). left_after p s.pending.items ++ range_with_len (length s.bag.items) (length sends)) told.sends)
-    (noted.history ∙ (λ i. s.history.items ++ entry_for (told.event i) (carried s.bag.items p) (told.notes i) (length (told.sends i)) ∷ []))
+    (noted_history g at.In_ok-note_step)
     on noted.pool)
 
 pub returns-clause-watches : goal.returns-clause-watches
@@ -81,13 +100,14 @@ returns-clause-watches g c = λ first asks.
     let calls = c.args.power.calls in
     let noted = c.in_ok-note_step.ensures in
     let told = c.told-event.ensures in
-    let deed = c.in_ok-deed.ensures.deed ∙ ap (λ (b : List Envelope). deed_of b p) c.deref-2.ensures.value in
+    let at = goal.at.returns-clause-watches g c in
+    let deed = deed_is g at.In_ok-deed in
     let actor = c.actor.ensures ∙ ap actor_of deed in
     let after = peers_of f (hosts_of c.cut_at.new.seats.items) in
     watched_ending f e plan s t p calls after end first c.args.watch.now c.note_step.new.watch c.requires.state
     (subst (λ o. PeersEnd s.tick o calls (peers_of f (hosts_of s.seats.items)) after end) deed c.in_ok-ending.ensures.ends)
     (events_noted f e plan s t (event_for p end) (carried s.bag.items p) (notes_for end) (length (sends_for end))
-    (noted.history ∙ (λ i. s.history.items ++ entry_for (told.event i) (carried s.bag.items p) (told.notes i) (length (told.sends i)) ∷ [])))
+    (noted_history g at.In_ok-note_step))
     asks
     (subst (λ (raised : List Alarm). Rings raised (seen_by e c.args.watch.now) (seen_by e c.note_step.new.watch)) (λ i. filter_map (alarm_noted (actor i) s.tick) (told.notes i)) noted.hears)
 
@@ -96,7 +116,7 @@ returns-clause-burns g c =
     let f = g.D.Disk.face in
     let s = c.args.state.now in
     let choice = c.args.power.choice in
-    let id : c.taker-id.result ≡ taker_of s.bag.items c.args.s = c.taker-id.ensures ∙ ap (λ (b : List Envelope). taker_of b c.args.s) c.deref.ensures.value in
+    let id = taker_is g (goal.at.returns-clause-burns g c).After-taker-id in
     subst (λ (n : ℕ). BurnsUnless f choice n s.seats.items c.note_step.new.state.seats.items c.whole-whole.result) id
     (subst (λ (ss : List (Seat g.row.D.Denot)). BurnsUnless f choice c.taker-id.result s.seats.items ss c.whole-whole.result) (sym c.in_ok-note_step.ensures.seats)
     (subst (BurnsUnless f choice c.taker-id.result s.seats.items c.cut_at.new.seats.items) (sym c.whole-whole.ensures)

@@ -1,10 +1,16 @@
 use Rattle.std.proofs.Common.{◌≡◌, ◌∙◌, sym, []}
 use Rattle.lks_world.proofs.Ending.{nothing_added, with_nothing}
 use Rattle.lks_world.proofs.HostLaws.{ok_then, stayed}
-use Rattle.lks_world.proofs.SeatLaws.{acts_at, never_idle, acts_there, acts_ranked, acts_added, acts_on, counted_one}
+use Rattle.lks_world.proofs.SeatLaws.{ActsAt, acts_at, never_idle, acts_there, acts_ranked, acts_added, acts_on, counted_one}
 use Rattle.lks_world.specs.Hosts.{peer_in, peers_of}
 use Rattle.lks_world.specs.Seats.{hosts_of}
+use Rattle.lks_world.proofs.cutting.reopen.Given.{Over}
+use Rattle.lks_world.proofs.cutting.reopen.Goals.{In-Host}
 use Rattle.lks_world.proofs.cutting.reopen.Goals as goal
+
+seat_acts : (g : Over) (c : In-Host g) → ActsAt g.D.Disk.face c.args.id c.args.seats.now.items c.in-Some.place c.in-Host.host
+seat_acts g c =
+    acts_at g.D.Disk.face c.args.id c.deref.result.now c.args.seats.now.items c.in-Some.place c.index_mut.result.now c.deref.ensures.value c.in-Some.ensures c.index_mut.ensures.value c.in-Host.host c.in-Host.is
 
 pub returns-in_default-clause-on : goal.returns-in_default-clause-on
 returns-in_default-clause-on g c = stayed g.D.Disk.face (hosts_of c.args.seats.now.items)
@@ -18,7 +24,7 @@ restart_as-requires-clause-ready g c = λ κs lives.
     let f = g.D.Disk.face in
     let seats = c.args.seats.now.items in
     let h = c.in-Host.host in
-    let acts = acts_at f c.args.id c.deref.result.now seats c.in-Some.place c.index_mut.result.now c.deref.ensures.value c.in-Some.ensures c.index_mut.ensures.value h c.in-Host.is in
+    let acts = seat_acts g (goal.at.restart_as-requires-clause-ready g c).In-Host in
     c.requires.ready acts.stands.rank h (acts_ranked f c.args.id seats c.in-Some.place h acts)
 
 pub restart_as-requires-clause-made : goal.restart_as-requires-clause-made
@@ -26,7 +32,7 @@ restart_as-requires-clause-made g c = λ κs lives.
     let f = g.D.Disk.face in
     let seats = c.args.seats.now.items in
     let h = c.in-Host.host in
-    let acts = acts_at f c.args.id c.deref.result.now seats c.in-Some.place c.index_mut.result.now c.deref.ensures.value c.in-Some.ensures c.index_mut.ensures.value h c.in-Host.is in
+    let acts = seat_acts g (goal.at.restart_as-requires-clause-made g c).In-Host in
     c.requires.made acts.stands.rank h (acts_ranked f c.args.id seats c.in-Some.place h acts)
 
 pub returns-clause-peers : goal.returns-clause-peers
@@ -34,7 +40,7 @@ returns-clause-peers g c =
     let f = g.D.Disk.face in
     let seats = c.args.seats.now.items in
     let h = c.in-Host.host in
-    let acts = acts_at f c.args.id c.deref.result.now seats c.in-Some.place c.index_mut.result.now c.deref.ensures.value c.in-Some.ensures c.index_mut.ensures.value h c.in-Host.is in
+    let acts = seat_acts g (goal.at.returns-clause-peers g c).In-Host in
     let k = c.restart_as.new.host in
     ok_then c.restart_as.result
     (λ (same : peer_in f k ≡ peer_in f h). acts_added f c.args.id seats c.in-Some.place h acts [] k (same ∙ sym (with_nothing (peer_in f h))) ∙ nothing_added c.args.id (peers_of f (hosts_of seats)))
@@ -45,7 +51,7 @@ returns-clause-on g c =
     let f = g.D.Disk.face in
     let seats = c.args.seats.now.items in
     let h = c.in-Host.host in
-    let acts = acts_at f c.args.id c.deref.result.now seats c.in-Some.place c.index_mut.result.now c.deref.ensures.value c.in-Some.ensures c.index_mut.ensures.value h c.in-Host.is in
+    let acts = seat_acts g (goal.at.returns-clause-on g c).In-Host in
     ok_then c.restart_as.result (acts_on f c.args.id seats c.in-Some.place h acts c.restart_as.new.host) c.restart_as.ensures.on
 
 pub returns-clause-counted : goal.returns-clause-counted
@@ -53,5 +59,5 @@ returns-clause-counted g c =
     let f = g.D.Disk.face in
     let seats = c.args.seats.now.items in
     let h = c.in-Host.host in
-    let acts = acts_at f c.args.id c.deref.result.now seats c.in-Some.place c.index_mut.result.now c.deref.ensures.value c.in-Some.ensures c.index_mut.ensures.value h c.in-Host.is in
+    let acts = seat_acts g (goal.at.returns-clause-counted g c).In-Host in
     counted_one f seats c.in-Some.place h c.restart_as.new.host c.restart_as.result (acts_there f c.args.id seats c.in-Some.place h acts) c.restart_as.ensures.acted

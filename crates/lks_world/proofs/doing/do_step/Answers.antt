@@ -1,5 +1,7 @@
-use Rattle.std.proofs.Common.{◌∙◌, sym, ap, subst, refl}
+use Rattle.std.proofs.Common.{◌≡◌, ◌≤◌, ◌∙◌, sym, ap, subst, true, length, refl}
+use Rattle.lks_base.specs.Checking.{has_corrupt, has_peer}
 use Rattle.lks_base.specs.declared.events.Event.TheVariants as events
+use Rattle.lks_base.specs.declared.limits.TheConstants.{MOST_FORGED_BYTES}
 use Rattle.lks_script.specs.declared.steps.Step.TheVariants as step
 use Rattle.lks_watch.specs.Watching.{Watches, ears, seen_by}
 use Rattle.lks_world.proofs.HostLaws.{ok_then}
@@ -7,7 +9,16 @@ use Rattle.lks_world.proofs.OwnSteps.{step_may, ticks_within, forgery_may, crash
 use Rattle.lks_world.proofs.Watched.{crash_quiet, lost_quiet, ok_both, quiet_kept, step_asks}
 use Rattle.lks_world.specs.Follows.{Performs}
 use Rattle.lks_world.specs.States.{events_in, world_in}
+use Rattle.lks_world.proofs.doing.do_step.Given.{Over}
+use Rattle.lks_world.proofs.doing.do_step.Goals.{In_ok-bytes-in-Forge}
 use Rattle.lks_world.proofs.doing.do_step.Goals as goal
+
+is_forged : (g : Over) (c : In_ok-bytes-in-Forge g) → c.args.step.now ≡ step.Forge c.in-Forge.from c.in-Forge.to c.in_ok-bytes-in-Forge.bytes
+is_forged g c = c.in-Forge.is ∙ ap (step.Forge c.in-Forge.from c.in-Forge.to) (sym c.in_ok-bytes-in-Forge.ensures.cases)
+
+may_forge : (g : Over) (c : In_ok-bytes-in-Forge g)
+    → (has_corrupt c.args.plan.now.peers c.in-Forge.from ≡ true) × (has_peer c.args.plan.now.peers c.in-Forge.to ≡ true) × (length c.in_ok-bytes-in-Forge.bytes ≤ MOST_FORGED_BYTES)
+may_forge g c = forgery_may c.args.plan.now c.args.step.now c.in-Forge.from c.in-Forge.to c.in_ok-bytes-in-Forge.bytes (is_forged g c) c.requires.legal
 
 pub add_ticks-requires-clause-some : goal.add_ticks-requires-clause-some
 add_ticks-requires-clause-some g c = λ κs within. (ticks_within c.args.plan.now c.args.step.now c.in-Tick.by c.in-Tick.is c.requires.legal).0
@@ -82,34 +93,29 @@ returns-in-Peer-clause-extends g c =
 
 pub returns-in_err-add_forgery-in-Forge-clause-extends : goal.returns-in_err-add_forgery-in-Forge-clause-extends
 returns-in_err-add_forgery-in-Forge-clause-extends g c =
-    let bytes = c.in_ok-bytes-in-Forge.bytes in
-    let is = c.in-Forge.is ∙ ap (step.Forge c.in-Forge.from c.in-Forge.to) (sym c.in_ok-bytes-in-Forge.ensures.cases) in
-    let may = forgery_may c.args.plan.now c.args.step.now c.in-Forge.from c.in-Forge.to bytes is c.requires.legal in
+    let may = may_forge g (goal.at.returns-in_err-add_forgery-in-Forge-clause-extends g c).In_ok-bytes-in-Forge in
     c.add_forgery.ensures.extends c.args.plan.now c.requires.state.0 may.0 may.1 may.2
 
 pub returns-in_ok-add_forgery-in-Forge-clause-extends : goal.returns-in_ok-add_forgery-in-Forge-clause-extends
 returns-in_ok-add_forgery-in-Forge-clause-extends g c =
-    let bytes = c.in_ok-bytes-in-Forge.bytes in
-    let is = c.in-Forge.is ∙ ap (step.Forge c.in-Forge.from c.in-Forge.to) (sym c.in_ok-bytes-in-Forge.ensures.cases) in
-    let may = forgery_may c.args.plan.now c.args.step.now c.in-Forge.from c.in-Forge.to bytes is c.requires.legal in
+    let may = may_forge g (goal.at.returns-in_ok-add_forgery-in-Forge-clause-extends g c).In_ok-bytes-in-Forge in
     c.add_forgery.ensures.extends c.args.plan.now c.requires.state.0 may.0 may.1 may.2
 
 pub returns-in_ok-add_forgery-in-Forge-clause-state : goal.returns-in_ok-add_forgery-in-Forge-clause-state
 returns-in_ok-add_forgery-in-Forge-clause-state g c =
-    let bytes = c.in_ok-bytes-in-Forge.bytes in
-    let is = c.in-Forge.is ∙ ap (step.Forge c.in-Forge.from c.in-Forge.to) (sym c.in_ok-bytes-in-Forge.ensures.cases) in
-    let may = forgery_may c.args.plan.now c.args.step.now c.in-Forge.from c.in-Forge.to bytes is c.requires.legal in
+    let may = may_forge g (goal.at.returns-in_ok-add_forgery-in-Forge-clause-state g c).In_ok-bytes-in-Forge in
     (c.in_ok-add_forgery-in-Forge.ensures.becomes c.args.plan.now c.requires.state.0 may.0 may.1 may.2).state
 
 pub returns-in_ok-add_forgery-in-Forge-clause-performs : goal.returns-in_ok-add_forgery-in-Forge-clause-performs
 returns-in_ok-add_forgery-in-Forge-clause-performs g c =
+    let at = goal.at.returns-in_ok-add_forgery-in-Forge-clause-performs g c in
     let e = ears g.J.EffortJudge.heard g.J.EffortJudge.verdict g.B.Bell.rung g.B.Bell.limit in
     let plan = c.args.plan.now in
     let h = events_in c.args.state.now in
     let x = seen_by e c.args.watch.now in
     let bytes = c.in_ok-bytes-in-Forge.bytes in
-    let forged = c.in-Forge.is ∙ ap (step.Forge c.in-Forge.from c.in-Forge.to) (sym c.in_ok-bytes-in-Forge.ensures.cases) in
-    let may = forgery_may plan c.args.step.now c.in-Forge.from c.in-Forge.to bytes forged c.requires.legal in
+    let forged = is_forged g at.In_ok-bytes-in-Forge in
+    let may = may_forge g at.In_ok-bytes-in-Forge in
     let is = (c.in_ok-add_forgery-in-Forge.ensures.becomes plan c.requires.state.0 may.0 may.1 may.2).events in (
       subst (λ s. Performs (e.verdict c.args.watch.now.judge) plan h s (events_in c.add_forgery.new.state)) (sym forged) is,
       subst (λ after. Watches plan h after x x) (sym is) (quiet_kept plan h x (events.Forge c.in-Forge.from c.in-Forge.to bytes) (λ w. (refl, refl))),

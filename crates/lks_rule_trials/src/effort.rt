@@ -1,4 +1,4 @@
-//! Both judges on a few proofs, one of them in a box.
+//! Both judges on a few proofs, the second in a box.
 
 ghost use Rattle.std.specs.Prelude.{◌≡◌, []};
 
@@ -28,14 +28,20 @@ fn verdicts<J: EffortJudge>(alloc: Global, judge: &mut J) -> Result<[bool; 4], F
 }
 
 #[test]
-fn judges(rt: HostRuntime) -> Result<(), Fail> {
-    let alloc = rt.alloc();
-    let mut judge = FirstByteJudge::new(alloc)?;
-    assert_eq!(rt; verdicts(alloc, &mut judge)?, [true, false, false, true]);
+fn first_bytes(rt: HostRuntime) -> Result<(), Fail> {
+    let mut judge = FirstByteJudge::new(rt.alloc())?;
+    let verdicts = verdicts(rt.alloc(), &mut judge)?;
+    assert_eq!(rt; verdicts, [true, false, false, true]);
+    Ok(())
+}
 
-    // A list that is shorter than the questions.
-    let listed = ListJudge::new(alloc, [true, false, true].to_vec(alloc)?)?;
-    let mut judge: Box<dyn EffortJudge> = Box::new(alloc, listed)?;
-    assert_eq!(rt; verdicts(alloc, &mut judge)?, [true, false, true, false]);
+/// The list is shorter than the questions.
+#[test]
+fn a_list(rt: HostRuntime) -> Result<(), Fail> {
+    let listed = [true, false, true].to_vec(rt.alloc())?;
+    let judge = ListJudge::new(rt.alloc(), listed)?;
+    let mut judge: Box<dyn EffortJudge> = Box::new(rt.alloc(), judge)?;
+    let verdicts = verdicts(rt.alloc(), &mut judge)?;
+    assert_eq!(rt; verdicts, [true, false, true, false]);
     Ok(())
 }

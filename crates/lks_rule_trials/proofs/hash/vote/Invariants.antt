@@ -1,4 +1,4 @@
-use Rattle.lks_byte_trials.proofs.hash.vote.Given as goal
+use Rattle.lks_rule_trials.proofs.hash.vote.Given as goal
 
 -- the ledger that counts this vote's links
 abbrev pub ghosts-vote_counted : goal.ghosts-vote_counted

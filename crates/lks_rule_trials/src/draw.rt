@@ -1,7 +1,54 @@
-//! Words and picks that another program made.
+//! Words and picks that another program made, and the key stream of RFC 8439.
 
 use crate::SEED;
 use lks_draw::{Draws, OutOfMemory};
+use rand_chacha::ChaCha20Rng;
+use rand_chacha::rand_core::{Rng, SeedableRng};
+
+/// RFC 8439, A.1, test vectors 1 and 2: the first two blocks of the key stream of the zero key.
+const ZERO_KEY_STREAM: [u32; 32] = [
+    0xade0_b876,
+    0x903d_f1a0,
+    0xe56a_5d40,
+    0x28bd_8653,
+    0xb819_d2bd,
+    0x1aed_8da0,
+    0xccef_36a8,
+    0xc70d_778b,
+    0x7c59_41da,
+    0x8d48_5751,
+    0x3fe0_2477,
+    0x374a_d8b8,
+    0xf4b8_436a,
+    0x1ca1_1815,
+    0x69b6_87c3,
+    0x8665_eeb2,
+    0xbee7_079f,
+    0x7a38_5155,
+    0x7c97_ba98,
+    0x0d08_2d73,
+    0xa029_0fcb,
+    0x6965_e348,
+    0x3e53_c612,
+    0xed7a_ee32,
+    0x7621_b729,
+    0x434e_e69c,
+    0xb033_71d5,
+    0xd539_d874,
+    0x281f_ed31,
+    0x45fb_0a51,
+    0x1f0a_e1ac,
+    0x6f4d_794b,
+];
+
+/// Draws take their words from this generator.
+#[test]
+fn words_of_the_zero_key(rt: HostRuntime) {
+    let mut generator = ChaCha20Rng::from_seed([0; 32]);
+    for (at, word) in ZERO_KEY_STREAM.iter().enumerate() {
+        assert_eq!(rt; generator.next_u32(), *word, "{at}");
+    }
+}
 
 // Where `next(u32::MAX)` gives this, the next word is 1 more, unless it is 0.
 fn next_whole(draws: &mut Draws) -> u32 {

@@ -1,6 +1,6 @@
 use Rattle.std.proofs.Common.{◌≡◌, [], ◌∷◌}
 use Rattle.lks_tally.specs.Keeping.{IsCacheOf}
-use Rattle.lks_poll_trials.proofs.poller.noted_session.Given as goal
+use Rattle.lks_poll_trials.proofs.poller.enter_all.Given as goal
 
 abbrev pub invariant-loop-at : goal.invariant-loop-at
 invariant-loop-at g l = record {

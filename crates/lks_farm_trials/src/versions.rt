@@ -6,13 +6,44 @@ ghost use Rattle.lks_versions.specs.Each.{EachOf};
 ghost use Rattle.lks_versions.specs.Pins.{pin_of};
 ghost use Rattle.lks_versions.specs.Shelf.{IsKept, current_of, newest_of};
 
-use crate::samples::deposited;
-use lks_base::{Contents, PollName};
+use lks_base::{Bytes, Contents, OutOfMemory, PollName};
 use lks_blocks::{BlockPool, BlockRef};
 use lks_versions::Versions;
 use std::alloc::{AllocError, Global};
 use std::sync::Wait;
 use std::test::Fail;
+
+fn block_of(alloc: Global, bytes: &[u8]) -> Result<Bytes, OutOfMemory> {
+    Ok(Bytes::from_vec(bytes.to_vec(alloc)?))
+}
+
+/// Two blocks with these bytes.
+fn two_blocks(alloc: Global, first: &[u8], second: &[u8]) -> Result<Vec<Bytes>, OutOfMemory>
+    ensures { IfOk result (λ blocks. length blocks.items ≡ 2) }
+{
+    let mut blocks = Vec::with_capacity(alloc, 2)?;
+    blocks.push_reserved(block_of(alloc, first)?);
+    blocks.push_reserved(block_of(alloc, second)?);
+    Ok(blocks)
+}
+
+/// A copy of two blocks with these bytes, in the pool.
+#[tactic(auto, using(lks_blocks::proofs::Bytes::bytes_count))]
+fn deposited<R: Wait>(
+    rt: &R,
+    alloc: Global,
+    pool: &BlockPool,
+    first: &[u8],
+    second: &[u8],
+) -> Result<Versions, OutOfMemory>
+    ensures of { IfOk result (λ v. EachOf pool.now v.lists) }
+    ensures count { IfOk result (λ v. length (newest_of v) ≡ 2) }
+    ensures current { IfOk result (λ v. current_of v ≡ 0) }
+    ensures pins { IfOk result (λ v. v.pins ≡ []) }
+{
+    let blocks = two_blocks(alloc, first, second)?;
+    Versions::put(alloc, rt, pool, blocks.as_slice())
+}
 
 /// The bytes of blocks, one after another.
 #[tactic(auto, unfolding(lks_blocks::specs::Block::AllOf))]

@@ -1,10 +1,14 @@
 //! Hashes that another implementation of FIPS 180-4 computed.
 ghost use Rattle.lks_hash.specs.Counting.{Opens};
 
-use crate::{ORDER, SEED};
+use crate::SEED;
 use lks_hash::{Chain, Steps, key, nonce_of};
 use std::marker::Brand;
 use std::sync::ledger::{Blank, Ledger};
+
+/// The bytes 0 to 31.
+const ORDER: &[u8; 32] =
+    b"\x00\x01\x02\x03\x04\x05\x06\x07\x08\x09\x0a\x0b\x0c\x0d\x0e\x0f\x10\x11\x12\x13\x14\x15\x16\x17\x18\x19\x1a\x1b\x1c\x1d\x1e\x1f";
 
 const NONCE: &[u8; 32] =
     b"\x0d\x00\xe5\xe6\xa8\xa8\x16\xce\x10\x26\x5b\xd3\x71\xe0\x54\x0c\xe6\x12\x67\xae\xae\x9a\x83\x5e\x35\xde\x02\x48\x49\x3c\x5d\x44";

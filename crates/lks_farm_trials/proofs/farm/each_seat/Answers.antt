@@ -1,7 +1,7 @@
 use Rattle.std.proofs.Common.{sym, ap, ◌∙◌}
 use Rattle.lks_farm.specs.Seats.{SeatSeen}
 use Rattle.lks_farm.proofs.Seating.{seats_kept}
-use Rattle.lks_poll_trials.proofs.farm.each_seat.Goals as goal
+use Rattle.lks_farm_trials.proofs.farm.each_seat.Goals as goal
 
 pub returns : goal.returns
 returns g c =

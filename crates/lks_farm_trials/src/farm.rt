@@ -5,10 +5,10 @@ ghost use Rattle.lks_blocks.specs.Block.{AllOf};
 ghost use Rattle.lks_farm.specs.Entries.{asked_of, entry_done, job_of, refs_of};
 ghost use Rattle.lks_farm.specs.Seats.{AreSeatsOf};
 
-use crate::samples::vote_job;
-use lks_base::{HashKind, Hashes, OutOfMemory};
+use lks_base::{HashKind, Hashes, OutOfMemory, PollName};
 use lks_blocks::{BlockPool, BlockRef, Refs};
-use lks_farm::{Farm, FarmDone, FarmEnd, FarmJob, FarmSet, JobNumber, Seat};
+use lks_farm::{Farm, FarmDone, FarmJob, FarmSet, JobNumber, Seat};
+use lks_versions::PinTag;
 use lks_work::{Job, JobDone, VoteJob, hash_vote};
 use std::alloc::Global;
 use std::sync::atomic::{AtomicU64, Ordering};
@@ -16,6 +16,16 @@ use std::sync::{Mutex, Wait};
 use std::test::Fail;
 use std::thread;
 use std::thread::Threads;
+
+const POLL: PollName = PollName {
+    poller: 1,
+    number: 1,
+};
+
+const TAG: PinTag = PinTag {
+    first: 0,
+    version: 0,
+};
 
 fn stored<R: Wait>(rt: &R, alloc: Global, pool: &BlockPool) -> Result<BlockRef, OutOfMemory>
     ensures { IfOk result (λ block. block.pool ≡ pool.now) }
@@ -50,7 +60,15 @@ fn vote_of(peer: u16, refs: &Refs) -> Result<VoteJob, OutOfMemory>
     ensures { IfOk result (λ job. job.refs ≡ refs.now) }
 {
     let refs = refs.clone()?;
-    Ok(vote_job(peer, HashKind::Sha256, refs))
+    Ok(VoteJob {
+        peer,
+        poll: POLL,
+        au: 1,
+        kind: HashKind::Sha256,
+        nonce: [7; 32],
+        tag: TAG,
+        refs,
+    })
 }
 
 fn hashed(alloc: Global, pool: &BlockPool, job: Job) -> Result<JobDone, OutOfMemory>
@@ -198,10 +216,8 @@ fn closed<R: Wait>(
 ) -> Result<[usize; 2], OutOfMemory>
     requires { AreSeatsOf farm.name seats.items }
 {
-    match farm.close(rt, alloc, seats) {
-        Ok(end) => Ok([end.jobs.len(), end.done.len()]),
-        Err(_set) => Err(OutOfMemory),
-    }
+    let end = farm.close(rt, alloc, seats).ok().ok_or(OutOfMemory)?;
+    Ok([end.jobs.len(), end.done.len()])
 }
 
 /// What happens on a farm of room two, and how many jobs and results are left.

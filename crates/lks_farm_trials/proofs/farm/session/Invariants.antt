@@ -1,9 +1,8 @@
-use Rattle.std.proofs.Common.{◌≡◌, Some}
-use Rattle.lks_farm.specs.Entries.{entry_done}
-use Rattle.lks_poll_trials.proofs.farm.deliver.Given as goal
+use Rattle.std.proofs.Common.{◌≡◌, None}
+use Rattle.lks_farm_trials.proofs.farm.session.Given as goal
 
 abbrev pub invariant-loop : goal.invariant-loop
 invariant-loop g l =
     (goal.iterator-loop g).can_next l.iterator' × (goal.iterator-loop g).is_finite l.iterator'
     × (l.seat.badge ≡ l.fn.seat.badge)
-    × (l.seat.held ≡ Some (entry_done l.done))
+    × (l.seat.held ≡ None)

@@ -1,0 +1,7 @@
+//! Trials of what threads share: versions of copies in a pool of blocks, and farms of hashers.
+#![tactic(auto)]
+
+#[cfg(test)]
+mod farm;
+#[cfg(test)]
+mod versions;
