@@ -1,6 +1,6 @@
 -- What follows from what each answer says.
 use Rattle.std.proofs.Common.{◌≡◌, ◌∙◌, ap, sym, ℕ, List, refl, arith}
-use Rattle.std.specs.Prelude.{Option, Some}
+use Rattle.std.specs.Prelude.{Option, Some, None}
 use Rattle.lks_base.specs.declared.plans.PeerPlan.{PeerPlan}
 use Rattle.lks_disk.specs.Face.{Face}
 use Rattle.lks_drill.specs.Drill.{drill_of}
@@ -9,10 +9,13 @@ use Rattle.lks_world.proofs.ServingLaws.{place_among}
 use Rattle.lks_world.specs.Counts.{ServesHonest}
 use Rattle.lks_world.specs.declared.faults.WorldFault.TheVariants.{Disk}
 use Rattle.lks_watch.specs.Watching.{Ears}
-use Rattle.lockss.specs.Playing.{Devices}
-use Rattle.lockss.specs.Promise.{Promise}
+use Rattle.lks_script.specs.declared.steps.Script.{Script}
+use Rattle.lockss.specs.Playing.{Devices, Tells}
+use Rattle.lockss.specs.Promise.{Promise, SomeSafeRun}
 use Rattle.lockss.specs.Runs.{Drills, HasWork, Replays, NoneRose, Completes}
 use Rattle.lks_command.specs.declared.commands.Command.TheVariants.{Replay}
+use Rattle.lockss.specs.declared.playing.Tale.{Tale}
+use Rattle.lockss.specs.declared.playing.Tale.TheVariants.{Report, Summary}
 use Rattle.lockss.specs.declared.statuses.Status.{Status}
 use Rattle.lockss.specs.declared.statuses.Status.TheVariants.{Done, Alarmed, Usage, BadScript, ReadFault, WriteFault, DiskFault, NoMemory, TooLong}
 
@@ -26,10 +29,13 @@ blames_none f peers disks disks_after peer served none =
 module _ {D K J B : Type 0} (f : Face D) (e : Ears J B) (taken : K → Option (List ℕ)) (before after : Devices D K J B) where
   -- every run of which all was told, or less, was a safe one
 
-  pub replay_promised : (left left_after : Option (List ℕ)) (answer : Status) → Replays f e taken left left_after before after answer → Promise f after.disks answer
-  replay_promised left left_after Done says = (says.plays.script.plan, says.plays.played.history, says.plays.played.safe)
-  replay_promised left left_after Alarmed says = (says.plays.script.plan, says.plays.played.history, says.plays.played.safe)
-  replay_promised left left_after WriteFault says = (says.plays.script.plan, says.plays.played.history, says.plays.played.safe)
+  safe_by : (tale : Tale) (s : Script) (answer : Status) → Tells f e taken tale s before after answer → ServesHonest f s.plan.peers before.disks after.disks None → SomeSafeRun f before.disks after.disks
+  safe_by tale s answer told served = record { plan = s.plan; history = told.history; run = told.safe; served = served }
+
+  pub replay_promised : (left left_after : Option (List ℕ)) (answer : Status) → Replays f e taken left left_after before after answer → Promise f before.disks after.disks answer
+  replay_promised left left_after Done says = safe_by Report says.plays.script Done says.plays.played says.plays.served
+  replay_promised left left_after Alarmed says = safe_by Report says.plays.script Alarmed says.plays.played says.plays.served
+  replay_promised left left_after WriteFault says = safe_by Report says.plays.script WriteFault says.plays.played says.plays.served
   replay_promised left left_after Usage says = tt
   replay_promised left left_after (BadScript line) says = tt
   replay_promised left left_after ReadFault says = tt
@@ -37,10 +43,10 @@ module _ {D K J B : Type 0} (f : Face D) (e : Ears J B) (taken : K → Option (L
   replay_promised left left_after NoMemory says = tt
   replay_promised left left_after TooLong says = tt
 
-  pub drill_promised : (seed : ℕ) (answer : Status) → Drills f e taken seed before after answer → Promise f after.disks answer
-  drill_promised seed Done says = ((drill_of seed).plan, says.played.history, says.played.safe)
-  drill_promised seed Alarmed says = ((drill_of seed).plan, says.played.history, says.played.safe)
-  drill_promised seed WriteFault says = ((drill_of seed).plan, says.played.history, says.played.safe)
+  pub drill_promised : (seed : ℕ) (answer : Status) → Drills f e taken seed before after answer → Promise f before.disks after.disks answer
+  drill_promised seed Done says = safe_by (Summary seed) (drill_of seed) Done says.played says.served
+  drill_promised seed Alarmed says = safe_by (Summary seed) (drill_of seed) Alarmed says.played says.served
+  drill_promised seed WriteFault says = safe_by (Summary seed) (drill_of seed) WriteFault says.played says.served
   drill_promised seed Usage says = tt
   drill_promised seed (BadScript line) says = tt
   drill_promised seed ReadFault says = tt

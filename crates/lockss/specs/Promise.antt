@@ -6,6 +6,7 @@ use Rattle.lks_base.specs.declared.plans.Plan.{Plan}
 use Rattle.lks_disk.specs.Face.{Face}
 use Rattle.lks_law.specs.Histories.{IsHistory}
 use Rattle.lks_law.specs.Safe.{Safe}
+use Rattle.lks_world.specs.Counts.{ServesHonest}
 use Rattle.lks_world.specs.Held.{HaveBatches}
 use Rattle.lockss.specs.declared.statuses.Status.{Status}
 use Rattle.lockss.specs.declared.statuses.Status.TheVariants.{Done, Alarmed, Usage, BadScript, ReadFault, WriteFault, DiskFault, NoMemory, TooLong}
@@ -22,17 +23,21 @@ pub record IsSafeRun {D : Type 0} (f : Face D) (disks : List D) (plan : Plan) (h
   pub safe : Safe plan history
   pub held : HaveBatches f plan history disks
 
-abbrev pub SomeSafeRun : {D : Type 0} → Face D → List D → Type 0
-SomeSafeRun f disks = (plan : Plan) × (history : List Event) × IsSafeRun f disks plan history
+-- What stands on the disks is of such a run: a disk that isn't an honest peer's stays as it was.
+pub record SomeSafeRun {D : Type 0} (f : Face D) (before after : List D) : Type 0 where
+  pub plan : Plan
+  pub history : List Event
+  pub run : IsSafeRun f after plan history
+  pub served : ServesHonest f plan.peers before after None
 
 -- the promise at each answer: every run whose report was written, all of it or less, was a safe one
-abbrev pub Promise : {D : Type 0} → Face D → List D → Status → Type 0
-Promise f disks Done = SomeSafeRun f disks
-Promise f disks Alarmed = SomeSafeRun f disks
-Promise f disks WriteFault = SomeSafeRun f disks
-Promise f disks Usage = Unit {0}
-Promise f disks (BadScript line) = Unit {0}
-Promise f disks ReadFault = Unit {0}
-Promise f disks (DiskFault peer) = Unit {0}
-Promise f disks NoMemory = Unit {0}
-Promise f disks TooLong = Unit {0}
+abbrev pub Promise : {D : Type 0} → Face D → List D → List D → Status → Type 0
+Promise f before after Done = SomeSafeRun f before after
+Promise f before after Alarmed = SomeSafeRun f before after
+Promise f before after WriteFault = SomeSafeRun f before after
+Promise f before after Usage = Unit {0}
+Promise f before after (BadScript line) = Unit {0}
+Promise f before after ReadFault = Unit {0}
+Promise f before after (DiskFault peer) = Unit {0}
+Promise f before after NoMemory = Unit {0}
+Promise f before after TooLong = Unit {0}

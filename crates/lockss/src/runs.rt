@@ -106,7 +106,7 @@ pub fn run<R: Wait, S: Source, K: Sink, D: CrashDisk + Drop, J: EffortJudge, B: 
     bells: &mut Vec<B>,
 ) -> Status
     requires given { AreGiven D.face (ears J.heard J.verdict B.rung B.limit) (devices disks.old.items sink.old judge.old bells.old.items) }
-    ensures promise { Promise D.face disks.new.items result }
+    ensures promise { Promise D.face disks.old.items disks.new.items result }
     ensures usage { result ≡ Status.Usage → command_in (map string_bytes words.now) ≡ None }
     ensures does { Does D.face (ears J.heard J.verdict B.rung B.limit) K.taken S.left (command_in (map string_bytes words.now)) source.old source.new (devices disks.old.items sink.old judge.old bells.old.items) (devices disks.new.items sink.new judge.new bells.new.items) result }
     ensures complete { HasWork (command_in (map string_bytes words.now)) (S.left source.old)
