@@ -12,13 +12,13 @@ use Rattle.lks_base.specs.declared.plans.PlanFault.TheVariants.{Repeat}
 use Rattle.lks_base.specs.declared.records.Record.{Record}
 use Rattle.lks_base.specs.declared.records.Record.TheVariants.{Deposit}
 use Rattle.lks_base.proofs.PlanLaws.{no_first, no_second, stands}
-use Rattle.lks_law.specs.Journal.{deposit_in, deposit_of}
+use Rattle.lks_law.specs.Journal.{deposit_in, deposit_of, is_number}
 use Rattle.lks_law.specs.Linked.{Each}
 use Rattle.lks_law.specs.World.{deposit_for, deposits as deposits_of}
 use Rattle.lks_law.specs.Written.{is_deposit}
 use Rattle.lks_law.proofs.Growing.{IsLater, each_append, each_front, first_of, deposit_first, same_deposit}
 use Rattle.lks_evidence.specs.Records.{deposits}
-use Rattle.lks_evidence.specs.Rules.{count_in, is_number, deposited, is_deposited}
+use Rattle.lks_evidence.specs.Rules.{count_in, deposited, is_deposited}
 use Rattle.lks_evidence.proofs.Added.{IsBehind}
 
 abbrev is_of : ℕ → Record → Bool

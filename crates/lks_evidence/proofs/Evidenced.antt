@@ -7,14 +7,14 @@ use Rattle.lks_base.specs.declared.plans.AuPlan.{AuPlan}
 use Rattle.lks_base.specs.declared.plans.Plan.{Plan}
 use Rattle.lks_base.specs.declared.plans.Rules.{Rules}
 use Rattle.lks_base.specs.declared.records.Record.{Record}
-use Rattle.lks_law.specs.Journal.{Opening, Replacement, deposit_of, replacements, replaced_by, contents_of, is_shut}
+use Rattle.lks_law.specs.Journal.{Opening, Replacement, deposit_of, replacements, replaced_by, contents_of, is_shut, Repair, is_number}
 use Rattle.lks_law.specs.Polls.{Station, limits_of, ballot_of, inner_votes}
 use Rattle.lks_law.specs.Safe.{HasEvidence}
 use Rattle.lks_tally.specs.declared.ballots.Ballot.{Ballot}
 use Rattle.lks_tally.specs.Counting.{for_at, against_at}
 use Rattle.lks_evidence.specs.declared.findings.Shelf.{Shelf}
-use Rattle.lks_evidence.specs.Records.{Repair, deposits, openings}
-use Rattle.lks_evidence.specs.Rules.{count_in, is_number, deposited, is_deposited, is_held, is_polled, ballot_for}
+use Rattle.lks_evidence.specs.Records.{deposits, openings}
+use Rattle.lks_evidence.specs.Rules.{count_in, deposited, is_deposited, is_held, is_polled, ballot_for}
 use Rattle.lks_evidence.specs.Holding.{SetHolds, ballot_behind}
 
 replaced-length : (blocks : List (List ℕ)) (rs : List Replacement) → length (replaced_by blocks rs) ≡ length blocks

@@ -22,7 +22,7 @@ use Rattle.lks_hash.specs.Hashes.{key_of}
 use Rattle.lks_hash.specs.Running.{hashes_of}
 use Rattle.lks_law.specs.Facts.{HasJournal}
 use Rattle.lks_law.specs.Histories.{IsHistory}
-use Rattle.lks_law.specs.Journal.{Opening, deposit_of, contents_at, contents_of, opening_of}
+use Rattle.lks_law.specs.Journal.{Opening, deposit_of, contents_at, contents_of, opening_of, Repair}
 use Rattle.lks_law.specs.Linked.{Each, Any, Fact}
 use Rattle.lks_law.specs.Polls.{Station, limits_of, inner_votes, ballot_of}
 use Rattle.lks_law.specs.Voting.{named}
@@ -194,8 +194,8 @@ module _ (plan : Plan) (good : plan_fault plan ≡ None) (peers : List Standing)
         joined.0,
         joined.1,
         eq-eqb snap.join.au o.au (sym w.au),
-        committed.0,
-        committed.1,
+        committed,
+        snap.committed,
         (bytes_decides snap.commitment.nonce o.nonce).1 (sym w.nonce),
         kind_same snap.commitment.kind o.kind (sym w.kind),
         le-leb snap.commitment.version (mine.version_now o.au t.journal) newest,
@@ -217,7 +217,7 @@ module _ (plan : Plan) (history : List Event) (good : plan_fault plan ≡ None) 
       let evidence = sound.kept.rest.evidence i n au b bytes there in
       let o = evidence.opening in
       let before = take i t.journal in
-      let r : mine.Repair = record { number = n; au = au; block = b; bytes = bytes } in
+      let r : Repair = record { number = n; au = au; block = b; bytes = bytes } in
       let inner = inner_votes n o.inner before in
       let within : b < length (contents_of au t.journal) = subst (Any (Fact peers t.own t.journal)) there (place_of (Fact peers t.own t.journal) t.journal i sound.records) in
       let size = contents_length au t.journal in
@@ -283,7 +283,7 @@ module _ (plan : Plan) (history : List Event) (good : plan_fault plan ≡ None) 
         rw (x.2, honest, new) refl;
     repairs = λ k i n au b bytes s at there.
         let x = shelf_place (world plan history).peers set k s are at in
-        let r : mine.Repair = record { number = n; au = au; block = b; bytes = bytes } in
+        let r : Repair = record { number = n; au = au; block = b; bytes = bytes } in
         subst (λ id. Stands plan set id s.list.items (take i s.list.items) r) (sym x.2)
         (subst (λ js. Stands plan set x.0.own.id js (take i js) r) (sym x.3)
         (stand k x.0 x.1 i n au b bytes (subst (λ js. slice_get js i ≡ Some (Replaced n au b bytes)) x.3 there)));

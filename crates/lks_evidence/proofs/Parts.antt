@@ -8,11 +8,11 @@ use Rattle.std.proofs.lemmas.List.Folds.{list_any-append}
 use Rattle.lks_base.specs.Checking.{has_honest}
 use Rattle.lks_base.specs.declared.plans.Plan.{Plan}
 use Rattle.lks_base.specs.declared.records.Record.{Record}
+use Rattle.lks_law.specs.Journal.{Repair}
 use Rattle.lks_law.specs.Polls.{inner_votes}
 use Rattle.lks_tally.specs.declared.ballots.Ballot.{Ballot}
 use Rattle.lks_tally.specs.declared.ballots.Vote.{Vote}
 use Rattle.lks_evidence.specs.declared.findings.Shelf.{Shelf}
-use Rattle.lks_evidence.specs.Records.{Repair}
 use Rattle.lks_evidence.specs.Rules.{has_shelf, is_new, shelf_of, bears_out_if, is_founded}
 use Rattle.lks_evidence.specs.Holding.{Stands, SetHolds, ballot_behind}
 use Rattle.lks_evidence.specs.Parts.{IsPart}

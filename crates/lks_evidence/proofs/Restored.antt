@@ -13,10 +13,10 @@ use Rattle.lks_base.specs.declared.plans.Plan.{Plan}
 use Rattle.lks_base.specs.declared.records.Record.{Record}
 use Rattle.lks_hash.specs.Running.{hashes_of}
 use Rattle.lks_hash.proofs.RunningLaws.{hashes_length}
-use Rattle.lks_law.specs.Journal.{Opening, contents_at, contents_of, opening_of}
+use Rattle.lks_law.specs.Journal.{Opening, contents_at, contents_of, opening_of, Repair, is_number}
 use Rattle.lks_law.specs.Linked.{Each}
 use Rattle.lks_law.specs.Polls.{limits_of, inner_votes}
-use Rattle.lks_law.specs.Sessions.{Commitment}
+use Rattle.lks_law.specs.Sessions.{Commitment, commitment_of}
 use Rattle.lks_law.specs.Snapshots.{is_front}
 use Rattle.lks_law.proofs.Growing.{each_map}
 use Rattle.lks_law.proofs.Lists.{each_both}
@@ -25,8 +25,8 @@ use Rattle.lks_tally.specs.declared.ballots.Ballot.{Ballot}
 use Rattle.lks_tally.specs.declared.ballots.Vote.{Vote}
 use Rattle.lks_tally.specs.Counting.{key_for, against_at}
 use Rattle.lks_evidence.specs.declared.findings.Shelf.{Shelf}
-use Rattle.lks_evidence.specs.Records.{Repair, joins, join_of, commitments, commitment_of}
-use Rattle.lks_evidence.specs.Rules.{is_number, is_deposited, is_joined, is_for, is_over, is_committed, bears_out, bears_out_if, shelf_of, is_founded, ballot_for}
+use Rattle.lks_evidence.specs.Records.{joins, join_of, commitments}
+use Rattle.lks_evidence.specs.Rules.{is_deposited, is_joined, is_for, is_over, is_committed, bears_out, bears_out_if, shelf_of, is_founded, ballot_for}
 use Rattle.lks_evidence.specs.Holding.{SetHolds, ballot_behind}
 use Rattle.lks_evidence.specs.Restoring.{Journals, journals_of, version_by, named_version, held_if, holders, Collides, Restores}
 use Rattle.lks_evidence.proofs.Evidenced.{held_count, held_block}

@@ -8,14 +8,14 @@ use Rattle.lks_base.specs.declared.names.Limits.{Limits}
 use Rattle.lks_base.specs.declared.plans.Plan.{Plan}
 use Rattle.lks_base.specs.declared.records.Record.{Record}
 use Rattle.lks_base.specs.declared.records.Record.TheVariants.{Replaced}
-use Rattle.lks_law.specs.Journal.{Opening, opening_of}
+use Rattle.lks_law.specs.Journal.{Opening, opening_of, Repair}
 use Rattle.lks_tally.specs.declared.ballots.Ballot.{Ballot}
 use Rattle.lks_tally.specs.declared.ballots.Vote.{Vote}
 use Rattle.lks_tally.specs.Counting.{for_at, against_at}
 use Rattle.lks_tally.specs.Distinct.{AreDistinct}
 use Rattle.lks_evidence.specs.declared.findings.Shelf.{Shelf}
 use Rattle.lks_evidence.specs.declared.findings.Why.{Why}
-use Rattle.lks_evidence.specs.Records.{Repair, repair_in}
+use Rattle.lks_evidence.specs.Records.{repair_in}
 use Rattle.lks_evidence.specs.Rules.{unless, is_new, is_held, is_polled, is_long, is_founded, shape_doubt, loss_doubt, win_doubt, voter_doubt, votes_doubt, opened_doubt, poll_doubt_if, poll_doubt}
 use Rattle.lks_evidence.specs.Search.{each, doubt_at, held_doubt, first_at, first_of_shelf, repair_doubt, second_at, second_of_shelf, first_doubt}
 use Rattle.lks_evidence.specs.Holding.{Stands, SetHolds}

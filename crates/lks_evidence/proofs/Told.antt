@@ -1,18 +1,17 @@
 -- What evidence reads off a journal is what the laws on histories read off it.
 use Rattle.std.proofs.Common.{◌≡◌, ◌≤◌, ◌+◌, ◌∙◌, ap, sym, ℕ, Bool, true, false, cond, List, [], ◌∷◌, length, take, drop, refl, arith}
-use Rattle.std.specs.Prelude.{Option, Some, None, is_some, option_map, count_by}
+use Rattle.std.specs.Prelude.{Option, Some, None, is_some, option_map, option_and_then, count_by}
 use Rattle.std.specs.List.{filter_map, cons_option}
 use Rattle.std.proofs.lemmas.List.{length-append, take-append-drop}
 use Rattle.std.proofs.lemmas.List.Elements.{filter_map-append}
 use Rattle.std.proofs.lemmas.List.Sums.{sum_by-cons}
 use Rattle.lks_base.specs.declared.names.PollName.{PollName}
 use Rattle.lks_base.specs.declared.records.Record.{Record}
-use Rattle.lks_base.specs.declared.records.Record.TheVariants.{Joined, Committed, Voted, Served, Ended}
 use Rattle.lks_law.specs.Journal.{Opening, opening_in, opening_of, replacement_in}
 use Rattle.lks_law.specs.Sessions as law
-use Rattle.lks_law.specs.Sessions.{Commitment, is_poll, first_in}
+use Rattle.lks_law.specs.Sessions.{Commitment, is_poll, part_of, join_by, of_poll, commitment_in, commitment_of, first_in}
 use Rattle.lks_law.proofs.Growing.{opening_first}
-use Rattle.lks_evidence.specs.Records.{join_in, commitment_in, openings, version_now, joins, join_of, commitments, commitment_of}
+use Rattle.lks_evidence.specs.Records.{join_in, openings, version_now, joins, join_of, commitments}
 
 count_is : {X : Type 0} (has : Record → Option X) (js : List Record) → count_by (λ r. is_some (has r)) js ≡ length (filter_map has js)
 count_is has [] = refl
@@ -74,35 +73,21 @@ module _ {X Y : Type 0} (f : X → Y) (has : Record → Option X) (has' : Record
 abbrev au_of : law.Join → ℕ
 au_of j = j.au
 
-abbrev told : Commitment → Commitment
-told c = c
-
-if_told : {X Y : Type 0} (f : X → Y) (b : Bool) (x : X) → cond b (Some (f x)) None ≡ option_map f (cond b (Some x) None)
-if_told f true x = refl
-if_told f false x = refl
-
-abbrev none : {X : Type 0} → Option X
-none = None
-
-none_told : {X Y : Type 0} (f : X → Y) (b : Bool) → none ≡ option_map f (cond b (none {X = X}) none)
-none_told f true = refl
-none_told f false = refl
-
 join_same : (q : PollName) (r : Record) → join_in q r ≡ option_map au_of (law.join_in q r)
-join_same q (Joined p au tick low repairs) = if_told au_of (is_poll p q) (record { au = au; tick = tick; low = low; repairs = repairs })
-join_same q (Committed p nonce version kind) = none_told au_of (is_poll p q)
-join_same q (Voted p hashes) = none_told au_of (is_poll p q)
-join_same q (Served p block) = none_told au_of (is_poll p q)
-join_same q (Ended p) = none_told au_of (is_poll p q)
-join_same q r = refl
+join_same q r = by_part (part_of r)
+  where
+    by_name : (b : Bool) (j : law.Join) → cond b (Some j.au) None ≡ option_map au_of (cond b (Some j) None)
+    by_name true j = refl
+    by_name false j = refl
 
-commitment_same : (q : PollName) (r : Record) → commitment_in q r ≡ option_map told (law.commitment_in q r)
-commitment_same q (Committed p nonce version kind) = if_told told (is_poll p q) (record { nonce = nonce; version = version; kind = kind })
-commitment_same q (Joined p au tick low repairs) = none_told told (is_poll p q)
-commitment_same q (Voted p hashes) = none_told told (is_poll p q)
-commitment_same q (Served p block) = none_told told (is_poll p q)
-commitment_same q (Ended p) = none_told told (is_poll p q)
-commitment_same q r = refl
+    by_join : (p : law.Part) (o : Option law.Join)
+        → option_and_then (λ x. cond (is_poll p.poll q) (Some x) None) (option_map au_of o) ≡ option_map au_of (option_and_then (λ x. cond (is_poll p.poll q) (Some x) None) o)
+    by_join p None = refl
+    by_join p (Some j) = by_name (is_poll p.poll q) j
+
+    by_part : (o : Option law.Part) → of_poll q (λ t. option_map au_of (join_by t)) o ≡ option_map au_of (of_poll q join_by o)
+    by_part None = refl
+    by_part (Some p) = by_join p (join_by p.turn)
 
 pub joined_once : (q : PollName) (js : List Record) (j : law.Join) → length (filter_map (law.join_in q) js) ≤ 1 → law.join_of q js ≡ Some j → (joins q js ≡ 1) × (join_of q js ≡ Some j.au)
 unfolding joins join_of law.join_of
@@ -111,10 +96,6 @@ joined_once q js j single e =
     let count = count_same au_of (law.join_in q) (join_in q) (join_same q) js ∙ count_is (law.join_in q) js in
     (omega (arith, some, count, single), first_same au_of (law.join_in q) (join_in q) (join_same q) js ∙ ap (option_map au_of) e)
 
-pub committed_once : (q : PollName) (js : List Record) (c : Commitment) → length (filter_map (law.commitment_in q) js) ≤ 1 → law.commitment_of q js ≡ Some c
-    → (commitments q js ≡ 1) × (commitment_of q js ≡ Some c)
-unfolding commitments commitment_of law.commitment_of
-committed_once q js c single e =
-    let some = found_some (law.commitment_in q) js c e in
-    let count = count_same told (law.commitment_in q) (commitment_in q) (commitment_same q) js ∙ count_is (law.commitment_in q) js in
-    (omega (arith, some, count, single), first_same told (law.commitment_in q) (commitment_in q) (commitment_same q) js ∙ ap (option_map told) e)
+pub committed_once : (q : PollName) (js : List Record) (c : Commitment) → length (filter_map (commitment_in q) js) ≤ 1 → commitment_of q js ≡ Some c → commitments q js ≡ 1
+unfolding commitments commitment_of
+committed_once q js c single e = omega (arith, found_some (commitment_in q) js c e, count_is (commitment_in q) js, single)

@@ -3,7 +3,7 @@ use Rattle.std.specs.Prelude.{◌≡◌, ◌≤◌, ℕ, true, Some, unwrap_or, 
 use Rattle.lks_base.specs.declared.plans.Plan.{Plan}
 use Rattle.lks_base.specs.declared.records.Record.{Record}
 use Rattle.lks_base.specs.declared.records.Record.TheVariants.{Replaced}
-use Rattle.lks_law.specs.Journal.{Opening, contents_of, opening_of}
+use Rattle.lks_law.specs.Journal.{Opening, contents_of, opening_of, Repair}
 use Rattle.lks_law.specs.Polls.{limits_of, inner_votes}
 use Rattle.lks_tally.specs.declared.ballots.Ballot.{Ballot}
 use Rattle.lks_tally.specs.Counting.{for_at, against_at}
@@ -11,7 +11,6 @@ use Rattle.lks_tally.specs.Distinct.{AreDistinct}
 use Rattle.lks_evidence.specs.declared.findings.Shelf.{Shelf}
 use Rattle.lks_evidence.specs.declared.findings.Finding.{Finding}
 use Rattle.lks_evidence.specs.declared.findings.Finding.TheVariants.{Yes, No}
-use Rattle.lks_evidence.specs.Records.{Repair}
 use Rattle.lks_evidence.specs.Rules.{is_new, is_held, is_polled, is_founded, count_in, ballot_for}
 
 -- the ballot of the poll behind a repair

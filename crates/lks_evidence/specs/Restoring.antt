@@ -8,13 +8,13 @@ use Rattle.lks_base.specs.declared.records.Record.{Record}
 use Rattle.lks_base.specs.declared.records.Record.TheVariants.{Replaced}
 use Rattle.lks_law.specs.Journal.{Opening, contents_at, contents_of, opening_of}
 use Rattle.lks_law.specs.Polls.{limits_of, inner_votes}
-use Rattle.lks_law.specs.Sessions.{Commitment}
+use Rattle.lks_law.specs.Sessions.{Commitment, commitment_of}
 use Rattle.lks_law.specs.Snapshots.{is_front, Collision}
 use Rattle.lks_tally.specs.declared.ballots.Ballot.{Ballot}
 use Rattle.lks_tally.specs.declared.ballots.Vote.{Vote}
 use Rattle.lks_tally.specs.Counting.{key_for}
 use Rattle.lks_evidence.specs.declared.findings.Shelf.{Shelf}
-use Rattle.lks_evidence.specs.Records.{join_of, commitment_of}
+use Rattle.lks_evidence.specs.Records.{join_of}
 use Rattle.lks_evidence.specs.Rules.{ballot_for, shelf_of}
 
 -- the journals that are known, by peer

@@ -11,9 +11,9 @@ use Rattle.lks_base.specs.declared.plans.AuPlan.{AuPlan}
 use Rattle.lks_base.specs.declared.plans.Plan.{Plan}
 use Rattle.lks_base.specs.declared.records.Record.{Record}
 use Rattle.lks_hash.specs.Running.{hashes_of}
-use Rattle.lks_law.specs.Journal.{Opening, deposit_of, contents_at, contents_of, opening_of, is_shut}
+use Rattle.lks_law.specs.Journal.{Opening, deposit_of, contents_at, contents_of, opening_of, is_number, is_shut, Repair}
 use Rattle.lks_law.specs.Polls.{limits_of, inner_votes}
-use Rattle.lks_law.specs.Sessions.{Commitment}
+use Rattle.lks_law.specs.Sessions.{Commitment, commitment_of}
 use Rattle.lks_tally.specs.declared.ballots.Ballot.{Ballot}
 use Rattle.lks_tally.specs.declared.ballots.Vote.{Vote}
 use Rattle.lks_tally.specs.Counting.{key_for, for_at, against_at}
@@ -21,7 +21,7 @@ use Rattle.lks_tally.specs.Keeping.{has_voted}
 use Rattle.lks_evidence.specs.declared.findings.Shelf.{Shelf}
 use Rattle.lks_evidence.specs.declared.findings.Why.{Why}
 use Rattle.lks_evidence.specs.declared.findings.Why.TheVariants as why
-use Rattle.lks_evidence.specs.Records.{Repair, deposits, openings, version_now, joins, join_of, commitments, commitment_of}
+use Rattle.lks_evidence.specs.Records.{deposits, openings, version_now, joins, join_of, commitments}
 
 infixr 20 ◌▹◌
 -- the first of two
@@ -46,10 +46,6 @@ is_new plan earlier peer = has_honest plan.peers peer && not (has_shelf earlier 
 unfoldable pub count_in : List AuPlan → ℕ → Option ℕ
 count_in [] au = None
 count_in (a ∷ aus) au = if a.id == au then Some a.count else count_in aus au
-
-abbrev pub is_number : Option ℕ → ℕ → Bool
-is_number None n = false
-is_number (Some number) n = number == n
 
 -- the blocks that the AU was deposited with
 unfoldable pub deposited : ℕ → List Record → List (List ℕ)

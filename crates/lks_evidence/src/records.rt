@@ -3,8 +3,8 @@
 ghost use Rattle.std.specs.Prelude.{◌≡◌, ◌≤◌, IfOk, length, option_map};
 ghost use Rattle.lks_law.specs.Journal.{deposit_in, deposit_of, opening_in, opening_of, is_shut, vote_in};
 ghost use Rattle.lks_law.specs.Polls.{votes, inner_votes};
-ghost use Rattle.lks_law.specs.Sessions.{is_poll};
-ghost use Rattle.lks_evidence.specs.Records.{repair_in, join_in, commitment_in, deposits, openings, version_now, joins, join_of, commitments, commitment_of, repairs};
+ghost use Rattle.lks_law.specs.Sessions.{is_poll, commitment_in, commitment_of};
+ghost use Rattle.lks_evidence.specs.Records.{repair_in, join_in, deposits, openings, version_now, joins, join_of, commitments, repairs};
 
 use lks_base::{AuId, Bytes, HashKind, Limits, OutOfMemory, PollName, Record, has_member};
 use lks_tally::Vote;
@@ -21,7 +21,7 @@ pub struct Repair<'a> {
 }
 
 impl<'a> Model for Repair<'a> {
-    ghost use Rattle.lks_evidence.specs.Records.{Repair as Kept};
+    ghost use Rattle.lks_law.specs.Journal.{Repair as Kept};
 
     ghost Value = { Kept };
 
@@ -393,7 +393,7 @@ fn as_commitment<'a>(r: &'a Record, q: &PollName) -> Option<Commitment<'a>>
 }
 
 /// To what the peer first committed in the poll.
-#[tactic(auto, unfolding(crate::specs::Records::commitment_of))]
+#[tactic(auto, unfolding(lks_law::specs::Sessions::commitment_of))]
 pub fn find_commitment<'a>(journal: &'a [Record], q: &PollName) -> Option<Commitment<'a>>
     ensures { result ≡ commitment_of q.now journal.now }
 {

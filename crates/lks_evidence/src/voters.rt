@@ -1,8 +1,9 @@
 //! What the journals of voters say of their votes.
 
 ghost use Rattle.std.specs.Prelude.{◌≡◌, IfOk, length, option_map};
-ghost use Rattle.lks_evidence.specs.Rules.{count_in, is_number, deposited, is_deposited, is_kind, is_committed, bears_out, shelf_of, is_founded, first_failing};
-ghost use Rattle.lks_evidence.specs.Records.{commitment_of};
+ghost use Rattle.lks_law.specs.Journal.{is_number};
+ghost use Rattle.lks_law.specs.Sessions.{commitment_of};
+ghost use Rattle.lks_evidence.specs.Rules.{count_in, deposited, is_deposited, is_kind, is_committed, bears_out, shelf_of, is_founded, first_failing};
 ghost use Rattle.lks_evidence.specs.Rules as rules;
 
 use crate::copies::copy_at;

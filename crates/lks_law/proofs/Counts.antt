@@ -1,12 +1,12 @@
 -- How many sessions are open, which of them wait for their vote, and the marks of peers: over a journal and one record more.
 use Rattle.std.proofs.Common.{◌≡◌, ◌+◌, ◌∙◌, ap, sym, ℕ, Bool, true, false, cond, eqb, List, [], ◌∷◌, ◌++◌, refl, arith}
-use Rattle.std.specs.Prelude.{Option, Some, None, is_some, unwrap_or, filter, find, not, ◌&&◌, ◌||◌, count_by}
+use Rattle.std.specs.Prelude.{Option, Some, None, is_some, unwrap_or, option_and_then, filter, find, not, ◌&&◌, ◌||◌, count_by}
 use Rattle.std.specs.List.{filter_map, cons_option}
 use Rattle.std.proofs.lemmas.Bool.{eqb-true}
 use Rattle.std.proofs.lemmas.List.Sums.{sum_by-cons, sum_by_push}
 use Rattle.lks_base.specs.declared.names.PollName.{PollName}
 use Rattle.lks_base.specs.declared.records.Record.{Record}
-use Rattle.lks_law.specs.Journal.{Told, voted_by}
+use Rattle.lks_law.specs.Journal.{Told, said}
 use Rattle.lks_law.specs.Sessions.{Turn, Part, is_poll, part_of, join_by, commitment_by, hashes_by, of_poll, ends, first_in, join_of, commitment_of, is_ended, joined_part, joined_in, joined_polls, committed_part, committed_in, committed_polls, is_vote_by, received, is_vote_for, given, low_part, low_from, last_low}
 use Rattle.lks_law.specs.Taking.{Mark, mark_at, mark_put, marked_given, marks_told, marks_turned, marks_by}
 use Rattle.lks_law.proofs.Grown.{any_more}
@@ -57,15 +57,11 @@ named_is {X = X} says q (r ∷ rs) = first_name (named_if says (part_of r)) (fil
 
     by_part : (o : Option Part) → is_some (at itself q (cons_option (named_if says o) [])) ≡ is_some (of_poll q says o)
     by_part None = refl
-    by_part (Some p) = by_says (says p.turn) (is_poll p.poll q)
+    by_part (Some p) = by_says (says p.turn)
       where
-        by_says : (o : Option X) (b : Bool) → is_some (at itself q (cons_option (cond (is_some o) (Some p.poll) None) [])) ≡ is_some (cond (is_poll p.poll q) o None)
-        by_says None b = sym (ap is_some (both (is_poll p.poll q)))
-          where
-            both : (b : Bool) → cond {A = Option X} b None None ≡ None
-            both true = refl
-            both false = refl
-        by_says (Some x) b = by_test (is_poll p.poll q)
+        by_says : (o : Option X) → is_some (at itself q (cons_option (cond (is_some o) (Some p.poll) None) [])) ≡ is_some (option_and_then (λ x. cond (is_poll p.poll q) (Some x) None) o)
+        by_says None = refl
+        by_says (Some x) = by_test (is_poll p.poll q)
           where
             by_test : (b : Bool) → is_some (cond {A = Option PollName} b (Some p.poll) None) ≡ is_some (cond b (Some x) None)
             by_test true = refl
@@ -186,9 +182,9 @@ marks_found f m (x ∷ ms) = by_tests (eqb x.peer m.peer) refl (eqb m.peer f) re
 abbrev pub mark_of : ℕ → List Record → Mark
 mark_of f js = record { peer = f; received = received f js; given = given f js }
 
-received_more : (f : ℕ) (js : List Record) (r : Record) → received f (js ++ r ∷ []) ≡ received f js + cond (is_vote_by f (voted_by r)) 1 0
+received_more : (f : ℕ) (js : List Record) (r : Record) → received f (js ++ r ∷ []) ≡ received f js + cond (is_vote_by f (said r).voted) 1 0
 unfolding received
-received_more f js r = sum_by_push (λ j. cond (is_vote_by f (voted_by j)) 1 0) js r
+received_more f js r = sum_by_push (λ j. cond (is_vote_by f (said j).voted) 1 0) js r
 
 given_more : (f : ℕ) (js : List Record) (r : Record) → given f (js ++ r ∷ []) ≡ given f js + cond (is_vote_for f (part_of r)) 1 0
 unfolding given
@@ -243,9 +239,9 @@ module _ (js : List Record) (ms : List Mark) (are : (f : ℕ) → mark_at f ms �
       by_turn (Turn.Serves block) = none_given ns k has (eqb p.poll.poller f && false) (and_false (eqb p.poll.poller f)) f
       by_turn Turn.Ends = none_given ns k has (eqb p.poll.poller f && false) (and_false (eqb p.poll.poller f)) f
 
-  pub marks_more : (r : Record) (f : ℕ) → mark_at f (marks_by (part_of r) (marks_told (voted_by r) ms)) ≡ mark_of f (js ++ r ∷ [])
+  pub marks_more : (r : Record) (f : ℕ) → mark_at f (marks_by (part_of r) (marks_told (said r).voted ms)) ≡ mark_of f (js ++ r ∷ [])
   marks_more r f =
-      marks_by_part (marks_told (voted_by r) ms) (λ f. received f js + cond (is_vote_by f (voted_by r)) 1 0) (told_are (voted_by r)) (part_of r) f
+      marks_by_part (marks_told (said r).voted ms) (λ f. received f js + cond (is_vote_by f (said r).voted) 1 0) (told_are (said r).voted) (part_of r) f
       ∙ (λ i. record { peer = f; received = sym (received_more f js r) i; given = sym (given_more f js r) i })
 
 -- The last admission of a peer of low grade.

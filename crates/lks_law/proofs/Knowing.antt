@@ -10,7 +10,7 @@ use Rattle.lks_base.specs.Kinds.{is_second}
 use Rattle.lks_base.specs.declared.messages.Message.TheVariants as message
 use Rattle.lks_base.specs.declared.names.PollName.{PollName}
 use Rattle.lks_base.specs.declared.records.Record.{Record}
-use Rattle.lks_base.specs.declared.records.Record.TheVariants.{Deposit, PollOpened, Asked, RepairBad, Replaced, Joined, Committed, Voted, Served, Ended}
+use Rattle.lks_base.specs.declared.records.Record.TheVariants.{Deposit, PollOpened, Asked, RepairBad, Replaced, Joined, Committed, Voted}
 use Rattle.lks_hash.specs.Hashes.{hash_of, key_of, nonce_from}
 use Rattle.lks_hash.specs.Running.{linked, hashes_of}
 use Rattle.lks_hash.proofs.RunningLaws.{hashes_length}
@@ -29,11 +29,6 @@ has_is P o x e p = subst (Has P) (sym e) p
 
 pub is_had : {X : Type 0} (P : X → Type 0) (o : Option X) (x : X) → o ≡ Some x → Has P o → P x
 is_had P o x e p = subst (Has P) e p
-
--- a record that tells another thing of a poll tells nothing here
-pub none_told : {X : Type 0} (b : Bool) (x : X) → cond {A = Option X} b None None ≡ Some x → ⊥
-none_told true x e = absurd cc
-none_told false x e = absurd cc
 
 pub hash_length : (second : Bool) (bytes : List ℕ) → length (hash_of second bytes) ≡ 32
 hash_length true bytes = length-sha512_256 bytes
@@ -98,10 +93,6 @@ module _ (peers : List Standing) (own : Station) (js : List Record) (all : Each 
 
       by_record : (r : Record) (j : Join) → join_in q r ≡ Some j → Fact peers own js r → q.number < 2 ^ 32
       by_record (Joined p au tick low repairs) j e fact = by_name (is_poll p q) p (Some (record { au = au; tick = tick; low = low; repairs = repairs })) j refl fact.0 e
-      by_record (Committed p nonce version kind) j e fact = absurd (none_told (is_poll p q) j e)
-      by_record (Voted p hashes) j e fact = absurd (none_told (is_poll p q) j e)
-      by_record (Served p block) j e fact = absurd (none_told (is_poll p q) j e)
-      by_record (Ended p) j e fact = absurd (none_told (is_poll p q) j e)
       by_record r j e fact = absurd cc
 
   pub committed_fact : (q : PollName) (c : Commitment) → commitment_of q js ≡ Some c → Has (λ j. c.version ≤ version_now j.au js) (join_of q js)
@@ -116,10 +107,6 @@ module _ (peers : List Standing) (own : Station) (js : List Record) (all : Each 
 
       by_record : (r : Record) (c : Commitment) → commitment_in q r ≡ Some c → Fact peers own js r → Has (λ j. c.version ≤ version_now j.au js) (join_of q js)
       by_record (Committed p nonce version kind) c e fact = by_name (is_poll p q) p (record { nonce = nonce; version = version; kind = kind }) c refl fact.0 e
-      by_record (Joined p au tick low repairs) c e fact = absurd (none_told (is_poll p q) c e)
-      by_record (Voted p hashes) c e fact = absurd (none_told (is_poll p q) c e)
-      by_record (Served p block) c e fact = absurd (none_told (is_poll p q) c e)
-      by_record (Ended p) c e fact = absurd (none_told (is_poll p q) c e)
       by_record r c e fact = absurd cc
 
   pub voted_fact : (q : PollName) (hashes : List (List ℕ)) → hashes_of_vote q js ≡ Some hashes → Has (λ j. Has (IsVoteOver own js q hashes j) (commitment_of q js)) (join_of q js)
@@ -136,10 +123,6 @@ module _ (peers : List Standing) (own : Station) (js : List Record) (all : Each 
 
       by_record : (r : Record) (hs : List (List ℕ)) → hashes_in q r ≡ Some hs → Fact peers own js r → Has (λ j. Has (IsVoteOver own js q hs j) (commitment_of q js)) (join_of q js)
       by_record (Voted p x) hs e fact = by_name (is_poll p q) p x hs refl fact e
-      by_record (Joined p au tick low repairs) hs e fact = absurd (none_told (is_poll p q) hs e)
-      by_record (Committed p nonce version kind) hs e fact = absurd (none_told (is_poll p q) hs e)
-      by_record (Served p block) hs e fact = absurd (none_told (is_poll p q) hs e)
-      by_record (Ended p) hs e fact = absurd (none_told (is_poll p q) hs e)
       by_record r hs e fact = absurd cc
 
   -- a request is for a block that is there

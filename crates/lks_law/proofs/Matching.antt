@@ -7,7 +7,7 @@ use Rattle.lks_base.specs.Checking.{has_member}
 use Rattle.lks_base.specs.Kinds.{is_second}
 use Rattle.lks_base.specs.declared.names.PollName.{PollName}
 use Rattle.lks_base.specs.declared.records.Record.{Record}
-use Rattle.lks_base.specs.declared.records.Record.TheVariants.{VoteIn, Joined, Committed, Voted, Served, Ended}
+use Rattle.lks_base.specs.declared.records.Record.TheVariants.{VoteIn, Joined, Committed}
 use Rattle.lks_hash.specs.Hashes.{key_of}
 use Rattle.lks_hash.specs.Running.{hashes_of}
 use Rattle.lks_hash.proofs.RunningLaws.{hashes_length}
@@ -20,7 +20,7 @@ use Rattle.lks_law.specs.Voting.{named, vote_hashes}
 use Rattle.lks_law.specs.World.{Standing, peer_at}
 use Rattle.lks_law.proofs.Growing.{first_of, each_front}
 use Rattle.lks_law.proofs.Keyed.{same_poll}
-use Rattle.lks_law.proofs.Knowing.{none_told, is_had, voted_fact}
+use Rattle.lks_law.proofs.Knowing.{is_had, voted_fact}
 use Rattle.lks_law.proofs.Linking.{at_own}
 use Rattle.lks_law.proofs.Lists.{each_filter}
 use Rattle.lks_law.proofs.Worlds.{IsSound}
@@ -51,10 +51,6 @@ module _ (peers : List Standing) (own : Station) (js : List Record) (all : Each 
 
       by_record : (r : Record) (j : Join) → join_in q r ≡ Some j → Fact peers own js r → Any (λ s. Has (λ o. o.au ≡ j.au) (opening_of q.number s.journal)) (peer_at q.poller peers)
       by_record (Joined p au tick low repairs) j e fact = by_name (is_poll p q) p (record { au = au; tick = tick; low = low; repairs = repairs }) j refl fact.1 e
-      by_record (Committed p nonce version kind) j e fact = absurd (none_told (is_poll p q) j e)
-      by_record (Voted p hashes) j e fact = absurd (none_told (is_poll p q) j e)
-      by_record (Served p block) j e fact = absurd (none_told (is_poll p q) j e)
-      by_record (Ended p) j e fact = absurd (none_told (is_poll p q) j e)
       by_record r j e fact = absurd cc
 
   -- it is committed under the poll's nonce and kind of hash
@@ -72,10 +68,6 @@ module _ (peers : List Standing) (own : Station) (js : List Record) (all : Each 
 
       by_record : (r : Record) (c : Commitment) → commitment_in q r ≡ Some c → Fact peers own js r → Any (λ s. Has (λ o. (o.nonce ≡ c.nonce) × (o.kind ≡ c.kind)) (opening_of q.number s.journal)) (peer_at q.poller peers)
       by_record (Committed p nonce version kind) c e fact = by_name (is_poll p q) p (record { nonce = nonce; version = version; kind = kind }) c refl fact.1 e
-      by_record (Joined p au tick low repairs) c e fact = absurd (none_told (is_poll p q) c e)
-      by_record (Voted p hashes) c e fact = absurd (none_told (is_poll p q) c e)
-      by_record (Served p block) c e fact = absurd (none_told (is_poll p q) c e)
-      by_record (Ended p) c e fact = absurd (none_told (is_poll p q) c e)
       by_record r c e fact = absurd cc
 
   -- what is known of a vote that a journal has

@@ -81,10 +81,6 @@ pub none_of : {X : Type 0} (o : Option X) → is_some o ≡ false → o ≡ None
 none_of None e = refl
 none_of (Some x) e = absurd cc
 
-both_none : {X : Type 0} (b : Bool) → cond {A = Option X} b None None ≡ None
-both_none true = refl
-both_none false = refl
-
 -- what isn't there can't be
 not_there : {X Y : Type 0} (o : Option X) (p : Option Y) → (is_some o ≡ true → is_some p ≡ true) → p ≡ None → o ≡ None
 not_there None p leads e = refl

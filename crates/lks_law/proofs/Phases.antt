@@ -1,6 +1,6 @@
 -- What a journal says of the peer's part in one poll, and one record more.
 use Rattle.std.proofs.Common.{◌≡◌, ◌≤◌, ◌∙◌, ap, sym, subst, ℕ, Bool, true, false, cond, List, [], ◌∷◌, ◌++◌, length, refl, arith}
-use Rattle.std.specs.Prelude.{Option, Some, None, is_some, unwrap_or, take, ◌&&◌}
+use Rattle.std.specs.Prelude.{Option, Some, None, is_some, unwrap_or, option_and_then, take, ◌&&◌}
 use Rattle.std.specs.List.{list_all}
 use Rattle.std.proofs.lemmas.List.{take-append-le, take_all}
 use Rattle.lks_base.specs.declared.names.PollName.{PollName}
@@ -10,7 +10,7 @@ use Rattle.lks_law.specs.Journal.{Replacement, deposit_in, deposit_of, replaceme
 use Rattle.lks_law.specs.Sessions.{Join, Commitment, Turn, Part, is_poll, part_of, join_by, commitment_by, hashes_by, block_by, is_end, of_poll, join_in, commitment_in, hashes_in, served_in, ends_part, ends, first_in, join_of, commitment_of, hashes_of_vote, served, is_ended, version_now}
 use Rattle.lks_law.specs.Written.{is_deposit}
 use Rattle.lks_law.proofs.Grown.{any_more, deposit_more}
-use Rattle.lks_law.proofs.Keyed.{first, first_only, is_itself, off, on}
+use Rattle.lks_law.proofs.Keyed.{first, first_only, is_itself}
 use Rattle.lks_law.proofs.RunningPolls.{pushed, filter_map_more}
 
 pub record Phase : Type 0 where
@@ -69,24 +69,32 @@ phase_more q js r = λ i. record {
 none_said : (q : PollName) (p : Phase) → said q None p ≡ p
 none_said q p = λ i. record p { join = first_only p.join i; commitment = first_only p.commitment i; hashes = first_only p.hashes i }
 
--- of another poll nothing is said
+-- of another poll nothing is said, and of this one all
+
+other_says : {X : Type 0} (b : Bool) (o : Option X) → b ≡ false → option_and_then (λ x. cond b (Some x) None) o ≡ None
+other_says b None e = refl
+other_says {X = X} b (Some x) e = ap (λ c. cond {A = Option X} c (Some x) None) e
+
+own_says : {X : Type 0} (b : Bool) (o : Option X) → b ≡ true → option_and_then (λ x. cond b (Some x) None) o ≡ o
+own_says b None e = refl
+own_says {X = X} b (Some x) e = ap (λ c. cond {A = Option X} c (Some x) None) e
 
 other_said : (q : PollName) (x : Part) (p : Phase) → is_poll x.poll q ≡ false → said q (Some x) p ≡ p
 other_said q x p other = λ i. record {
-  join = (ap (first p.join) (off (is_poll x.poll q) (join_by x.turn) None other) ∙ first_only p.join) i;
-  commitment = (ap (first p.commitment) (off (is_poll x.poll q) (commitment_by x.turn) None other) ∙ first_only p.commitment) i;
-  hashes = (ap (first p.hashes) (off (is_poll x.poll q) (hashes_by x.turn) None other) ∙ first_only p.hashes) i;
-  served = ap (pushed p.served) (off (is_poll x.poll q) (block_by x.turn) None other) i;
+  join = (ap (first p.join) (other_says (is_poll x.poll q) (join_by x.turn) other) ∙ first_only p.join) i;
+  commitment = (ap (first p.commitment) (other_says (is_poll x.poll q) (commitment_by x.turn) other) ∙ first_only p.commitment) i;
+  hashes = (ap (first p.hashes) (other_says (is_poll x.poll q) (hashes_by x.turn) other) ∙ first_only p.hashes) i;
+  served = ap (pushed p.served) (other_says (is_poll x.poll q) (block_by x.turn) other) i;
   over = ap (λ b. cond (b && is_end x.turn) true p.over) other i;
 }
 
 mine_said : (q : PollName) (t : Turn) (p : Phase) → said q (Some (record { poll = q; turn = t })) p ≡ turned_in t p
 mine_said q t p =
     (λ i. record {
-      join = first p.join (on (is_poll q q) (join_by t) None (is_itself q) i);
-      commitment = first p.commitment (on (is_poll q q) (commitment_by t) None (is_itself q) i);
-      hashes = first p.hashes (on (is_poll q q) (hashes_by t) None (is_itself q) i);
-      served = pushed p.served (on (is_poll q q) (block_by t) None (is_itself q) i);
+      join = first p.join (own_says (is_poll q q) (join_by t) (is_itself q) i);
+      commitment = first p.commitment (own_says (is_poll q q) (commitment_by t) (is_itself q) i);
+      hashes = first p.hashes (own_says (is_poll q q) (hashes_by t) (is_itself q) i);
+      served = pushed p.served (own_says (is_poll q q) (block_by t) (is_itself q) i);
       over = cond (is_itself q i && is_end t) true p.over;
     }) ∙ by_turn t
   where

@@ -25,7 +25,6 @@ use Rattle.lks_base.specs.declared.names.PollName.{PollName}
 use Rattle.lks_law.specs.Journal.{Opening, opening_in, opening_of, openings}
 use Rattle.lks_law.specs.Sessions.{Join, Commitment, is_poll, first_in, join_in, join_of, commitment_in, commitment_of, hashes_in, hashes_of_vote}
 use Rattle.lks_law.proofs.Keyed.{same_poll}
-use Rattle.lks_law.proofs.Knowing.{none_told}
 use Rattle.lks_law.specs.Polls.{Station}
 use Rattle.lks_law.specs.World.{Standing, World, Deed, got, delivered, own_deed_of, deed_of, peer_at, with_records, sent_by, reaction_at, peers_after, sent, after_step, happens, happen_all}
 use Rattle.lks_law.specs.Table.{reaction}
@@ -98,33 +97,17 @@ module _ (peers : List Standing) (own : Station) (js after : List Record) where
   new_join : (q : PollName) (r : Record) → MayAdd peers own js after r → (j : Join) → join_in q r ≡ Some j → first_in (join_in q) js ≡ None
   unfolding join_of
   new_join q (records.Joined p au tick low repairs) may j e = by_name (is_poll p q) (record { au = au; tick = tick; low = low; repairs = repairs }) j p q (λ x. join_of x js ≡ None) refl e may.0
-  new_join q (records.Committed p nonce version kind) may j e = absurd (none_told (is_poll p q) j e)
-  new_join q (records.Voted p hashes) may j e = absurd (none_told (is_poll p q) j e)
-  new_join q (records.Served p block) may j e = absurd (none_told (is_poll p q) j e)
-  new_join q (records.Ended p) may j e = absurd (none_told (is_poll p q) j e)
   new_join q r may j e = absurd cc
 
   new_commitment : (q : PollName) (r : Record) → MayAdd peers own js after r → (c : Commitment) → commitment_in q r ≡ Some c → first_in (commitment_in q) js ≡ None
   unfolding commitment_of
   new_commitment q (records.Committed p nonce version kind) may c e = by_name (is_poll p q) (record { nonce = nonce; version = version; kind = kind }) c p q (λ x. commitment_of x js ≡ None) refl e may.0
-  new_commitment q (records.Joined p au tick low repairs) may c e = absurd (none_told (is_poll p q) c e)
-  new_commitment q (records.Voted p hashes) may c e = absurd (none_told (is_poll p q) c e)
-  new_commitment q (records.Served p block) may c e = absurd (none_told (is_poll p q) c e)
-  new_commitment q (records.Ended p) may c e = absurd (none_told (is_poll p q) c e)
   new_commitment q r may c e = absurd cc
 
   new_vote : (q : PollName) (r : Record) → MayAdd peers own js after r → (h : List (List ℕ)) → hashes_in q r ≡ Some h → first_in (hashes_in q) js ≡ None
   unfolding hashes_of_vote
   new_vote q (records.Voted p hashes) may h e = by_name (is_poll p q) hashes h p q (λ x. hashes_of_vote x js ≡ None) refl e may.0
-  new_vote q (records.Joined p au tick low repairs) may h e = absurd (none_told (is_poll p q) h e)
-  new_vote q (records.Committed p nonce version kind) may h e = absurd (none_told (is_poll p q) h e)
-  new_vote q (records.Served p block) may h e = absurd (none_told (is_poll p q) h e)
-  new_vote q (records.Ended p) may h e = absurd (none_told (is_poll p q) h e)
   new_vote q r may h e = absurd cc
-
-both_none : {X : Type 0} (b : Bool) → cond {A = Option X} b None None ≡ None
-both_none true = refl
-both_none false = refl
 
 none_of_opening : (n : ℕ) (r : Record) → IsCommon r → opening_in n r ≡ None
 none_of_opening n (records.PollOpened m au nonce inner tick limits kind) common = absurd common
@@ -134,24 +117,18 @@ none_of_join : (q : PollName) (r : Record) → IsCommon r → join_in q r ≡ No
 none_of_join q (records.Joined p au tick low repairs) common = absurd common
 none_of_join q (records.Committed p nonce version kind) common = absurd common
 none_of_join q (records.Voted p hashes) common = absurd common
-none_of_join q (records.Served p block) common = both_none (is_poll p q)
-none_of_join q (records.Ended p) common = both_none (is_poll p q)
 none_of_join q r common = refl
 
 none_of_commitment : (q : PollName) (r : Record) → IsCommon r → commitment_in q r ≡ None
 none_of_commitment q (records.Committed p nonce version kind) common = absurd common
 none_of_commitment q (records.Joined p au tick low repairs) common = absurd common
 none_of_commitment q (records.Voted p hashes) common = absurd common
-none_of_commitment q (records.Served p block) common = both_none (is_poll p q)
-none_of_commitment q (records.Ended p) common = both_none (is_poll p q)
 none_of_commitment q r common = refl
 
 none_of_vote : (q : PollName) (r : Record) → IsCommon r → hashes_in q r ≡ None
 none_of_vote q (records.Voted p hashes) common = absurd common
 none_of_vote q (records.Joined p au tick low repairs) common = absurd common
 none_of_vote q (records.Committed p nonce version kind) common = absurd common
-none_of_vote q (records.Served p block) common = both_none (is_poll p q)
-none_of_vote q (records.Ended p) common = both_none (is_poll p q)
 none_of_vote q r common = refl
 
 single_after : (peers : List Standing) (own : Station) (js : List Record) (r : Reaction) → Does peers own js r → IsSingle js → IsSingle (js ++ r.records)

@@ -1,12 +1,13 @@
 -- What is due after a history: envelopes that wait, work that is ready, and turns of peers. It is chosen without a verdict.
 use Rattle.std.specs.Prelude.{ℕ, Bool, false, not, ◌==◌, if◌then◌else◌, Option, Some, None, is_some, List, [], ◌∷◌, ◌++◌, length, map, filter}
 use Rattle.std.specs.List.{list_any, filter_map, flat_map, range_with_len}
+use Rattle.lks_base.specs.Steps.{Act, act_of}
 use Rattle.lks_base.specs.declared.events.Due.{Due}
 use Rattle.lks_base.specs.declared.events.Due.TheVariants.{Delivery, Own}
 use Rattle.lks_base.specs.declared.events.Event.{Event}
 use Rattle.lks_base.specs.declared.events.Event.TheVariants.{Step, Cut, Tick, Lose, Forge, Crash}
 use Rattle.lks_base.specs.declared.events.PeerStep.{PeerStep}
-use Rattle.lks_base.specs.declared.events.PeerStep.TheVariants.{OpenPoll, Widen, Shut, Tally, Nudge, GiveUp, Work, Expire, Check, Tune, Deliver}
+use Rattle.lks_base.specs.declared.events.PeerStep.TheVariants.{Widen, Shut, Tally, GiveUp, Work}
 use Rattle.lks_base.specs.declared.plans.Plan.{Plan}
 use Rattle.lks_base.specs.declared.records.Record.{Record}
 use Rattle.lks_law.specs.Journal.{openings, is_running, is_voting, is_widened, unanswered}
@@ -16,17 +17,10 @@ use Rattle.lks_law.specs.World.{World, Standing, world}
 
 -- whether the step delivers envelope i
 abbrev pub delivers : ℕ → PeerStep → Bool
-delivers i (OpenPoll peer au) = false
-delivers i (Widen peer number) = false
-delivers i (Shut peer number) = false
-delivers i (Tally peer number) = false
-delivers i (Nudge peer number) = false
-delivers i (GiveUp peer number) = false
-delivers i (Work peer poll) = false
-delivers i (Expire peer poll) = false
-delivers i (Check peer) = false
-delivers i (Tune peer quorum minority repairs) = false
-delivers i (Deliver envelope judged) = i == envelope
+delivers i s = is_of (act_of s) where
+  is_of : Act → Bool
+  is_of (Act.Own peer) = false
+  is_of (Act.Delivery envelope judged) = i == envelope
 
 -- whether the event delivers or loses envelope i
 abbrev pub takes_out : ℕ → Event → Bool

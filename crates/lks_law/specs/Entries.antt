@@ -2,6 +2,7 @@
 use Rattle.std.specs.Prelude.{ℕ, Bool, false, if◌then◌else◌, min, Option, Some, None, List, [], ◌∷◌, ◌++◌, length, slice_get}
 use Rattle.std.specs.List.{filter_map}
 use Rattle.lks_base.specs.Checking.{has_member}
+use Rattle.lks_base.specs.Steps.{Act, act_of}
 use Rattle.lks_base.specs.declared.entries.Entry.{Entry}
 use Rattle.lks_base.specs.declared.entries.Note.{Note}
 use Rattle.lks_base.specs.declared.entries.Note.TheVariants as note
@@ -9,7 +10,6 @@ use Rattle.lks_base.specs.declared.events.Envelope.{Envelope}
 use Rattle.lks_base.specs.declared.events.Event.{Event}
 use Rattle.lks_base.specs.declared.events.Event.TheVariants.{Step, Cut, Tick, Lose, Forge, Crash}
 use Rattle.lks_base.specs.declared.events.PeerStep.{PeerStep}
-use Rattle.lks_base.specs.declared.events.PeerStep.TheVariants.{OpenPoll, Widen, Shut as Shutting, Tally, Nudge, GiveUp, Work, Expire, Check, Tune, Deliver}
 use Rattle.lks_base.specs.declared.plans.Plan.{Plan}
 use Rattle.lks_base.specs.declared.records.Record.{Record}
 use Rattle.lks_base.specs.declared.records.Record.TheVariants.{Deposit, PollOpened, Nominated, OuterOpened, VoteIn, Shut, Asked, RepairBad, Replaced, Closed, Overdue, Joined, Committed, Voted, Served, Ended, Tuned}
@@ -91,17 +91,10 @@ receiver_of (Some e) = e.to
 
 -- the envelope that a step delivers
 abbrev pub carried : List Envelope → PeerStep → Option Envelope
-carried bag (OpenPoll peer au) = None
-carried bag (Widen peer number) = None
-carried bag (Shutting peer number) = None
-carried bag (Tally peer number) = None
-carried bag (Nudge peer number) = None
-carried bag (GiveUp peer number) = None
-carried bag (Work peer poll) = None
-carried bag (Expire peer poll) = None
-carried bag (Check peer) = None
-carried bag (Tune peer quorum minority repairs) = None
-carried bag (Deliver envelope judged) = slice_get bag envelope
+carried bag s = carried_in (act_of s) where
+  carried_in : Act → Option Envelope
+  carried_in (Act.Own peer) = None
+  carried_in (Act.Delivery envelope judged) = slice_get bag envelope
 
 abbrev pub entry_for : Event → Option Envelope → List Note → ℕ → Entry
 entry_for event envelope notes sends = record { event = event; from = sender_of envelope; to = receiver_of envelope; notes = notes; sends = sends }

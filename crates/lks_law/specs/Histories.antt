@@ -1,10 +1,10 @@
 -- Which lists of events are histories of a plan.
 use Rattle.std.specs.Prelude.{◌≡◌, ◌≤◌, ◌<◌, ℕ, Bool, true, false, is_some, List, [], ◌∷◌, length, get_or}
 use Rattle.lks_base.specs.Checking.{has_peer, has_corrupt, has_honest}
+use Rattle.lks_base.specs.Steps.{Act, act_of}
 use Rattle.lks_base.specs.declared.events.Event.{Event}
 use Rattle.lks_base.specs.declared.events.Event.TheVariants.{Step, Cut, Tick, Lose, Forge, Crash}
 use Rattle.lks_base.specs.declared.events.PeerStep.{PeerStep}
-use Rattle.lks_base.specs.declared.events.PeerStep.TheVariants.{OpenPoll, Widen, Shut, Tally, Nudge, GiveUp, Work, Expire, Check, Tune, Deliver}
 use Rattle.lks_base.specs.declared.limits.TheConstants.{MOST_EVENTS, MOST_FORGED_BYTES, MOST_TICKS}
 use Rattle.lks_base.specs.declared.names.Judged.{Judged}
 use Rattle.lks_base.specs.declared.names.Judged.TheVariants.{NotAsked, Accepted, Refused}
@@ -27,17 +27,10 @@ WasSent w envelope = envelope < length w.bag
 
 -- An honest peer takes a step of its own, or an envelope that was sent is delivered. It is judged where it puts a question.
 abbrev pub MayStep : Plan → World → PeerStep → Type 0
-MayStep plan w (OpenPoll peer au) = IsHonest plan peer
-MayStep plan w (Widen peer number) = IsHonest plan peer
-MayStep plan w (Shut peer number) = IsHonest plan peer
-MayStep plan w (Tally peer number) = IsHonest plan peer
-MayStep plan w (Nudge peer number) = IsHonest plan peer
-MayStep plan w (GiveUp peer number) = IsHonest plan peer
-MayStep plan w (Work peer poll) = IsHonest plan peer
-MayStep plan w (Expire peer poll) = IsHonest plan peer
-MayStep plan w (Check peer) = IsHonest plan peer
-MayStep plan w (Tune peer quorum minority repairs) = IsHonest plan peer
-MayStep plan w (Deliver envelope judged) = WasSent w envelope × (was_judged judged ≡ is_some (question_at w envelope))
+MayStep plan w s = MayBe (act_of s) where
+  MayBe : Act → Type 0
+  MayBe (Act.Own peer) = IsHonest plan peer
+  MayBe (Act.Delivery envelope judged) = WasSent w envelope × (was_judged judged ≡ is_some (question_at w envelope))
 
 -- the records that a step adds
 abbrev pub added_by : World → PeerStep → List Record

@@ -1,13 +1,14 @@
 -- What the judge of proofs of effort is asked in a history, and how it judges what is delivered.
 use Rattle.std.specs.Prelude.{ℕ, Bool, if◌then◌else◌, Option, Some, None, List, [], ◌∷◌, ◌++◌, slice_get}
 use Rattle.std.specs.Option.{option_to_list}
+use Rattle.lks_base.specs.Steps.{Act, act_of}
 use Rattle.lks_base.specs.declared.events.Due.{Due}
 use Rattle.lks_base.specs.declared.events.Due.TheVariants.{Delivery, Own}
 use Rattle.lks_base.specs.declared.events.Envelope.{Envelope}
 use Rattle.lks_base.specs.declared.events.Event.{Event}
 use Rattle.lks_base.specs.declared.events.Event.TheVariants.{Step, Cut, Tick, Lose, Forge, Crash}
 use Rattle.lks_base.specs.declared.events.PeerStep.{PeerStep}
-use Rattle.lks_base.specs.declared.events.PeerStep.TheVariants.{OpenPoll, Widen, Shut, Tally, Nudge, GiveUp, Work, Expire, Check, Tune, Deliver}
+use Rattle.lks_base.specs.declared.events.PeerStep.TheVariants.{Deliver}
 use Rattle.lks_base.specs.declared.messages.Message.{Message}
 use Rattle.lks_base.specs.declared.messages.Message.TheVariants as message
 use Rattle.lks_base.specs.declared.names.Judged.{Judged}
@@ -55,17 +56,10 @@ judged verdict before (Some q) = if verdict before q then Accepted else Refused
 
 -- the question of a step, if it puts one
 abbrev pub question_on : World → PeerStep → Option Question
-question_on w (OpenPoll peer au) = None
-question_on w (Widen peer number) = None
-question_on w (Shut peer number) = None
-question_on w (Tally peer number) = None
-question_on w (Nudge peer number) = None
-question_on w (GiveUp peer number) = None
-question_on w (Work peer poll) = None
-question_on w (Expire peer poll) = None
-question_on w (Check peer) = None
-question_on w (Tune peer quorum minority repairs) = None
-question_on w (Deliver envelope judged) = question_at w envelope
+question_on w s = put_by (act_of s) where
+  put_by : Act → Option Question
+  put_by (Act.Own peer) = None
+  put_by (Act.Delivery envelope judged) = question_at w envelope
 
 -- the questions of an event: one at most, and the same where the step is cut
 abbrev pub asked_by : World → Event → List Question

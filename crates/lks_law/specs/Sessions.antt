@@ -1,11 +1,11 @@
 -- What a journal says of the peer's part in polls of others.
-use Rattle.std.specs.Prelude.{ℕ, Bool, true, false, not, ◌==◌, ◌&&◌, if◌then◌else◌, Option, Some, None, is_some, option_map, List, [], ◌∷◌, length, count_by}
+use Rattle.std.specs.Prelude.{ℕ, Bool, true, false, not, ◌==◌, ◌&&◌, if◌then◌else◌, Option, Some, None, is_some, option_map, option_and_then, List, [], ◌∷◌, length, count_by}
 use Rattle.std.specs.List.{list_any, filter_map}
 use Rattle.lks_base.specs.declared.names.HashKind.{HashKind}
 use Rattle.lks_base.specs.declared.names.PollName.{PollName}
 use Rattle.lks_base.specs.declared.records.Record.{Record}
 use Rattle.lks_base.specs.declared.records.Record.TheVariants.{Deposit, PollOpened, Nominated, OuterOpened, VoteIn, Shut, Asked, RepairBad, Replaced, Closed, Overdue, Joined, Committed, Voted, Served, Ended, Tuned}
-use Rattle.lks_law.specs.Journal.{Told, voted_by, later, replacements}
+use Rattle.lks_law.specs.Journal.{Told, said, later, replacements}
 use Rattle.lks_tally.specs.declared.ballots.Vote.{Vote}
 
 -- how a peer joined a poll
@@ -99,7 +99,7 @@ is_end Turn.Ends = true
 -- what this says of the part in poll q
 abbrev pub of_poll : {X : Type 0} → PollName → (Turn → Option X) → Option Part → Option X
 of_poll q says None = None
-of_poll q says (Some p) = if is_poll p.poll q then says p.turn else None
+of_poll q says (Some p) = option_and_then (λ x. if is_poll p.poll q then Some x else None) (says p.turn)
 
 abbrev pub join_in : PollName → Record → Option Join
 join_in q r = of_poll q join_by (part_of r)
@@ -187,7 +187,7 @@ is_vote_by f None = false
 is_vote_by f (Some told) = told.fact.voter == f
 
 unfoldable pub received : ℕ → List Record → ℕ
-received f journal = count_by (λ r. is_vote_by f (voted_by r)) journal
+received f journal = count_by (λ r. is_vote_by f (said r).voted) journal
 
 abbrev pub is_vote_for : ℕ → Option Part → Bool
 is_vote_for f None = false

@@ -4,7 +4,7 @@ use Rattle.lks_base.specs.declared.names.PollName.{PollName}
 use Rattle.lks_base.specs.declared.plans.Rules.{Rules}
 use Rattle.lks_base.specs.declared.records.Record.{Record}
 use Rattle.lks_law.specs.Firsts.{changed_first, without_first}
-use Rattle.lks_law.specs.Journal.{Told, voted_by}
+use Rattle.lks_law.specs.Journal.{Told, said}
 use Rattle.lks_law.specs.Sessions.{Join, Commitment, Turn, Part, is_poll, part_of, low_part}
 use Rattle.lks_tally.specs.declared.ballots.Vote.{Vote}
 
@@ -149,6 +149,6 @@ marks_by (Some p) marks = marks_turned p.poll p.turn marks
 abbrev pub voter_after : Rules → (ℕ → List (List ℕ)) → Record → Voter → Voter
 voter_after rules blocks r v =
     record (turned_by rules blocks (part_of r) v) {
-      marks = marks_by (part_of r) (marks_told (voted_by r) v.marks);
+      marks = marks_by (part_of r) (marks_told (said r).voted v.marks);
       last_low = low_part v.last_low (part_of r);
     }

@@ -3,28 +3,12 @@ use Rattle.std.specs.Prelude.{◌≡◌, ◌==◌, ℕ, Bool, true, false, Some,
 use Rattle.std.specs.List.{list_any, list_all}
 use Rattle.lks_base.specs.declared.records.Record.{Record}
 use Rattle.lks_base.specs.declared.records.Record.TheVariants.{Deposit, PollOpened, Nominated, OuterOpened, VoteIn, Shut, Asked, RepairBad, Replaced, Closed, Overdue, Joined, Committed, Voted, Served, Ended, Tuned}
-use Rattle.lks_law.specs.Journal.{deposit_of, is_closed, is_running, unanswered}
+use Rattle.lks_law.specs.Journal.{said, deposit_of, is_closed, is_running, unanswered}
 use Rattle.lks_law.specs.Sessions.{join_of, commitment_of, hashes_of_vote, is_session, may_work, version_now}
 
 -- whether the record is what the peer began with
 abbrev pub is_deposit : Record → Bool
-is_deposit (Deposit au blocks) = true
-is_deposit (PollOpened number au nonce inner tick limits kind) = false
-is_deposit (Nominated number voter nominees) = false
-is_deposit (OuterOpened number outer) = false
-is_deposit (VoteIn number voter hashes) = false
-is_deposit (Shut number) = false
-is_deposit (Asked number block voter) = false
-is_deposit (RepairBad number block voter) = false
-is_deposit (Replaced number au block bytes) = false
-is_deposit (Closed number outcome tick) = false
-is_deposit (Overdue au tick) = false
-is_deposit (Joined poll au tick low repairs) = false
-is_deposit (Committed poll nonce version kind) = false
-is_deposit (Voted poll hashes) = false
-is_deposit (Served poll block) = false
-is_deposit (Ended poll) = false
-is_deposit (Tuned quorum minority repairs) = false
+is_deposit r = is_some (said r).deposit
 
 -- whether the record names the peer's own poll n
 abbrev pub is_of : ℕ → Record → Bool

@@ -25,7 +25,7 @@ use Rattle.lks_law.specs.World.{World, Deed, Standing, start, got, message_in, d
 use Rattle.lks_report.specs.Alarms.{is_alarming_end, is_alarm, is_alarming, is_alarmed, has_any}
 use Rattle.lks_report.specs.Scans.{step_actor, actor, ticks_in, tick_at}
 use Rattle.lks_report.specs.Summary.{all_notes}
-use Rattle.lks_report.specs.Text.{alarm_text, closing_alarm, alarm_line, entry_alarms, alarm_lines}
+use Rattle.lks_report.specs.Text.{alarm_text, alarm_line, entry_alarms, alarm_lines}
 
 -- the notes tell of these alarms, raised by this peer at this tick
 record Tells (peer tick : ℕ) (notes : List Note) (raised : List Alarm) : Type 0 where
@@ -61,7 +61,7 @@ module _ (peer tick : ℕ) (journal : List Record) where
 
   record_told : (r : Record) (notes : List Note) (raised : List Alarm) → Tells peer tick notes raised
       → Tells peer tick (cons_option (note_of journal r) notes) (cons_option (alarm_in peer tick r) raised)
-  unfolding note_with session_note_of is_alarm is_alarming_end closing_alarm alarm_line
+  unfolding note_with session_note_of is_alarm is_alarming_end alarm_line
   record_told (Deposit au blocks) notes raised told = told
   record_told (PollOpened number au nonce inner at limits hash) notes raised told = note_told _ notes raised refl refl told
   record_told (Nominated number voter nominees) notes raised told = note_told _ notes raised refl refl told

@@ -2,28 +2,21 @@
 use Rattle.std.specs.Prelude.{ℕ, Bool, false, not, ◌&&◌, ◌==◌, if◌then◌else◌, Option, Some, None, List, [], take, slice_get, sum_by, count_by}
 use Rattle.std.specs.List.{flat_map, filter_map}
 use Rattle.std.specs.Option.{option_map_or}
+use Rattle.lks_base.specs.Notes.{Ending, noted}
+use Rattle.lks_base.specs.Steps.{Act, act_of}
 use Rattle.lks_base.specs.declared.entries.Entry.{Entry}
 use Rattle.lks_base.specs.declared.entries.Note.{Note}
-use Rattle.lks_base.specs.declared.entries.Note.TheVariants as noted
 use Rattle.lks_base.specs.declared.events.Event.{Event}
 use Rattle.lks_base.specs.declared.events.Event.TheVariants as happened
 use Rattle.lks_base.specs.declared.events.PeerStep.{PeerStep}
-use Rattle.lks_base.specs.declared.events.PeerStep.TheVariants as step
 use Rattle.lks_base.specs.declared.names.Outcome.{Outcome}
 
 -- whose step it is: of a delivery, the receiver's
 unfoldable pub step_actor : ℕ → PeerStep → ℕ
-step_actor to (step.OpenPoll peer au) = peer
-step_actor to (step.Widen peer number) = peer
-step_actor to (step.Shut peer number) = peer
-step_actor to (step.Tally peer number) = peer
-step_actor to (step.Nudge peer number) = peer
-step_actor to (step.GiveUp peer number) = peer
-step_actor to (step.Work peer poll) = peer
-step_actor to (step.Expire peer poll) = peer
-step_actor to (step.Check peer) = peer
-step_actor to (step.Tune peer quorum minority repairs) = peer
-step_actor to (step.Deliver envelope judged) = to
+step_actor to s = actor_in (act_of s) where
+  actor_in : Act → ℕ
+  actor_in (Act.Own peer) = peer
+  actor_in (Act.Delivery envelope judged) = to
 
 -- whose step an event is: 0 where it is no peer's step
 abbrev pub event_actor : ℕ → Event → ℕ
@@ -48,58 +41,19 @@ notes_of peer entries = flat_map (own_notes peer) entries
 
 -- a note that a block of this AU was replaced
 unfoldable pub replaces : ℕ → Note → Bool
-replaces au (noted.Opened number a) = false
-replaces au (noted.Nominated number voter) = false
-replaces au (noted.Outer number count) = false
-replaces au (noted.VoteIn number voter inner) = false
-replaces au (noted.Shut number) = false
-replaces au (noted.Asked number block voter) = false
-replaces au (noted.RepairBad number block voter) = false
-replaces au (noted.Replaced number a block size) = a == au
-replaces au (noted.Closed number outcome) = false
-replaces au (noted.Overdue a) = false
-replaces au (noted.Joined poll a low) = false
-replaces au (noted.Committed poll version) = false
-replaces au (noted.Voted poll) = false
-replaces au (noted.Served poll block) = false
-replaces au (noted.Ended poll) = false
-replaces au (noted.Tuned quorum minority repairs) = false
+replaces au note = option_map_or (λ a. a == au) (noted note).replaced false
 
 -- how often blocks of a peer's copy were replaced
 unfoldable pub version : ℕ → List Note → ℕ
 version au notes = count_by (replaces au) notes
 
--- a vote that came in: its poll, and whether it is of the inner circle
-pub record NotedVote : Type 0 where
-  pub number : ℕ
-  pub inner : Bool
-
--- the vote that the note tells
-abbrev pub vote_noted : Note → Option NotedVote
-vote_noted (noted.Opened number au) = None
-vote_noted (noted.Nominated number voter) = None
-vote_noted (noted.Outer number count) = None
-vote_noted (noted.VoteIn number voter inner) = Some (record { number = number; inner = inner })
-vote_noted (noted.Shut number) = None
-vote_noted (noted.Asked number block voter) = None
-vote_noted (noted.RepairBad number block voter) = None
-vote_noted (noted.Replaced number au block size) = None
-vote_noted (noted.Closed number outcome) = None
-vote_noted (noted.Overdue au) = None
-vote_noted (noted.Joined poll au low) = None
-vote_noted (noted.Committed poll version) = None
-vote_noted (noted.Voted poll) = None
-vote_noted (noted.Served poll block) = None
-vote_noted (noted.Ended poll) = None
-vote_noted (noted.Tuned quorum minority repairs) = None
-
 -- a note of a vote in this poll, of a voter in its inner circle
 unfoldable pub is_inner_vote : ℕ → Note → Bool
-is_inner_vote number note = option_map_or (λ v. v.number == number && v.inner) (vote_noted note) false
+is_inner_vote number note = option_map_or (λ v. v.number == number && v.inner) (noted note).voted false
 
 -- a note of a vote in this poll, of another voter
 unfoldable pub is_outer_vote : ℕ → Note → Bool
-is_outer_vote number note = option_map_or (λ v. v.number == number && not v.inner) (vote_noted note) false
+is_outer_vote number note = option_map_or (λ v. v.number == number && not v.inner) (noted note).voted false
 
 -- how many votes of its inner circle a poll had
 unfoldable pub inner_votes : ℕ → List Note → ℕ
@@ -111,22 +65,10 @@ outer_votes number notes = count_by (is_outer_vote number) notes
 
 -- how this poll ended, where the note says so
 unfoldable pub outcome_in : ℕ → Note → Option Outcome
-outcome_in number (noted.Opened n au) = None
-outcome_in number (noted.Nominated n voter) = None
-outcome_in number (noted.Outer n count) = None
-outcome_in number (noted.VoteIn n voter inner) = None
-outcome_in number (noted.Shut n) = None
-outcome_in number (noted.Asked n block voter) = None
-outcome_in number (noted.RepairBad n block voter) = None
-outcome_in number (noted.Replaced n au block size) = None
-outcome_in number (noted.Closed n outcome) = if n == number then Some outcome else None
-outcome_in number (noted.Overdue au) = None
-outcome_in number (noted.Joined poll au low) = None
-outcome_in number (noted.Committed poll version) = None
-outcome_in number (noted.Voted poll) = None
-outcome_in number (noted.Served poll block) = None
-outcome_in number (noted.Ended poll) = None
-outcome_in number (noted.Tuned quorum minority repairs) = None
+outcome_in number note = outcome_if (noted note).closed where
+  outcome_if : Option Ending → Option Outcome
+  outcome_if None = None
+  outcome_if (Some end) = if end.number == number then Some end.outcome else None
 
 -- how a poll ended first, if it did
 unfoldable pub outcome_of : ℕ → List Note → Option Outcome

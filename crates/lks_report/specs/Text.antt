@@ -1,18 +1,19 @@
 -- The report of a run, line by line.
 use Rattle.std.specs.Prelude.{ℕ, if◌then◌else◌, Option, Some, None, List, [], ◌∷◌, ◌++◌, length, codes, decimal}
 use Rattle.std.specs.List.{flat_map, enumerate_from}
+use Rattle.std.specs.Option.{option_map_or}
 use Rattle.lks_alarm.specs.declared.alarms.Alarm.{Alarm}
 use Rattle.lks_alarm.specs.declared.alarms.AlarmKind.{AlarmKind}
 use Rattle.lks_alarm.specs.declared.alarms.AlarmKind.TheVariants as raised
+use Rattle.lks_base.specs.Notes.{noted}
 use Rattle.lks_base.specs.declared.entries.Entry.{Entry}
 use Rattle.lks_base.specs.declared.entries.Note.{Note}
-use Rattle.lks_base.specs.declared.entries.Note.TheVariants.{Opened, Nominated, Outer, VoteIn, Shut, Asked, RepairBad, Replaced, Closed, Overdue, Joined, Committed, Voted, Served, Ended, Tuned}
 use Rattle.lks_base.specs.declared.names.Outcome.{Outcome}
-use Rattle.lks_base.specs.declared.names.Outcome.TheVariants.{Agreed, Inquorate, Split, NoSupplier}
 use Rattle.lks_base.specs.declared.plans.AuPlan.{AuPlan}
 use Rattle.lks_base.specs.declared.plans.PeerPlan.{PeerPlan}
 use Rattle.lks_base.specs.declared.plans.Plan.{Plan}
 use Rattle.lks_base.specs.Checking.{has_copy}
+use Rattle.lks_law.specs.Alarms.{alarm_noted}
 use Rattle.lks_report.specs.Words.{spaced, event_words, notes_words, outcome_words}
 use Rattle.lks_report.specs.Scans.{actor, notes_of, version, inner_votes, outer_votes, outcome_of, tick_at}
 
@@ -59,22 +60,7 @@ poll_line peer notes number au =
 
 -- the line of the poll that a note opens
 unfoldable pub opened_line : ℕ → List Note → Note → List ℕ
-opened_line peer notes (Opened number au) = poll_line peer notes number au
-opened_line peer notes (Nominated number voter) = []
-opened_line peer notes (Outer number count) = []
-opened_line peer notes (VoteIn number voter inner) = []
-opened_line peer notes (Shut number) = []
-opened_line peer notes (Asked number block voter) = []
-opened_line peer notes (RepairBad number block voter) = []
-opened_line peer notes (Replaced number au block size) = []
-opened_line peer notes (Closed number outcome) = []
-opened_line peer notes (Overdue au) = []
-opened_line peer notes (Joined poll au low) = []
-opened_line peer notes (Committed poll version) = []
-opened_line peer notes (Voted poll) = []
-opened_line peer notes (Served poll block) = []
-opened_line peer notes (Ended poll) = []
-opened_line peer notes (Tuned quorum minority repairs) = []
+opened_line peer notes note = option_map_or (λ o. poll_line peer notes o.number o.au) (noted note).opened []
 
 -- the polls of an honest peer, in the order in which they were opened
 unfoldable pub peer_polls : List Entry → PeerPlan → List ℕ
@@ -95,31 +81,9 @@ kind_words (raised.Overdue au) = codes "overdue" ∷ decimal au ∷ []
 abbrev pub alarm_text : Alarm → List ℕ
 alarm_text alarm = line (spaced (codes "alarm" ∷ decimal alarm.peer ∷ decimal alarm.tick ∷ kind_words alarm.kind))
 
--- the line of a poll's end that is an alarm
-unfoldable pub closing_alarm : ℕ → ℕ → ℕ → Outcome → List ℕ
-closing_alarm peer tick number Agreed = []
-closing_alarm peer tick number Inquorate = []
-closing_alarm peer tick number (Split block) = alarm_text (record { peer = peer; tick = tick; kind = raised.Split number block })
-closing_alarm peer tick number (NoSupplier block) = alarm_text (record { peer = peer; tick = tick; kind = raised.NoSupplier number block })
-
 -- the line of a note that is an alarm
 unfoldable pub alarm_line : ℕ → ℕ → Note → List ℕ
-alarm_line peer tick (Opened number au) = []
-alarm_line peer tick (Nominated number voter) = []
-alarm_line peer tick (Outer number count) = []
-alarm_line peer tick (VoteIn number voter inner) = []
-alarm_line peer tick (Shut number) = []
-alarm_line peer tick (Asked number block voter) = []
-alarm_line peer tick (RepairBad number block voter) = []
-alarm_line peer tick (Replaced number au block size) = []
-alarm_line peer tick (Closed number outcome) = closing_alarm peer tick number outcome
-alarm_line peer tick (Overdue au) = alarm_text (record { peer = peer; tick = tick; kind = raised.Overdue au })
-alarm_line peer tick (Joined poll au low) = []
-alarm_line peer tick (Committed poll version) = []
-alarm_line peer tick (Voted poll) = []
-alarm_line peer tick (Served poll block) = []
-alarm_line peer tick (Ended poll) = []
-alarm_line peer tick (Tuned quorum minority repairs) = []
+alarm_line peer tick note = option_map_or alarm_text (alarm_noted peer tick note) []
 
 -- the alarms of an entry, at this tick
 unfoldable pub entry_alarms : ℕ → Entry → List ℕ

@@ -6,10 +6,9 @@ use Rattle.lks_alarm.specs.declared.alarms.Alarm.{Alarm}
 use Rattle.lks_base.specs.declared.entries.Note.{Note}
 use Rattle.lks_base.specs.declared.records.Record.{Record}
 use Rattle.lks_base.specs.declared.records.Record.TheVariants.{Deposit, PollOpened, Nominated, OuterOpened, VoteIn, Shut, Asked, RepairBad, Replaced, Closed, Overdue, Joined, Committed, Voted, Served, Ended, Tuned}
-use Rattle.lks_law.specs.Alarms.{alarm_in, alarms_of, closing_alarm}
+use Rattle.lks_law.specs.Alarms.{alarm_in, alarms_of, closing_alarm, alarm_noted}
 use Rattle.lks_law.specs.Entries.{session_note_of, note_with, is_inner, notes_at, notes_of}
 use Rattle.lks_law.specs.World.{World, Deed, Standing, peer_at, reaction_at, actor_of}
-use Rattle.lks_watch.specs.Alarms.{alarm_noted}
 
 module _ (is_in : ℕ → ℕ → Bool) (peer tick : ℕ) where
   record_noted : (r : Record) (notes : List Note) (alarms : List Alarm) → filter_map (alarm_noted peer tick) notes ≡ alarms

@@ -1,2 +1,1 @@
-pub mod Alarms
 pub mod Watching

@@ -1,8 +1,7 @@
 //! The alarms that notes tell of.
 
 ghost use Rattle.std.specs.Prelude.{◌≡◌};
-ghost use Rattle.lks_law.specs.Alarms.{closing_alarm};
-ghost use Rattle.lks_watch.specs.Alarms.{alarm_noted};
+ghost use Rattle.lks_law.specs.Alarms.{closing_alarm, alarm_noted};
 
 use lks_alarm::{Alarm, AlarmKind};
 use lks_base::{Note, Outcome, PeerId};

@@ -5,7 +5,7 @@ ghost use Rattle.std.specs.List.{filter_map};
 ghost use Rattle.std.specs.Option.{option_to_list};
 ghost use Rattle.lks_base.specs.declared.limits.TheConstants.{MOST_EVENTS};
 ghost use Rattle.lks_law.specs.Questions.{judged};
-ghost use Rattle.lks_watch.specs.Alarms.{alarm_noted};
+ghost use Rattle.lks_law.specs.Alarms.{alarm_noted};
 ghost use Rattle.lks_watch.specs.Watching.{ears, seen_by, Asks, Rings};
 
 use crate::alarms::alarm;

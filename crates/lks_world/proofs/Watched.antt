@@ -20,7 +20,7 @@ use Rattle.lks_base.specs.declared.plans.Plan.{Plan}
 use Rattle.lks_base.specs.declared.records.Record.{Record}
 use Rattle.lks_disk.specs.Face.{Face}
 use Rattle.lks_effort.specs.declared.questions.Question.{Question}
-use Rattle.lks_law.specs.Alarms.{alarms_by}
+use Rattle.lks_law.specs.Alarms.{alarms_by, alarm_noted}
 use Rattle.lks_law.specs.Due.{pending, works_at, tallies_at, ready_at, ready, turn_at, turn_of, turns_at, turns, first_own, first_due, next_to_settle, next_to_deliver, next_to_lose, next_to_finish}
 use Rattle.lks_law.specs.Entries.{entry_for}
 use Rattle.lks_law.specs.Journal.{openings, is_running, is_voting, is_widened, unanswered}
@@ -37,7 +37,6 @@ use Rattle.lks_script.specs.declared.steps.Step.{Step}
 use Rattle.lks_script.specs.declared.steps.Step.TheVariants as step
 use Rattle.lks_watch.proofs.Going.{few_questions, watches_same, watches_event, asks_nothing, rings_nothing}
 use Rattle.lks_watch.proofs.Noted.{noted}
-use Rattle.lks_watch.specs.Alarms.{alarm_noted}
 use Rattle.lks_watch.specs.Watching.{Watching, Ears, Asks, Rings, Watches, WatchesBy, AsksOn, seen_by}
 use Rattle.lks_watch.specs.declared.watches.Watch.{Watch}
 use Rattle.lks_world.specs.Endings.{PeersEnd, event_for, notes_for}

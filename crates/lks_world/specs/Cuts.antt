@@ -1,10 +1,11 @@
 -- Steps that are cut off: which ones, and what becomes of them.
 use Rattle.std.specs.Prelude.{◌≡◌, ◌≤◌, ◌<◌, ◌⊎◌, ℕ, Bool, false, nat_lt, if◌then◌else◌, Option, Some, None, List, [], length, slice_get, option_map}
+use Rattle.lks_base.specs.Steps.{Act, act_of}
 use Rattle.lks_base.specs.declared.events.Envelope.{Envelope}
 use Rattle.lks_base.specs.declared.events.Event.{Event}
 use Rattle.lks_base.specs.declared.events.Event.TheVariants as events
 use Rattle.lks_base.specs.declared.events.PeerStep.{PeerStep}
-use Rattle.lks_base.specs.declared.events.PeerStep.TheVariants.{OpenPoll, Widen, Shut, Tally, Nudge, GiveUp, Work, Expire, Check, Tune, Deliver}
+use Rattle.lks_base.specs.declared.events.PeerStep.TheVariants.{Deliver}
 use Rattle.lks_base.specs.declared.plans.Plan.{Plan}
 use Rattle.lks_law.specs.Due.{pending}
 use Rattle.lks_law.specs.Entries.{receiver_of}
@@ -17,17 +18,10 @@ use Rattle.lks_world.specs.Kept.{kept}
 
 -- who takes a step: of a delivery the receiver
 abbrev pub taker_of : List Envelope → PeerStep → ℕ
-taker_of bag (OpenPoll peer au) = peer
-taker_of bag (Widen peer number) = peer
-taker_of bag (Shut peer number) = peer
-taker_of bag (Tally peer number) = peer
-taker_of bag (Nudge peer number) = peer
-taker_of bag (GiveUp peer number) = peer
-taker_of bag (Work peer poll) = peer
-taker_of bag (Expire peer poll) = peer
-taker_of bag (Check peer) = peer
-taker_of bag (Tune peer quorum minority repairs) = peer
-taker_of bag (Deliver envelope judged) = receiver_of (slice_get bag envelope)
+taker_of bag s = taker_in (act_of s) where
+  taker_in : Act → ℕ
+  taker_in (Act.Own peer) = peer
+  taker_in (Act.Delivery envelope judged) = receiver_of (slice_get bag envelope)
 
 -- the delivery of envelope i, with what the judge says
 abbrev pub delivery_now : Verdicts → Plan → List Event → ℕ → PeerStep

@@ -2,11 +2,11 @@
 use Rattle.std.specs.Prelude.{◌≡◌, ◌≤◌, ◌==◌, ◌*◌, ◌++◌, ◌∷◌, ℕ, true, not, filter, map, Option, Some, List, [], length, slice_get, Result, Ok, Err}
 use Rattle.std.specs.List.{flat_map}
 use Rattle.lks_disk.specs.Face.{Face}
+use Rattle.lks_base.specs.Steps.{Act, act_of}
 use Rattle.lks_base.specs.declared.entries.Entry.{Entry}
 use Rattle.lks_base.specs.declared.events.Due.{Due}
 use Rattle.lks_base.specs.declared.events.Event.{Event}
 use Rattle.lks_base.specs.declared.events.PeerStep.{PeerStep}
-use Rattle.lks_base.specs.declared.events.PeerStep.TheVariants.{OpenPoll, Widen, Shut, Tally, Nudge, GiveUp, Work, Expire, Check, Tune, Deliver}
 use Rattle.lks_base.specs.declared.limits.TheConstants.{MOST_TICKS}
 use Rattle.lks_base.specs.declared.plans.Plan.{Plan}
 use Rattle.lks_host.specs.declared.hosts.Host.{Host}
@@ -29,17 +29,10 @@ use Rattle.lks_world.specs.declared.states.State.{State}
 
 -- the envelopes that still wait after a step: all but the one that it delivers
 abbrev pub left_after : PeerStep → List ℕ → List ℕ
-left_after (OpenPoll peer au) waiting = waiting
-left_after (Widen peer number) waiting = waiting
-left_after (Shut peer number) waiting = waiting
-left_after (Tally peer number) waiting = waiting
-left_after (Nudge peer number) waiting = waiting
-left_after (GiveUp peer number) waiting = waiting
-left_after (Work peer poll) waiting = waiting
-left_after (Expire peer poll) waiting = waiting
-left_after (Check peer) waiting = waiting
-left_after (Tune peer quorum minority repairs) waiting = waiting
-left_after (Deliver envelope judged) waiting = filter (λ i. not (i == envelope)) waiting
+left_after s waiting = left_by (act_of s) where
+  left_by : Act → List ℕ
+  left_by (Act.Own peer) = waiting
+  left_by (Act.Delivery envelope judged) = filter (λ i. not (i == envelope)) waiting
 
 abbrev pub world_in : {D : Type 0} → Face D → State D → World
 world_in f s = record { peers = peers_of f (hosts_of s.seats.items); bag = s.bag.items; tick = s.tick }

@@ -3,11 +3,10 @@
 ghost use Rattle.std.specs.Prelude.{◌≡◌, ◌++◌, ◌∷◌, [], Some, IfOk, IfSome, OnOk, OnErr, ◌==◌, length, filter, map, not};
 ghost use Rattle.std.specs.List.{filter_map, range_with_len};
 ghost use Rattle.lks_base.specs.declared.events.Event.TheVariants as events;
-ghost use Rattle.lks_law.specs.Alarms.{alarms_by};
+ghost use Rattle.lks_law.specs.Alarms.{alarms_by, alarm_noted};
 ghost use Rattle.lks_law.specs.Entries.{carried, entry_for, notes_at, notes_of, entry_of};
 ghost use Rattle.lks_law.specs.World.{Standing, reaction_at, with_records, peer_at, sent_by, actor_of, effect_of, peers_after, happens};
 ghost use Rattle.lks_law.specs.Facts.{IsHeard};
-ghost use Rattle.lks_watch.specs.Alarms.{alarm_noted};
 ghost use Rattle.lks_watch.specs.Watching.{ears, Hears};
 ghost use Rattle.lks_world.specs.Hosts.{peer_in, peers_of, IsReady, AreReady, GoesOn, HaveGoneOn, HasActed, with_added};
 ghost use Rattle.lks_world.specs.Seats.{hosts_of, Counted};

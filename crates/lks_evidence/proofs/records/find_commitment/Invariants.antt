@@ -1,6 +1,5 @@
 use Rattle.std.proofs.Common.{◌≡◌, drop}
-use Rattle.lks_law.specs.Sessions.{first_in}
-use Rattle.lks_evidence.specs.Records.{commitment_in}
+use Rattle.lks_law.specs.Sessions.{first_in, commitment_in}
 use Rattle.lks_evidence.proofs.records.find_commitment.Given as goal
 
 abbrev pub invariant-loop-r : goal.invariant-loop-r

@@ -1,7 +1,5 @@
 use Rattle.std.proofs.Common.{append_assoc}
-use Rattle.lks_report.specs.Text.{closing_alarm}
 use Rattle.lks_report.proofs.lines.put_closing_alarm.Goals as goal
 
 pub returns-in-NoSupplier : goal.returns-in-NoSupplier
-unfolding closing_alarm
 returns-in-NoSupplier c = rw c.in-NoSupplier.is (simp append_assoc c.writeln-in-NoSupplier.ensures.bytes)

@@ -8,7 +8,7 @@ use Rattle.lks_base.specs.declared.reactions.Outgoing.{Outgoing}
 use Rattle.lks_law.specs.Facts.{IsHeard}
 use Rattle.lks_law.specs.Entries.{carried, entry_for}
 use Rattle.lks_law.specs.World.{deed_of, actor_of, sent_by}
-use Rattle.lks_watch.specs.Alarms.{alarm_noted}
+use Rattle.lks_law.specs.Alarms.{alarm_noted}
 use Rattle.lks_watch.specs.Watching.{Rings, ears, seen_by}
 use Rattle.lks_world.proofs.CutLaws.{if_both, whose_deed}
 use Rattle.lks_world.proofs.Ending.{made_there, has_ended, burns_unless, counted_still}

@@ -5,7 +5,7 @@ use Rattle.lks_base.specs.declared.events.Envelope.{Envelope}
 use Rattle.lks_law.specs.Entries.{notes_of}
 use Rattle.lks_law.specs.World.{actor_of, deed_of}
 use Rattle.lks_watch.proofs.Noted.{noted}
-use Rattle.lks_watch.specs.Alarms.{alarm_noted}
+use Rattle.lks_law.specs.Alarms.{alarm_noted}
 use Rattle.lks_watch.specs.Watching.{Rings, ears, seen_by}
 use Rattle.lks_world.specs.Hosts.{HaveGoneOn, peers_of}
 use Rattle.lks_world.specs.Seats.{hosts_of}

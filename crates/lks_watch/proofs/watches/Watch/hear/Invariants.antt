@@ -1,7 +1,7 @@
 use Rattle.std.proofs.Common.{◌≡◌, drop}
 use Rattle.std.specs.List.{filter_map}
 use Rattle.lks_alarm.specs.Bells.{seen}
-use Rattle.lks_watch.specs.Alarms.{alarm_noted}
+use Rattle.lks_law.specs.Alarms.{alarm_noted}
 use Rattle.lks_watch.specs.Watching.{raised_all}
 use Rattle.lks_watch.proofs.watches.Watch.hear.Given as goal
 
