@@ -1,6 +1,6 @@
 -- What the calls of a disk do to its bytes, and what a crash may do between two syncs.
 use Rattle.std.specs.Prelude.{◌≡◌, ◌⊎◌, ℕ, Bool, true, false, ◌+◌, ◌-◌, ◌≤◌, max, min, List, ◌++◌, length, take, drop, Result, Ok, Err, OnOk, IsErrOf}
-use Rattle.lks_disk.specs.Counts.{Rose}
+use Rattle.lks_disk.specs.Counts.{Rose, raised}
 use Rattle.lks_disk.specs.declared.disks.DiskFail.{DiskFail}
 use Rattle.lks_disk.specs.declared.disks.DiskFail.TheVariants.{Failed, Cut, Memory}
 
@@ -61,13 +61,15 @@ pub record HasCause {T : Type 0} (before now : ℕ) (result : Result T DiskFail)
 abbrev pub NoMemory : {T : Type 0} → Result T DiskFail → Type 0
 NoMemory result = IsErrOf result Memory → ⊥
 
--- the fuse as a disk tells of it
+-- the fuse and the power as a disk tells of them
 pub record FuseTold : Type 0 where
   pub set : Bool  -- one is set
   pub burned : Bool  -- it has burned
   pub left : ℕ  -- the calls that it still lets pass
+  pub calls : ℕ  -- the calls that it was set to let pass
   pub choice : ℕ  -- which outcome of a crash it leaves
   pub burns : ℕ  -- how many have burned so far
+  pub cuts : ℕ  -- how often the power was cut so far
 
 -- the call was cut off, or refused for want of memory before
 abbrev pub IsCutOff : {T : Type 0} → Result T DiskFail → Type 0
@@ -79,7 +81,9 @@ IsCutOff (Err Memory) = Unit {0}
 -- what a write or a sync does to the fuse
 pub record Fused {T : Type 0} (old new : FuseTold) (result : Result T DiskFail) : Type 0 where
   pub stays_set : new.set ≡ old.set
+  pub same_calls : new.calls ≡ old.calls
   pub same_choice : new.choice ≡ old.choice
+  pub same_cuts : new.cuts ≡ old.cuts
   -- a call that passes is one of those that are left
   pub passes : OnOk result (old.set ≡ true → new.left + 1 ≡ old.left)
   pub lower : new.left ≤ old.left
@@ -90,7 +94,7 @@ pub record Fused {T : Type 0} (old new : FuseTold) (result : Result T DiskFail) 
   pub stays_burned : old.burned ≡ true → new.burned ≡ true
   pub later : old.burns ≤ new.burns
   -- the count rises with the call that burns it, and with no other
-  pub burn : old.burned ≡ false → new.burned ≡ true → Rose old.burns new.burns
+  pub burn : old.burned ≡ false → new.burned ≡ true → new.burns ≡ raised old.burns
   pub ends : old.burned ≡ false → new.burned ≡ true → IsErrOf result Cut
   pub no_burn : new.burned ≡ old.burned → new.burns ≡ old.burns
   pub unburned : OnOk result (new.burns ≡ old.burns)

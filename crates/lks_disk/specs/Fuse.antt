@@ -9,50 +9,61 @@ use Rattle.lks_disk.specs.declared.controls.Fuse.TheVariants.{Unset, Set, Burned
 use Rattle.lks_disk.specs.declared.controls.Fate.{Fate}
 use Rattle.lks_disk.specs.declared.controls.Fate.TheVariants.{Passes, Fails, Burns, Ends}
 use Rattle.lks_disk.specs.declared.controls.Control.{Control}
+use Rattle.lks_disk.specs.declared.controls.Setting.{Setting}
 
 abbrev pub is_set : Fuse → Bool
 is_set (Unset last) = false
-is_set (Set left choice) = true
-is_set (Burned choice) = true
+is_set (Set left setting) = true
+is_set (Burned setting) = true
 
 abbrev pub is_burned : Fuse → Bool
 is_burned (Unset last) = false
-is_burned (Set left choice) = false
-is_burned (Burned choice) = true
+is_burned (Set left setting) = false
+is_burned (Burned setting) = true
 
 -- how many calls it still lets pass
 abbrev pub lets : Fuse → ℕ
 lets (Unset last) = 0
-lets (Set left choice) = left
-lets (Burned choice) = 0
+lets (Set left setting) = left
+lets (Burned setting) = 0
 
--- the choice of the fuse, or without one that of the last power cut
+-- as the fuse was set, or without one that of the last power cut
+abbrev pub last_setting : Fuse → Setting
+last_setting (Unset last) = last
+last_setting (Set left setting) = setting
+last_setting (Burned setting) = setting
+
+abbrev pub last_calls : Fuse → ℕ
+last_calls fuse = (last_setting fuse).calls
+
 abbrev pub last_choice : Fuse → ℕ
-last_choice (Unset last) = last
-last_choice (Set left choice) = choice
-last_choice (Burned choice) = choice
+last_choice fuse = (last_setting fuse).choice
 
 -- what is left at a power cut; without a fuse it is choice 0
 abbrev pub choice_of : Fuse → ℕ
 choice_of fuse = if is_set fuse then last_choice fuse else 0
 
--- what is told of it, after so many have burned
-abbrev pub tells_of : Fuse → ℕ → FuseTold
-tells_of fuse burns = record { set = is_set fuse; burned = is_burned fuse; left = lets fuse; choice = last_choice fuse; burns = burns }
+-- the fuse that a power cut ends, as it was set
+abbrev pub setting_of : Fuse → Setting
+setting_of fuse = record { calls = if is_set fuse then last_calls fuse else 0; choice = choice_of fuse }
+
+-- what is told of it
+abbrev pub tells_of : Control → FuseTold
+tells_of c = record { set = is_set c.fuse; burned = is_burned c.fuse; left = lets c.fuse; calls = last_calls c.fuse; choice = last_choice c.fuse; burns = c.burns; cuts = c.cuts }
 
 -- the fuse after a write or a sync
 abbrev pub fuse_after : Fuse → Fuse
 fuse_after (Unset last) = Unset last
-fuse_after (Set zero choice) = Burned choice
-fuse_after (Set (suc left) choice) = Set left choice
-fuse_after (Burned choice) = Burned choice
+fuse_after (Set zero setting) = Burned setting
+fuse_after (Set (suc left) setting) = Set left setting
+fuse_after (Burned setting) = Burned setting
 
 -- what becomes of a write or a sync, by the fuse before it and by whether the call is named to fail
 abbrev pub fate_by : Fuse → Bool → Fate
 fate_by (Unset last) named = if named then Fails else Passes
-fate_by (Set zero choice) named = Burns
-fate_by (Set (suc left) choice) named = if named then Fails else Passes
-fate_by (Burned choice) named = Ends
+fate_by (Set zero setting) named = Burns
+fate_by (Set (suc left) setting) named = if named then Fails else Passes
+fate_by (Burned setting) named = Ends
 
 abbrev pub fate_of : Control → Fate
 fate_of c = fate_by c.fuse (next_fails c.fail.items c.calls)
@@ -72,7 +83,7 @@ settled Ends c = record c { calls = raised c.calls; fuse = fuse_after c.fuse }
 
 -- the answer to a read or a question for the length, by whether the call is named to fail
 abbrev pub read_answer : Fuse → Bool → Result (Unit {0}) DiskFail
-read_answer (Burned choice) named = Err Cut
+read_answer (Burned setting) named = Err Cut
 read_answer fuse named = if named then Err Failed else Ok tt
 
 -- the state after it
@@ -90,7 +101,8 @@ pub record Starts (fail fail_reads : List ℕ) (c : Control) : Type 0 where
   pub reads : c.reads ≡ 0
   pub faults : c.faults ≡ 0
   pub burns : c.burns ≡ 0
-  pub fuse : c.fuse ≡ Unset 0
+  pub cuts : c.cuts ≡ 0
+  pub fuse : c.fuse ≡ Unset (record { calls = 0; choice = 0 })
 
 -- how a call that may want memory is answered by its fate
 abbrev pub AnswersBy : Fate → Result (Unit {0}) DiskFail → Type 0

@@ -6,5 +6,5 @@ use Rattle.lks_disk.specs.declared.controls.Fuse.TheVariants.{Unset, Set, Burned
 
 pub set_is_burned_out : (fuse : Fuse) → is_burned fuse ≡ true → (is_set fuse ≡ true) × (lets fuse ≡ 0)
 set_is_burned_out (Unset last) burned = absurd cc
-set_is_burned_out (Set left choice) burned = absurd cc
-set_is_burned_out (Burned choice) burned = (refl, refl)
+set_is_burned_out (Set left setting) burned = absurd cc
+set_is_burned_out (Burned setting) burned = (refl, refl)

@@ -3,7 +3,7 @@ use Rattle.std.specs.Prelude.{ℕ, List, [], ◌∷◌, refl}
 use Rattle.std.proofs.Common.{inl}
 use Rattle.lks_disk.specs.Crash.{may_leave, moment, left_since}
 use Rattle.lks_disk.specs.Face.{Face}
-use Rattle.lks_disk.specs.Fuse.{is_set, is_burned, lets, last_choice}
+use Rattle.lks_disk.specs.Fuse.{is_set, is_burned, lets, last_calls, last_choice}
 use Rattle.lks_disk.specs.declared.calls.Call.{Call}
 use Rattle.lks_disk.specs.declared.calls.Call.TheVariants.{Written, Synced}
 use Rattle.lks_disk.specs.declared.memory.MemDisk.{MemDisk}
@@ -17,9 +17,11 @@ mem_face = record {
   left_since = λ m. left_since m.content;
   faults = λ m. m.control.faults;
   burns = λ m. m.control.burns;
+  cuts = λ m. m.control.cuts;
   fused = λ m. is_set m.control.fuse;
   burned = λ m. is_burned m.control.fuse;
   left = λ m. lets m.control.fuse;
+  calls = λ m. last_calls m.control.fuse;
   choice = λ m. last_choice m.control.fuse;
 }
 

@@ -1,18 +1,25 @@
 //! Which calls of a disk in memory fail or are cut off, and how many there were.
 ghost use Rattle.std.specs.Prelude.{◌≡◌, ◌-◌, if◌then◌else◌};
-ghost use Rattle.lks_disk.specs.Counts.{next_fails};
+ghost use Rattle.lks_disk.specs.Counts.{next_fails, raised};
 ghost use Rattle.lks_disk.specs.Device.{HasCause, Fused, SameFuse};
-ghost use Rattle.lks_disk.specs.Fuse.{choice_of, tells_of, fuse_after, fate_of, answer_of, settled, read_answer, after_read};
+ghost use Rattle.lks_disk.specs.Fuse.{choice_of, setting_of, tells_of, fuse_after, fate_of, answer_of, settled, read_answer, after_read};
 
 use crate::disks::DiskFail;
+
+/// How a fuse was set: so many calls pass, and then the choice says what is left.
+#[derive(Clone, Copy, PartialEq, Eq)]
+pub struct Setting {
+    pub calls: u32,
+    pub choice: u64,
+}
 
 /// What cuts a disk off.
 #[derive(Clone, Copy, PartialEq, Eq)]
 pub enum Fuse {
-    /// None is set. The last power cut left the outcome of this choice.
-    Unset { last: u64 },
-    Set { left: u32, choice: u64 },
-    Burned { choice: u64 },
+    /// None is set. The last power cut ended one that was set like this.
+    Unset { last: Setting },
+    Set { left: u32, setting: Setting },
+    Burned { setting: Setting },
 }
 
 impl Fuse {
@@ -22,17 +29,17 @@ impl Fuse {
     {
         match self {
             Fuse::Unset { last } => Fuse::Unset { last },
-            Fuse::Set { left, choice } => {
+            Fuse::Set { left, setting } => {
                 if left == 0 {
-                    Fuse::Burned { choice }
+                    Fuse::Burned { setting }
                 } else {
                     Fuse::Set {
                         left: left - 1,
-                        choice,
+                        setting,
                     }
                 }
             }
-            Fuse::Burned { choice } => Fuse::Burned { choice },
+            Fuse::Burned { setting } => Fuse::Burned { setting },
         }
     }
 }
@@ -57,12 +64,13 @@ pub struct Control {
     pub reads: u64,
     pub faults: u64,
     pub burns: u64,
+    pub cuts: u64,
     pub fuse: Fuse,
 }
 
 impl Control {
     pub fn new(fail: Vec<u32>, fail_reads: Vec<u32>) -> Self
-        ensures { result ≡ record { fail = fail; fail_reads = fail_reads; calls = 0; reads = 0; faults = 0; burns = 0; fuse = Fuse.Unset 0 } }
+        ensures { result ≡ record { fail = fail; fail_reads = fail_reads; calls = 0; reads = 0; faults = 0; burns = 0; cuts = 0; fuse = Fuse.Unset (record { calls = 0; choice = 0 }) } }
     {
         Control {
             fail,
@@ -71,7 +79,13 @@ impl Control {
             reads: 0,
             faults: 0,
             burns: 0,
-            fuse: Fuse::Unset { last: 0 },
+            cuts: 0,
+            fuse: Fuse::Unset {
+                last: Setting {
+                    calls: 0,
+                    choice: 0,
+                },
+            },
         }
     }
 
@@ -98,7 +112,7 @@ impl Control {
         ensures answer { result ≡ answer_of (fate_of self.old) }
         ensures after { self.new ≡ settled (fate_of self.old) self.old }
         ensures cause { HasCause self.old.faults self.new.faults result }
-        ensures fuse { Fused (tells_of self.old.fuse self.old.burns) (tells_of self.new.fuse self.new.burns) result }
+        ensures fuse { Fused (tells_of self.old) (tells_of self.new) result }
     {
         let fate = self.fate();
         self.calls = self.calls.saturating_add(1);
@@ -122,7 +136,7 @@ impl Control {
         ensures answer { result ≡ read_answer self.old.fuse (next_fails self.old.fail_reads.items self.old.reads) }
         ensures after { self.new ≡ after_read self.old result }
         ensures cause { HasCause self.old.faults self.new.faults result }
-        ensures fuse { SameFuse (tells_of self.old.fuse self.old.burns) (tells_of self.new.fuse self.new.burns) result }
+        ensures fuse { SameFuse (tells_of self.old) (tells_of self.new) result }
     {
         let named = is_next(&self.fail_reads, self.reads);
         self.reads = self.reads.saturating_add(1);
@@ -138,20 +152,37 @@ impl Control {
         }
     }
 
-    /// What a power cut leaves.
-    pub fn choice(&self) -> u64
-        ensures { result ≡ choice_of self.now.fuse }
+    /// The fuse that a power cut ends, as it was set.
+    fn setting(&self) -> Setting
+        ensures { result ≡ setting_of self.now.fuse }
     {
         match self.fuse {
-            Fuse::Unset { .. } => 0,
-            Fuse::Set { choice, .. } | Fuse::Burned { choice } => choice,
+            Fuse::Unset { .. } => Setting {
+                calls: 0,
+                choice: 0,
+            },
+            Fuse::Set { setting, .. } | Fuse::Burned { setting } => setting,
         }
     }
 
-    pub fn set_fuse(&mut self, fuse: Fuse)
-        ensures { self.new ≡ record self.old { fuse = fuse } }
+    pub fn set_fuse(&mut self, setting: Setting)
+        ensures { self.new ≡ record self.old { fuse = Fuse.Set setting.calls setting } }
     {
-        self.fuse = fuse;
+        self.fuse = Fuse::Set {
+            left: setting.calls,
+            setting,
+        };
+    }
+
+    /// Ends the fuse, counts a power cut, and says which outcome it leaves.
+    pub fn cut_power(&mut self) -> u64
+        ensures choice { result ≡ choice_of self.old.fuse }
+        ensures after { self.new ≡ record self.old { fuse = Fuse.Unset (setting_of self.old.fuse); cuts = raised self.old.cuts } }
+    {
+        let last = self.setting();
+        self.fuse = Fuse::Unset { last };
+        self.cuts = self.cuts.saturating_add(1);
+        last.choice
     }
 }
 

@@ -88,7 +88,8 @@ pub trait CrashDisk: Disk + Send {
     fn fuse(&mut self, calls: u32, choice: u64)
         ensures fused { HasFuse Self.face calls choice self.old self.new };
 
-    /// Ends the fuse, and leaves one outcome of a crash, which the fuse's choice picks. Nothing is pending then.
+    /// Ends the fuse, and leaves one outcome of a crash, which the fuse's choice picks. Nothing is pending then. The disk counts
+    /// it.
     fn power_cut(&mut self)
         ensures lost { HasLost Self.face self.old self.new };
 

@@ -2,14 +2,15 @@
 ghost use Rattle.std.specs.Prelude.{◌≡◌, ◌↔◌, ◌+◌, ◌^◌, ◌<◌, ◌≤◌, ℕ, List, [], true, false, length, IfOk, OnOk, OnErr, IsErrOf};
 ghost use Rattle.lks_disk.specs.Device.{Wrote, ReadAt, Torn, Follows, Only, HasCause, NoMemory};
 ghost use Rattle.lks_disk.specs.Face.{Same, Passes, Burns, KeepsFuse, HasFuse, HasLost};
-ghost use Rattle.lks_disk.specs.Counts.{next_fails};
+ghost use Rattle.lks_disk.specs.Counts.{next_fails, raised};
 ghost use Rattle.lks_disk.specs.Crash.{may_leave, moment, left_since, left_by, WritesBy, synced_by};
-ghost use Rattle.lks_disk.specs.Fuse.{is_set, is_burned, lets, choice_of, fate_of, answer_of, settled, read_answer, after_read, AnswersBy, CountsBy, RefusedBy, Starts};
+ghost use Rattle.lks_disk.specs.Fuse.{is_set, is_burned, lets, choice_of, setting_of, fate_of, answer_of, settled, read_answer, after_read, AnswersBy, CountsBy, RefusedBy, Starts};
+ghost use Rattle.lks_disk.specs.declared.controls.Fuse.{Fuse};
 ghost use Rattle.lks_disk.specs.Moments.{counts_now, only_now};
 ghost use Rattle.lks_disk.specs.MemDisk.{set_is_burned_out};
 
 use crate::contents::Content;
-use crate::controls::{Control, Fate, Fuse};
+use crate::controls::{Control, Fate, Setting};
 use crate::disks::{CrashDisk, Disk, DiskFail};
 use std::alloc::Global;
 
@@ -142,23 +143,19 @@ impl CrashDisk for MemDisk {
         ensures fused { HasFuse mem_face calls choice self.old self.new }
 
         ensures content { self.new.content ≡ self.old.content }
-        ensures control { self.new.control ≡ record self.old.control { fuse = Fuse.Set calls choice } }
+        ensures control { self.new.control ≡ record self.old.control { fuse = Fuse.Set calls (record { calls = calls; choice = choice }) } }
     {
-        self.control.set_fuse(Fuse::Set {
-            left: calls,
-            choice,
-        });
+        self.control.set_fuse(Setting { calls, choice });
     }
 
     fn power_cut(&mut self)
         ensures lost { HasLost mem_face self.old self.new }
 
         ensures content { self.new.content ≡ record { bytes = left_by (choice_of self.old.control.fuse) self.old.content.calls self.old.content.bytes; calls = [] } }
-        ensures control { self.new.control ≡ record self.old.control { fuse = Fuse.Unset (choice_of self.old.control.fuse) } }
+        ensures control { self.new.control ≡ record self.old.control { fuse = Fuse.Unset (setting_of self.old.control.fuse); cuts = raised self.old.control.cuts } }
     {
-        let choice = self.control.choice();
+        let choice = self.control.cut_power();
         self.content.cut(choice);
-        self.control.set_fuse(Fuse::Unset { last: choice });
     }
 
     ghost tells = { λ _. tt };

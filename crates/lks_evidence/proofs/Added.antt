@@ -18,7 +18,7 @@ use Rattle.lks_base.specs.declared.records.Record.{Record}
 use Rattle.lks_base.specs.declared.records.Record.TheVariants.{Deposit, Overdue}
 use Rattle.lks_law.specs.Facts.{Heard, unnumbered, GoesBy}
 use Rattle.lks_law.specs.Journal.{Opening, Request, opening_of, contents_at, unanswered}
-use Rattle.lks_law.specs.Linked.{Each}
+use Rattle.lks_law.proofs.Linked.{Each}
 use Rattle.lks_law.specs.Polls.{Station, verdict_in, candidate, restores}
 use Rattle.lks_law.specs.References.{reference_list}
 use Rattle.lks_law.specs.Reaction.{nothing, for_opening, may_open, on_open, on_widen, asked_again, on_nudge, given_up, on_give_up, is_inquorate, on_shut, on_tally, asked, tallied, closed, must_note, overdue_in, on_check, may_prove, on_challenge, may_nominate, on_nominate, may_vote, on_vote, on_repair}

@@ -13,7 +13,7 @@ use Rattle.lks_base.specs.declared.records.Record.{Record}
 use Rattle.lks_base.specs.declared.records.Record.TheVariants.{Deposit}
 use Rattle.lks_base.proofs.PlanLaws.{no_first, no_second, stands}
 use Rattle.lks_law.specs.Journal.{deposit_in, deposit_of, is_number}
-use Rattle.lks_law.specs.Linked.{Each}
+use Rattle.lks_law.proofs.Linked.{Each}
 use Rattle.lks_law.specs.World.{deposit_for, deposits as deposits_of}
 use Rattle.lks_law.specs.Written.{is_deposit}
 use Rattle.lks_law.proofs.Growing.{IsLater, each_append, each_front, first_of, deposit_first, same_deposit}

@@ -1,21 +1,19 @@
 -- Where a set holds, each replaced block has its evidence.
-use Rattle.std.proofs.Common.{◌≡◌, ◌≤◌, ◌<◌, ◌∙◌, sym, subst, ℕ, true, List, [], ◌∷◌, length, take, refl, arith}
+use Rattle.std.proofs.Common.{◌≡◌, ◌<◌, ◌∙◌, sym, ℕ, true, List, [], ◌∷◌, length, refl, arith}
 use Rattle.std.specs.Prelude.{Option, Some, None, unwrap_or, slice_get, slice_set, ◌&&◌, ◌==◌}
-use Rattle.std.proofs.lemmas.Bool.{and_parts, eqb-true, ltb-true}
+use Rattle.std.proofs.lemmas.Bool.{and_parts, eqb-true, eq-eqb, ltb-true}
 use Rattle.std.proofs.lemmas.List.{length-set}
+use Rattle.lks_base.specs.declared.names.Limits.{Limits}
 use Rattle.lks_base.specs.declared.plans.AuPlan.{AuPlan}
 use Rattle.lks_base.specs.declared.plans.Plan.{Plan}
-use Rattle.lks_base.specs.declared.plans.Rules.{Rules}
 use Rattle.lks_base.specs.declared.records.Record.{Record}
 use Rattle.lks_law.specs.Journal.{Opening, Replacement, deposit_of, replacements, replaced_by, contents_of, is_shut, Repair, is_number}
-use Rattle.lks_law.specs.Polls.{Station, limits_of, ballot_of, inner_votes}
+use Rattle.lks_law.specs.Polls.{ObeyQuorumRule}
 use Rattle.lks_law.specs.Safe.{HasEvidence}
-use Rattle.lks_tally.specs.declared.ballots.Ballot.{Ballot}
-use Rattle.lks_tally.specs.Counting.{for_at, against_at}
 use Rattle.lks_evidence.specs.declared.findings.Shelf.{Shelf}
 use Rattle.lks_evidence.specs.Records.{deposits, openings}
-use Rattle.lks_evidence.specs.Rules.{count_in, deposited, is_deposited, is_held, is_polled, ballot_for}
-use Rattle.lks_evidence.specs.Holding.{SetHolds, ballot_behind}
+use Rattle.lks_evidence.specs.Rules.{count_in, deposited, is_deposited, is_held, is_polled}
+use Rattle.lks_evidence.specs.Holding.{SetHolds}
 
 replaced-length : (blocks : List (List ℕ)) (rs : List Replacement) → length (replaced_by blocks rs) ≡ length blocks
 replaced-length blocks [] = refl
@@ -45,31 +43,24 @@ held_block aus journal before r held =
     let within = ltb-true r.block (length (deposited r.au before)) (and_parts (deposits r.au journal == 1) _ rest).1 in
     omega (arith, within, copy_length r.au before)
 
-pub polled_parts : (before : List Record) (r : Repair) (o : Opening) → is_polled before r o ≡ true → (o.au ≡ r.au) × (is_shut r.number before ≡ true)
-unfolding is_polled
-polled_parts before r o e =
-    let rest = and_parts (o.au == r.au) (is_shut r.number before) (and_parts (openings r.number before == 1) _ e).1 in
-    (eqb-true o.au r.au rest.0, rest.1)
+-- what is known of a poll that was opened so
+pub record Polled (limits : Limits) (before : List Record) (r : Repair) (o : Opening) : Type 0 where
+  pub once : openings r.number before ≡ 1
+  pub of_au : o.au ≡ r.au
+  pub ended : is_shut r.number before ≡ true
+  pub lawful : ObeyQuorumRule limits
 
-pub has_evidence : (plan : Plan) (set : List Shelf) (own : Station) (k : ℕ) (s : Shelf) → SetHolds plan set → slice_get set k ≡ Some s → own.rules ≡ plan.rules → own.id ≡ s.peer → HasEvidence own s.list.items
-has_evidence plan set own k s h at rules id i n au b bytes there =
-    let r : Repair = record { number = n; au = au; block = b; bytes = bytes } in
-    let before = take i s.list.items in
-    let x = h.repairs k i n au b bytes s at there in
-    let parts = polled_parts before r x.opening x.polled in
-    let count = held_count plan.aus s.list.items before r x.held in
-    let same : ballot_behind plan s.peer r x.opening ≡ ballot_of own n x.opening (length (contents_of au before)) = λ j. ballot_for (sym id j) n x.opening (count j) in
-    let old = x.few_for_old in
-    let new = x.few_against_new in
-    record {
-      opening = x.opening;
-      opened = x.opened;
-      of_au = parts.0;
-      ended = parts.1;
-      distinct = x.distinct;
-      quorum = subst (λ (rs : Rules). (limits_of rs x.opening).quorum ≤ length (inner_votes n x.opening.inner before)) (sym rules) x.quorum;
-      few_for_old = subst (λ (q : Ballot). for_at q (inner_votes n x.opening.inner before) (contents_of au before) b ≤ (limits_of own.rules x.opening).minority) same
-          (subst (λ (rs : Rules). for_at (ballot_behind plan s.peer r x.opening) (inner_votes n x.opening.inner before) (contents_of au before) b ≤ (limits_of rs x.opening).minority) (sym rules) old);
-      few_against_new = subst (λ (q : Ballot). against_at q (inner_votes n x.opening.inner before) (slice_set (contents_of au before) b bytes) b ≤ (limits_of own.rules x.opening).minority) same
-          (subst (λ (rs : Rules). against_at (ballot_behind plan s.peer r x.opening) (inner_votes n x.opening.inner before) (slice_set (contents_of au before) b bytes) b ≤ (limits_of rs x.opening).minority) (sym rules) new);
-    }
+pub polled_parts : (limits : Limits) (before : List Record) (r : Repair) (o : Opening) → is_polled limits before r o ≡ true → Polled limits before r o
+unfolding is_polled
+polled_parts limits before r o e =
+    let first = and_parts (openings r.number before == 1) _ e in
+    let second = and_parts (o.au == r.au) _ first.1 in
+    let last = and_parts (is_shut r.number before) _ second.1 in
+    record { once = eqb-true (openings r.number before) 1 first.0; of_au = eqb-true o.au r.au second.0; ended = last.0; lawful = last.1 }
+
+pub polled_from : (limits : Limits) (before : List Record) (r : Repair) (o : Opening) → Polled limits before r o → is_polled limits before r o ≡ true
+unfolding is_polled
+polled_from limits before r o p = rw (p.once, eq-eqb o.au r.au p.of_au, p.ended, p.lawful) refl
+
+pub has_evidence : (plan : Plan) (set : List Shelf) (k : ℕ) (s : Shelf) → SetHolds plan set → slice_get set k ≡ Some s → HasEvidence plan.rules s.peer s.list.items
+has_evidence plan set k s h at i q r there says = (h.repairs k s at i q r there says).evidence

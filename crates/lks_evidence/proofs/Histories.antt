@@ -1,6 +1,6 @@
 -- The journals of every history hold.
 use Rattle.std.proofs.Common.{◌≡◌, ◌≤◌, ◌<◌, ◌+◌, ◌∙◌, ap, sym, subst, ℕ, zero, suc, Bool, true, false, cond, eqb, not, List, [], ◌∷◌, length, get_or, take, filter, refl, arith}
-use Rattle.std.specs.Prelude.{Option, Some, None, unwrap_or, ◌&&◌, ◌||◌, ◌==◌, slice_get, slice_set}
+use Rattle.std.specs.Prelude.{Option, Some, None, unwrap_or, ◌&&◌, ◌||◌, ◌==◌, slice_get}
 use Rattle.std.specs.Cmp.Lexicographic.{pointwise, pointwise_decides, bytes_decides}
 use Rattle.std.specs.List.{list_all, list_any}
 use Rattle.std.proofs.lemmas.Bool.{and_parts, eqb-true, eq-eqb, lt-ltb, le-leb}
@@ -15,38 +15,37 @@ use Rattle.lks_base.specs.declared.plans.PeerPlan.{PeerPlan}
 use Rattle.lks_base.specs.declared.plans.Plan.{Plan}
 use Rattle.lks_base.specs.declared.plans.PlanFault.TheVariants.{Bounds, Repeat, BlockCount}
 use Rattle.lks_base.specs.declared.records.Record.{Record}
-use Rattle.lks_base.specs.declared.records.Record.TheVariants.{Replaced}
 use Rattle.lks_base.proofs.PlanBounds.{one_copy}
 use Rattle.lks_base.proofs.PlanLaws.{no_first, stands, fifth, all_of, lists_stand}
 use Rattle.lks_hash.specs.Hashes.{key_of}
 use Rattle.lks_hash.specs.Running.{hashes_of}
 use Rattle.lks_law.specs.Facts.{HasJournal}
 use Rattle.lks_law.specs.Histories.{IsHistory}
-use Rattle.lks_law.specs.Journal.{Opening, deposit_of, contents_at, contents_of, opening_of, Repair}
-use Rattle.lks_law.specs.Linked.{Each, Any, Fact}
-use Rattle.lks_law.specs.Polls.{Station, limits_of, inner_votes, ballot_of}
+use Rattle.lks_law.specs.Journal.{Opening, Repair, said, deposit_of, contents_at, contents_of, opening_of}
+use Rattle.lks_law.proofs.Linked.{Each}
+use Rattle.lks_law.specs.Polls.{Station, ballot_for, votes_behind, ballot_behind}
+use Rattle.lks_law.specs.Safe.{Evidence}
 use Rattle.lks_law.specs.Voting.{named}
 use Rattle.lks_law.specs.World.{Standing, is_honest, station_of, deposits as deposits_of, peer_at, world}
-use Rattle.lks_law.proofs.Growing.{each_map, front_deposit, contents_length, version_length}
-use Rattle.lks_law.proofs.Holding.{opening_later}
-use Rattle.lks_law.proofs.Journals.{deposits_are, AreDeposits, journals_are_own}
+use Rattle.lks_law.proofs.Growing.{IsLater, each_map, front_deposit, contents_length, version_length}
+use Rattle.lks_law.proofs.Holding.{opening_later, repair_later, repair_within, plan_is_lawful}
+use Rattle.lks_law.proofs.Journals.{deposits_are, AreDeposits, journals_are_own, rules_are, evidence_in}
 use Rattle.lks_law.proofs.Knowing.{is_had}
 use Rattle.lks_law.proofs.Linking.{AreApart, found_at, place_at}
 use Rattle.lks_law.proofs.Lists.{filter_at}
 use Rattle.lks_law.proofs.Matching.{VoteFact, inner_facts, voted_over}
 use Rattle.lks_law.proofs.Starts.{world_holds}
-use Rattle.lks_law.proofs.Worlds.{IsSound, place_of}
+use Rattle.lks_law.proofs.Worlds.{IsSound}
 use Rattle.lks_tally.specs.declared.ballots.Ballot.{Ballot}
 use Rattle.lks_tally.specs.declared.ballots.Vote.{Vote}
-use Rattle.lks_tally.specs.Counting.{key_for, for_at, against_at}
+use Rattle.lks_tally.specs.Counting.{key_for}
 use Rattle.lks_evidence.specs.declared.findings.Shelf.{Shelf}
 use Rattle.lks_evidence.specs.Histories.{AreShelvesOf}
-use Rattle.lks_evidence.specs.Holding.{Stands, SetHolds, ballot_behind}
+use Rattle.lks_evidence.specs.Holding.{Stands, SetHolds}
 use Rattle.lks_evidence.specs.Records as mine
-use Rattle.lks_evidence.specs.Rules.{has_shelf, is_new, count_in, deposited, is_deposited, is_held, is_polled, ballot_for, is_kind, is_over, is_for, is_committed, is_joined, bears_out, shelf_of, bears_out_if, is_founded}
+use Rattle.lks_evidence.specs.Rules.{has_shelf, is_new, deposited, is_deposited, is_held, is_kind, is_over, is_for, is_committed, is_joined, bears_out, shelf_of, bears_out_if, is_founded}
 use Rattle.lks_evidence.proofs.Added.{IsBehind, behind}
 use Rattle.lks_evidence.proofs.Deposited.{deposited_once, behind_front}
-use Rattle.lks_evidence.proofs.Evidenced.{held_count}
 use Rattle.lks_evidence.proofs.Told.{opened_once, same_version, joined_once, committed_once}
 
 -- ---- a standing is of a peer of the plan
@@ -95,11 +94,11 @@ module _ (plan : Plan) (good : plan_fault plan ≡ None) (s : Standing) (is : Is
       (all_of (peer_fault plan.aus plan.peers) (λ (p : PeerPlan). list_all (counts_so plan.aus) p.copies) (peer_counts plan.aus plan.peers) [] plan.peers (lists_stand plan good).1) is.there)
       (one_copy plan good is.i is.p is.there)
 
-  front_in : (i : ℕ) (n au b : ℕ) (bytes : List ℕ) → slice_get s.journal i ≡ Some (Replaced n au b bytes) → IsBehind (deposits_of plan.aus is.p.copies) (take i s.journal)
+  front_in : (i : ℕ) (r : Record) → slice_get s.journal i ≡ Some r → IsLater r → IsBehind (deposits_of plan.aus is.p.copies) (take i s.journal)
   unfolding AreDeposits
-  front_in i n au b bytes at =
+  front_in i r at new =
       subst (λ js. IsBehind (deposits_of plan.aus is.p.copies) (take i js)) (sym is.behind_it.is)
-      (behind_front (deposits_of plan.aus is.p.copies) is.behind_it.rest i (Replaced n au b bytes) (deposits_are plan.aus is.p.copies) is.behind_it.later tt (ap (λ js. slice_get js i) (sym is.behind_it.is) ∙ at))
+      (behind_front (deposits_of plan.aus is.p.copies) is.behind_it.rest i r (deposits_are plan.aus is.p.copies) is.behind_it.later new (ap (λ js. slice_get js i) (sym is.behind_it.is) ∙ at))
 
 some_blocks : (o : Option (List (List ℕ))) (n : ℕ) → n < length (unwrap_or o []) → (blocks : List (List ℕ)) × (o ≡ Some blocks)
 some_blocks None n lt = absurd (omega (arith, lt))
@@ -205,60 +204,46 @@ module _ (plan : Plan) (good : plan_fault plan ≡ None) (peers : List Standing)
 -- ---- each replaced block of a history stands
 
 module _ (plan : Plan) (history : List Event) (good : plan_fault plan ≡ None) (is : IsHistory plan history) (set : List Shelf) (are : AreShelvesOf (world plan history).peers set) where
-  stand : (k : ℕ) (t : Standing) → slice_get (world plan history).peers k ≡ Some t → (i n au b : ℕ) (bytes : List ℕ) → slice_get t.journal i ≡ Some (Replaced n au b bytes)
-      → Stands plan set t.own.id t.journal (take i t.journal) (record { number = n; au = au; block = b; bytes = bytes })
-  unfolding is_held deposited is_polled is_founded
-  stand k t at i n au b bytes there =
+  stand : (k : ℕ) (t : Standing) → slice_get (world plan history).peers k ≡ Some t → (i : ℕ) (p : Record) (r : Repair) → slice_get t.journal i ≡ Some p → (said p).replaced ≡ Some r
+      → Stands plan set t.own.id t.journal (take i t.journal) r
+  unfolding is_held deposited is_founded
+  stand k t at i p r there says =
       let peers = (world plan history).peers in
       let holds = world_holds plan history good is in
       let own = place_at peers k t holds.apart at in
       let sound = holds.linked.each t.own.id t own in
       let of_plan = owned plan history k t at in
-      let evidence = sound.kept.rest.evidence i n au b bytes there in
-      let o = evidence.opening in
+      let rules : t.own.rules ≡ plan.rules = rules_are plan history k t at in
       let before = take i t.journal in
-      let r : Repair = record { number = n; au = au; block = b; bytes = bytes } in
-      let inner = inner_votes n o.inner before in
-      let within : b < length (contents_of au t.journal) = subst (Any (Fact peers t.own t.journal)) there (place_of (Fact peers t.own t.journal) t.journal i sound.records) in
-      let size = contents_length au t.journal in
-      let held = some_blocks (deposit_of au t.journal) b (omega (arith, within, size)) in
-      let front : deposit_of au before ≡ Some held.0 = front_deposit au t.journal i (Replaced n au b bytes) sound.begun tt there ∙ held.1 in
-      let many : length (contents_of au t.journal) ≡ length held.0 = size ∙ ap (λ x. length (unwrap_or x [])) held.1 in
-      let whole_once = once_in plan good t of_plan t.journal of_plan.behind_it au held.0 held.1 in
-      let front_once = once_in plan good t of_plan before (front_in plan good t of_plan i n au b bytes there) au held.0 front in
-      let held_is : is_held plan.aus t.journal before r ≡ true = rw (front_once.1, whole_once.0, front, lt-ltb b (length held.0) (omega (arith, within, many))) refl in
-      let counts : unwrap_or (count_in plan.aus au) 0 ≡ length (contents_of au before) = held_count plan.aus t.journal before r held_is in
-      let fewer : length (contents_of au before) ≡ length held.0 = contents_length au before ∙ ap (λ x. length (unwrap_or x [])) front in
-      let same : ballot_of t.own n o (length (contents_of au before)) ≡ ballot_behind plan t.own.id r o = λ j. ballot_for t.own.id n o (sym counts j) in
-      let rules : t.own.rules ≡ plan.rules = ap (λ (x : Station). x.rules) of_plan.own in
-      let opened = opening_later n t.journal i o evidence.opened in
-      let all_of_it : unwrap_or (count_in plan.aus au) 0 ≡ length (contents_of o.au t.journal) = counts ∙ fewer ∙ sym many ∙ ap (λ a. length (contents_of a t.journal)) (sym evidence.of_au) in
-      let old = evidence.few_for_old in
-      let new = evidence.few_against_new in
+      let evidence = subst (λ rs. Evidence rs t.own.id before r) rules (evidence_in plan history k t (plan_is_lawful plan good) at i p r there says) in
+      let o = evidence.opening in
+      let votes = votes_behind before r o in
+      let q = ballot_behind t.own.id before r o in
+      let within = repair_within peers t.own t.journal i p r sound.records there says in
+      let size = contents_length r.au t.journal in
+      let held = some_blocks (deposit_of r.au t.journal) r.block (omega (arith, within, size)) in
+      let front : deposit_of r.au before ≡ Some held.0 = front_deposit r.au t.journal i p sound.begun (repair_later p r says) there ∙ held.1 in
+      let many : length (contents_of r.au t.journal) ≡ length held.0 = size ∙ ap (λ x. length (unwrap_or x [])) held.1 in
+      let fewer : length (contents_of r.au before) ≡ length held.0 = contents_length r.au before ∙ ap (λ x. length (unwrap_or x [])) front in
+      let whole_once = once_in plan good t of_plan t.journal of_plan.behind_it r.au held.0 held.1 in
+      let front_once = once_in plan good t of_plan before (front_in plan good t of_plan i p there (repair_later p r says)) r.au held.0 front in
+      let opened = opening_later r.number t.journal i o evidence.opened in
+      let all_of_it : length (contents_of r.au before) ≡ length (contents_of o.au t.journal) = fewer ∙ sym many ∙ ap (λ a. length (contents_of a t.journal)) (sym evidence.of_au) in
       record {
-        held = held_is;
-        opening = o;
-        opened = evidence.opened;
-        polled = rw (opened_once n t.journal i o (sound.single.openings_are n) evidence.opened, eq-eqb o.au au evidence.of_au, evidence.ended) refl;
-        distinct = evidence.distinct;
+        held = rw (front_once.1, whole_once.0, front, lt-ltb r.block (length held.0) (omega (arith, within, many))) refl;
+        evidence = evidence;
+        once = opened_once r.number t.journal i o (sound.single.openings_are r.number) evidence.opened;
         whole =
-            each_all (λ v. length v.hashes ≡ unwrap_or (count_in plan.aus au) 0) inner
-            (each_map (VoteFact peers t.own t.journal sound.records n) (λ v. length v.hashes ≡ unwrap_or (count_in plan.aus au) 0) inner
-            (λ v fact. is_had (λ (x : Opening). length v.hashes ≡ length (contents_of x.au t.journal)) (opening_of n t.journal) o opened fact.1 ∙ sym all_of_it)
-            (inner_facts peers t.own t.journal sound.records n o.inner i));
-        quorum = subst (λ rs. (limits_of rs o).quorum ≤ length inner) rules evidence.quorum;
-        few_for_old =
-            subst (λ (q : Ballot). for_at q inner (contents_of au before) b ≤ (limits_of plan.rules o).minority) same
-            (subst (λ rs. for_at (ballot_of t.own n o (length (contents_of au before))) inner (contents_of au before) b ≤ (limits_of rs o).minority) rules old);
-        few_against_new =
-            subst (λ (q : Ballot). against_at q inner (slice_set (contents_of au before) b bytes) b ≤ (limits_of plan.rules o).minority) same
-            (subst (λ rs. against_at (ballot_of t.own n o (length (contents_of au before))) inner (slice_set (contents_of au before) b bytes) b ≤ (limits_of rs o).minority) rules new);
+            each_all (λ v. length v.hashes ≡ length (contents_of r.au before)) votes
+            (each_map (VoteFact peers t.own t.journal sound.records r.number) (λ v. length v.hashes ≡ length (contents_of r.au before)) votes
+            (λ v fact. is_had (λ (x : Opening). length v.hashes ≡ length (contents_of x.au t.journal)) (opening_of r.number t.journal) o opened fact.1 ∙ sym all_of_it)
+            (inner_facts peers t.own t.journal sound.records r.number o.inner i));
         founded =
-            each_all (λ v. is_founded plan.aus set (ballot_behind plan t.own.id r o) v ≡ true) inner
-            (each_map (VoteFact peers t.own t.journal sound.records n) (λ v. is_founded plan.aus set (ballot_behind plan t.own.id r o) v ≡ true) inner
-            (λ v fact. founded_by v (ballot_behind plan t.own.id r o) (shelf_of set v.voter) refl
-            (λ u from voter of. borne plan good peers _ t u n o v b (unwrap_or (count_in plan.aus au) 0) own from sound voter of opened fact all_of_it (omega (arith, within, many, counts, fewer))))
-            (inner_facts peers t.own t.journal sound.records n o.inner i));
+            each_all (λ v. is_founded plan.aus set q v ≡ true) votes
+            (each_map (VoteFact peers t.own t.journal sound.records r.number) (λ v. is_founded plan.aus set q v ≡ true) votes
+            (λ v fact. founded_by v q (shelf_of set v.voter) refl
+            (λ u from voter of. borne plan good peers _ t u r.number o v r.block (length (contents_of r.au before)) own from sound voter of opened fact all_of_it (omega (arith, within, many, fewer))))
+            (inner_facts peers t.own t.journal sound.records r.number o.inner i));
       }
     where
       founded_by : (v : Vote) (q : Ballot) (x : Option Shelf) → shelf_of set v.voter ≡ x
@@ -281,10 +266,9 @@ module _ (plan : Plan) (history : List Event) (good : plan_fault plan ≡ None) 
         let honest : has_honest plan.peers x.0.own.id ≡ true = ap (has_honest plan.peers) id ∙ honest_in plan.peers of_plan.i of_plan.p of_plan.there of_plan.honest in
         let new = none_before (world plan history).peers set k x.0 are (world_holds plan history good is).apart x.1 in
         rw (x.2, honest, new) refl;
-    repairs = λ k i n au b bytes s at there.
+    repairs = λ k s at i p r there says.
         let x = shelf_place (world plan history).peers set k s are at in
-        let r : Repair = record { number = n; au = au; block = b; bytes = bytes } in
         subst (λ id. Stands plan set id s.list.items (take i s.list.items) r) (sym x.2)
         (subst (λ js. Stands plan set x.0.own.id js (take i js) r) (sym x.3)
-        (stand k x.0 x.1 i n au b bytes (subst (λ js. slice_get js i ≡ Some (Replaced n au b bytes)) x.3 there)));
+        (stand k x.0 x.1 i p r (subst (λ js. slice_get js i ≡ Some p) x.3 there) says));
   }

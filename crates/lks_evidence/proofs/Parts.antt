@@ -9,12 +9,12 @@ use Rattle.lks_base.specs.Checking.{has_honest}
 use Rattle.lks_base.specs.declared.plans.Plan.{Plan}
 use Rattle.lks_base.specs.declared.records.Record.{Record}
 use Rattle.lks_law.specs.Journal.{Repair}
-use Rattle.lks_law.specs.Polls.{inner_votes}
+use Rattle.lks_law.specs.Polls.{votes_behind, ballot_behind}
 use Rattle.lks_tally.specs.declared.ballots.Ballot.{Ballot}
 use Rattle.lks_tally.specs.declared.ballots.Vote.{Vote}
 use Rattle.lks_evidence.specs.declared.findings.Shelf.{Shelf}
 use Rattle.lks_evidence.specs.Rules.{has_shelf, is_new, shelf_of, bears_out_if, is_founded}
-use Rattle.lks_evidence.specs.Holding.{Stands, SetHolds, ballot_behind}
+use Rattle.lks_evidence.specs.Holding.{Stands, SetHolds}
 use Rattle.lks_evidence.specs.Parts.{IsPart}
 
 -- who has a shelf among some has one among others
@@ -147,25 +147,20 @@ founded_part plan part set q v new is e = by_shelf (shelf_of part v.voter) refl
 stands_part : (plan : Plan) (part set : List Shelf) (poller : ℕ) (journal before : List Record) (r : Repair) → AreNew plan [] set → IsPart part set
     → Stands plan set poller journal before r → Stands plan part poller journal before r
 stands_part plan part set poller journal before r new is x =
-    let q = ballot_behind plan poller r x.opening in
+    let q = ballot_behind poller before r x.evidence.opening in
     record {
       held = x.held;
-      opening = x.opening;
-      opened = x.opened;
-      polled = x.polled;
-      distinct = x.distinct;
+      evidence = x.evidence;
+      once = x.once;
       whole = x.whole;
-      quorum = x.quorum;
-      few_for_old = x.few_for_old;
-      few_against_new = x.few_against_new;
       founded = All-weaker (λ v. is_founded plan.aus set q v ≡ true) (λ v. is_founded plan.aus part q v ≡ true) (λ v e. founded_part plan part set q v new is e)
-          (inner_votes r.number x.opening.inner before) x.founded;
+          (votes_behind before r x.evidence.opening) x.founded;
     }
 
 pub part_holds : (plan : Plan) (part set : List Shelf) → IsPart part set → SetHolds plan set → SetHolds plan part
 part_holds plan part set is h = record {
   shelves = part_new plan part set [] [] (λ p e. e) is h.shelves;
-  repairs = λ k i n au b bytes s at there.
+  repairs = λ k s at i q r there says.
       let x = part_at part set k s is at in
-      stands_part plan part set s.peer s.list.items _ _ h.shelves is (h.repairs x.place i n au b bytes s x.there there);
+      stands_part plan part set s.peer s.list.items _ _ h.shelves is (h.repairs x.place s x.there i q r there says);
 }

@@ -70,7 +70,7 @@ module _ {X Y : Type 0} (f : X → Y) (has : Record → Option X) (has' : Record
       sum_by-cons (λ r. cond (is_some (has' r)) 1 0) j js ∙ ap (λ b. cond b 1 0 + count_by (λ r. is_some (has' r)) js) (ap is_some (same j) ∙ some_same (has j))
       ∙ ap (λ n. cond (is_some (has j)) 1 0 + n) (count_same js) ∙ sym (sum_by-cons (λ r. cond (is_some (has r)) 1 0) j js)
 
-abbrev au_of : law.Join → ℕ
+abbrev pub au_of : law.Join → ℕ
 au_of j = j.au
 
 join_same : (q : PollName) (r : Record) → join_in q r ≡ option_map au_of (law.join_in q r)
@@ -89,12 +89,16 @@ join_same q r = by_part (part_of r)
     by_part None = refl
     by_part (Some p) = by_join p (join_by p.turn)
 
+pub join_is : (q : PollName) (js : List Record) → join_of q js ≡ option_map au_of (law.join_of q js)
+unfolding join_of law.join_of
+join_is q js = first_same au_of (law.join_in q) (join_in q) (join_same q) js
+
 pub joined_once : (q : PollName) (js : List Record) (j : law.Join) → length (filter_map (law.join_in q) js) ≤ 1 → law.join_of q js ≡ Some j → (joins q js ≡ 1) × (join_of q js ≡ Some j.au)
 unfolding joins join_of law.join_of
 joined_once q js j single e =
     let some = found_some (law.join_in q) js j e in
     let count = count_same au_of (law.join_in q) (join_in q) (join_same q) js ∙ count_is (law.join_in q) js in
-    (omega (arith, some, count, single), first_same au_of (law.join_in q) (join_in q) (join_same q) js ∙ ap (option_map au_of) e)
+    (omega (arith, some, count, single), join_is q js ∙ ap (option_map au_of) e)
 
 pub committed_once : (q : PollName) (js : List Record) (c : Commitment) → length (filter_map (commitment_in q) js) ≤ 1 → commitment_of q js ≡ Some c → commitments q js ≡ 1
 unfolding commitments commitment_of

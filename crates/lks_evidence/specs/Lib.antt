@@ -2,7 +2,6 @@ pub mod Histories
 pub mod Holding
 pub mod Parts
 pub mod Records
-pub mod Restoring
 pub mod Rules
 pub mod Search
 pub mod Sizes

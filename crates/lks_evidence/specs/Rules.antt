@@ -4,6 +4,7 @@ use Rattle.std.specs.List.{list_any}
 use Rattle.std.specs.Cmp.Lexicographic.{pointwise}
 use Rattle.lks_base.specs.Checking.{has_honest}
 use Rattle.lks_base.specs.Kinds.{is_second}
+use Rattle.lks_base.specs.Quorums.{obeys_quorum_rule}
 use Rattle.lks_base.specs.declared.names.HashKind.{HashKind}
 use Rattle.lks_base.specs.declared.names.HashKind.TheVariants.{Sha256, Sha512_256}
 use Rattle.lks_base.specs.declared.names.Limits.{Limits}
@@ -12,8 +13,9 @@ use Rattle.lks_base.specs.declared.plans.Plan.{Plan}
 use Rattle.lks_base.specs.declared.records.Record.{Record}
 use Rattle.lks_hash.specs.Running.{hashes_of}
 use Rattle.lks_law.specs.Journal.{Opening, deposit_of, contents_at, contents_of, opening_of, is_number, is_shut, Repair}
-use Rattle.lks_law.specs.Polls.{limits_of, inner_votes}
+use Rattle.lks_law.specs.Polls.{limits_of, inner_votes, ballot_for}
 use Rattle.lks_law.specs.Sessions.{Commitment, commitment_of}
+use Rattle.lks_law.specs.Snapshots.{Journals}
 use Rattle.lks_tally.specs.declared.ballots.Ballot.{Ballot}
 use Rattle.lks_tally.specs.declared.ballots.Vote.{Vote}
 use Rattle.lks_tally.specs.Counting.{key_for, for_at, against_at}
@@ -65,14 +67,9 @@ is_held aus journal before r = is_deposited aus r.au before && (deposits r.au jo
 unfoldable pub told : ℕ → ℕ
 told votes = min votes 65535
 
--- whether the poll was opened once, on the AU, and shut
-unfoldable pub is_polled : List Record → Repair → Opening → Bool
-is_polled before r o = openings r.number before == 1 && (o.au == r.au && is_shut r.number before)
-
--- what the votes of the poll are about
-abbrev pub ballot_for : ℕ → ℕ → Opening → ℕ → Ballot
-ballot_for poller n o count =
-    record { poll = record { poller = poller; number = n }; au = o.au; kind = o.kind; nonce = o.nonce; count = count }
+-- whether the poll was opened once, on the AU and with such numbers, and shut
+unfoldable pub is_polled : Limits → List Record → Repair → Opening → Bool
+is_polled limits before r o = openings r.number before == 1 && (o.au == r.au && (is_shut r.number before && obeys_quorum_rule limits.quorum limits.minority))
 
 -- the first voter, in order of votes, who has two
 abbrev pub first_twice : List Vote → Option ℕ
@@ -138,6 +135,10 @@ unfoldable pub shelf_of : List Shelf → ℕ → Option Shelf
 shelf_of [] peer = None
 shelf_of (s ∷ shelves) peer = if s.peer == peer then Some s else shelf_of shelves peer
 
+-- the journals on the shelves of a set
+abbrev pub journals_on : List Shelf → Journals
+journals_on set peer = option_map (λ (s : Shelf). s.list.items) (shelf_of set peer)
+
 abbrev pub bears_out_if : List AuPlan → Ballot → Option Shelf → Vote → Bool
 bears_out_if aus q None v = true
 bears_out_if aus q (Some s) v = bears_out aus q s.list.items v
@@ -162,7 +163,7 @@ votes_doubt plan set limits q votes copy r =
 -- of the poll that was opened so
 unfoldable pub opened_doubt : Plan → List Shelf → ℕ → List Record → Repair → Opening → Option Why
 opened_doubt plan set poller before r o =
-    unless (is_polled before r o) why.Poll
+    unless (is_polled (limits_of plan.rules o) before r o) why.Poll
     ▹ votes_doubt plan set (limits_of plan.rules o) (ballot_for poller r.number o (unwrap_or (count_in plan.aus r.au) 0))
     (inner_votes r.number o.inner before) (contents_of r.au before) r
 

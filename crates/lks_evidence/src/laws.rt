@@ -7,29 +7,30 @@ ghost use Rattle.lks_base.specs.declared.limits.TheConstants.{MOST_CIRCLE};
 ghost use Rattle.lks_base.specs.declared.plans.Plan.{Plan};
 ghost use Rattle.lks_base.specs.declared.records.Record.{Record};
 ghost use Rattle.lks_law.specs.Histories.{IsHistory};
-ghost use Rattle.lks_law.specs.Polls.{Station, inner_votes};
+ghost use Rattle.lks_law.specs.Journal.{EachRepair};
+ghost use Rattle.lks_law.specs.Polls.{inner_votes};
 ghost use Rattle.lks_law.specs.Safe.{HasEvidence};
+ghost use Rattle.lks_law.specs.Snapshots.{Restores};
 ghost use Rattle.lks_law.specs.World.{world};
 ghost use Rattle.lks_tally.specs.Distinct.{AreDistinct};
 ghost use Rattle.lks_evidence.specs.declared.findings.Shelf.{Shelf};
 ghost use Rattle.lks_evidence.specs.Histories.{AreShelvesOf};
 ghost use Rattle.lks_evidence.specs.Holding.{SetHolds};
 ghost use Rattle.lks_evidence.specs.Parts.{IsPart};
-ghost use Rattle.lks_evidence.specs.Restoring.{journals_of, Restores};
-ghost use Rattle.lks_evidence.specs.Rules.{told};
+ghost use Rattle.lks_evidence.specs.Rules.{journals_on, told};
 
 /// Where a set holds, each replaced block of each journal in it has its evidence: at least a quorum of votes by distinct
 /// inner peers of one poll that was over, at most a minority of them for the old block and at most a minority against the
-/// new one.
+/// new one, where no votes are a landslide both ways.
 pub fn every_replacement_has_evidence()
-    ensures { (plan : Plan) (set : List Shelf) (own : Station) (k : ℕ) (s : Shelf) → SetHolds plan set → slice_get set k ≡ Some s → own.rules ≡ plan.rules → own.id ≡ s.peer → HasEvidence own s.list.items }
+    ensures { (plan : Plan) (set : List Shelf) (k : ℕ) (s : Shelf) → SetHolds plan set → slice_get set k ≡ Some s → HasEvidence plan.rules s.peer s.list.items }
 {}
 
 /// Where a set holds, and more than a minority of a poll's inner voters have journals in it that commit them to some blocks
 /// up to a block that was replaced, the copy is these blocks up to there, or two different inputs of links of running
 /// hashes have one hash.
 pub fn every_repair_restores()
-    ensures { (plan : Plan) (set : List Shelf) (k : ℕ) (s : Shelf) → SetHolds plan set → slice_get set k ≡ Some s → Restores (journals_of set) plan s.peer s.list.items }
+    ensures { (plan : Plan) (set : List Shelf) (k : ℕ) (s : Shelf) → SetHolds plan set → slice_get set k ≡ Some s → EachRepair (Restores (journals_on set) plan.rules s.peer) s.list.items }
 {}
 
 /// The journals of every history of a plan that breaks no rule hold, with any number of honest peers: so each part of them

@@ -1,9 +1,9 @@
 //! The poll that replaced a block: its opening, its votes, and what these say of the block.
 
 ghost use Rattle.std.specs.Prelude.{◌≡◌, IfOk, length, option_map, unwrap_or};
-ghost use Rattle.lks_law.specs.Polls.{limits_of};
+ghost use Rattle.lks_law.specs.Polls.{limits_of, ballot_for};
 ghost use Rattle.lks_tally.specs.Keeping as keeping;
-ghost use Rattle.lks_evidence.specs.Rules.{told, ballot_for, first_twice, first_failing, poll_doubt_if};
+ghost use Rattle.lks_evidence.specs.Rules.{told, first_twice, first_failing, poll_doubt_if};
 ghost use Rattle.lks_evidence.specs.Rules as rules;
 
 use crate::copies::{copy_of, put};
@@ -11,7 +11,9 @@ use crate::findings::{Shelf, Why};
 use crate::hashing::count_for;
 use crate::records::{Opening, Repair, count_openings, find_opening, inner_votes_of, is_shut};
 use crate::voters::{count_in, doubt_voter};
-use lks_base::{Bytes, Limits, OutOfMemory, PeerId, Plan, PollName, Record, Rules};
+use lks_base::{
+    Bytes, Limits, OutOfMemory, PeerId, Plan, PollName, Record, Rules, obeys_quorum_rule,
+};
 use lks_tally::{Ballot, Vote};
 use std::alloc::Global;
 
@@ -151,12 +153,14 @@ fn ballot_for(poller: PeerId, n: u32, opening: &Opening<'_>, count: u16) -> Ball
     }
 }
 
-/// Whether the poll was opened once, on the AU, and shut.
+/// Whether the poll was opened once, on the AU and with numbers that obey the quorum rule, and shut.
 #[tactic(auto, unfolding(crate::specs::Rules::is_polled))]
-fn is_polled(before: &[Record], r: &Repair<'_>, opening: &Opening<'_>) -> bool
-    ensures { result ≡ rules.is_polled before.now r.now opening.now }
+fn is_polled(limits: Limits, before: &[Record], r: &Repair<'_>, opening: &Opening<'_>) -> bool
+    ensures { result ≡ rules.is_polled limits before.now r.now opening.now }
 {
-    count_openings(before, r.number) == 1 && (opening.au == r.au && is_shut(before, r.number))
+    count_openings(before, r.number) == 1
+        && (opening.au == r.au
+            && (is_shut(before, r.number) && obeys_quorum_rule(limits.quorum, limits.minority)))
 }
 
 /// What a poll that was opened so leaves in doubt of its repair.
@@ -172,12 +176,12 @@ fn doubt_opened(
 ) -> Result<Option<Why>, OutOfMemory>
     ensures { IfOk result (λ why. why ≡ rules.opened_doubt plan.now set.now poller before.now r.now opening.now) }
 {
-    if !is_polled(before, r, opening) {
+    let limits = limits_of(&plan.rules, opening);
+    if !is_polled(limits, before, r, opening) {
         return Ok(Some(Why::Poll));
     }
     let count = count_in(plan.aus.as_slice(), r.au).unwrap_or(0);
     let ballot = ballot_for(poller, r.number, opening, count);
-    let limits = limits_of(&plan.rules, opening);
     let votes = inner_votes_of(alloc, before, r.number, opening.inner)?;
     let copy = copy_of(alloc, before, r.au)?;
     doubt_votes(alloc, plan, set, limits, &ballot, &votes, copy, r)

@@ -1,23 +1,28 @@
 -- What a disk holds once the power was cut at a step.
-use Rattle.std.proofs.Common.{◌≡◌, ◌≤◌, ◌<◌, ◌+◌, ◌-◌, ◌∙◌, ◌⊎◌, inl, inr, ⊎_elim, ap, sym, subst, ℕ, List, [], ◌∷◌, ◌++◌, refl, arith, length, length-append}
+use Rattle.std.proofs.Common.{◌≡◌, ◌≤◌, ◌<◌, ◌+◌, ◌-◌, ◌∙◌, ◌⊎◌, inl, inr, ⊎_elim, ap, sym, subst, ℕ, Bool, true, false, List, [], ◌∷◌, ◌++◌, refl, arith, length, length-append}
 use Rattle.std.specs.Int.{to_be_bytes, w32}
-use Rattle.std.specs.Prelude.{Option, Some, Result, Ok, IsErrOf, slice_get, unwrap_or}
+use Rattle.std.specs.Prelude.{Option, Some, Result, Ok, Err, OnErr, IsErrOf, slice_get, unwrap_or}
 use Rattle.std.proofs.lemmas.Bool.{cases_lt}
 use Rattle.lks_base.specs.declared.records.Record.{Record}
-use Rattle.lks_disk.specs.Counts.{Rose}
-use Rattle.lks_disk.specs.Face.{Face, HasLost}
+use Rattle.lks_disk.specs.Counts.{raised}
+use Rattle.lks_disk.specs.Device.{FuseTold}
+use Rattle.lks_disk.specs.Face.{Face, HasLost, fuse_of}
 use Rattle.lks_field.proofs.Frames.{frames_push}
 use Rattle.lks_field.specs.Frames.{frame, frames, HoldsBodies}
 use Rattle.lks_host.proofs.Adding.{bodies_more}
 use Rattle.lks_host.proofs.Standing.{fit_behind, read_more}
+use Rattle.lks_host.specs.Behaving.{CallsFor}
 use Rattle.lks_host.specs.Bodies.{bodies_of, ReadBack, last_batch}
 use Rattle.lks_host.specs.Hosted.{StandsFor, LiesOn}
 use Rattle.lks_host.specs.Recovering.{Recovers}
 use Rattle.lks_host.specs.declared.hosts.Host.{Host}
 use Rattle.lks_host.specs.declared.outcomes.Recovered.{Recovered}
-use Rattle.lks_journal.specs.Adding.{KeepsOrAdds}
+use Rattle.lks_host.specs.Cutting.{Falls}
+use Rattle.lks_journal.specs.Adding.{HoldsEither, KeepsOrAdds}
+use Rattle.lks_journal.specs.Faults.{FuseRun}
 use Rattle.lks_journal.specs.declared.faults.JournalFault.{JournalFault}
 use Rattle.lks_journal.specs.declared.faults.JournalFault.TheVariants.{Cut}
+use Rattle.lks_journal.specs.declared.journals.Journal.{Journal}
 use Rattle.lks_law.specs.Batches.{with_batch}
 use Rattle.lks_law.specs.Fitting.{AreFitting}
 use Rattle.lks_law.specs.Polls.{Station}
@@ -51,6 +56,24 @@ module _ {D : Type 0} (f : Face D) where
         read = read_more batches records stood.read read;
         fit = fit_behind old.peer.own old.peer.state batches records stood.state stood.fit fit;
       }
+
+pub on_err : {T F : Type 0} {P : Type 0} (r : Result T F) → P → OnErr r P
+on_err (Ok x) p = tt
+on_err (Err e) p = p
+
+module _ {D : Type 0} (f : Face D) where
+  -- a host that stands for its batches loses its power, and no more is left by what comes after
+  pub falls_idle : (host : Host D) (cut disk : D) (batches : List (List Record)) → StandsFor f host batches → HasLost f host.journal.disk cut → ((c : List ℕ) → f.may_leave disk c → f.may_leave cut c) → Falls f batches batches disk
+  falls_idle host cut disk batches stood lost less = record {
+    leaves = λ c may. inl (subst (HoldsBodies (bodies_of batches)) (sym (lost.durable c (less c may) ∙ stood.disk.durable _ lost.left)) stood.disk.holds);
+  }
+
+  -- the same of a step, whatever came of it
+  pub falls_cut : (old new : Host D) (cut disk : D) (batches : List (List Record)) (records : List Record) (result : Result (Unit {0}) JournalFault) → KeepsOrAdds f old.journal new.journal (bodies_of batches) (bodies_of (with_batch batches records)) result
+      → HasLost f new.journal.disk cut → ((c : List ℕ) → f.may_leave disk c → f.may_leave cut c) → Falls f batches (with_batch batches records) disk
+  falls_cut old new cut disk batches records result adds lost less = record {
+    leaves = λ c may. subst (HoldsEither (bodies_of batches) (bodies_of (with_batch batches records))) (sym (lost.durable c (less c may))) (adds.crash _ lost.left);
+  }
 
 -- records are one batch more
 pub one_more : (batches : List (List Record)) (records : List Record) → (records ≡ [] → ⊥) → length (with_batch batches records) ≡ length batches + 1
@@ -100,6 +123,20 @@ module _ {D : Type 0} (f : Face D) (back : Host D) (batches : List (List Record)
   pub lost_by_count : (before : ℕ) → IsLost ⊎ IsKept → before ≡ length batches → found.count ≤ before → IsLost
   lost_by_count before either is few = ⊎_elim (λ l. l) (λ k. absurd (omega (arith, k.count, is, few))) either
 
+-- a call that wasn't cut off burned no fuse
+pub none_burned : {T : Type 0} (calls : ℕ) (old new : FuseTold) (result : Result T JournalFault) → FuseRun calls old new result → old.burned ≡ false → (IsErrOf result Cut → ⊥) → new.burns ≡ old.burns
+none_burned calls old new result run whole uncut = by_state new.burned refl
+  where
+    by_state : (b : Bool) → new.burned ≡ b → new.burns ≡ old.burns
+    by_state true burned = absurd (uncut (run.ends whole burned))
+    by_state false still = run.no_burn (still ∙ sym whole)
+
+-- the same of what a step adds
+pub burns_kept : {D : Type 0} (f : Face D) (old new : Journal D) (records : List Record) (result : Result (Unit {0}) JournalFault) → CallsFor f old new records result → f.burned old.disk ≡ false → (IsErrOf result Cut → ⊥)
+    → f.burns new.disk ≡ f.burns old.disk
+burns_kept f old new [] result calls whole uncut = ap (λ j. f.burns j.disk) (calls.idle refl)
+burns_kept f old new (r ∷ rs) result calls whole uncut = none_burned 4 (fuse_of f old.disk) (fuse_of f new.disk) result (calls.called (λ e. cc)).fuse whole uncut
+
 pub none_or_some : (records : List Record) → (records ≡ []) ⊎ (records ≡ [] → ⊥)
 none_or_some [] = inl refl
 none_or_some (r ∷ rs) = inr (λ e. cc)
@@ -117,6 +154,6 @@ little_longer f old new batches (r ∷ rs) stood stands short =
     frame_length : (body : List ℕ) → length (frame body) ≡ 5 + length body
     frame_length body = omega (arith, length-append (to_be_bytes w32 (length body)) body)
 
--- a count that rose, from the same to the same
-pub rose_between : (a b c d : ℕ) → b ≡ a → Rose b c → d ≡ c → Rose a d
-rose_between a b c d first rose last = subst (λ (n : ℕ). Rose n d) first (subst (Rose b) (sym last) rose)
+-- a count that was raised, from the same to the same
+pub raised_between : (a b c d : ℕ) → b ≡ a → c ≡ raised b → d ≡ c → d ≡ raised a
+raised_between a b c d first once last = last ∙ once ∙ ap raised first

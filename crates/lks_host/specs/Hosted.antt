@@ -1,5 +1,5 @@
 -- A peer whose journal is on its disk.
-use Rattle.std.specs.Prelude.{◌≡◌, ℕ, Some, None, List, [], ◌∷◌, length, map, Result, Ok, Err, option_map}
+use Rattle.std.specs.Prelude.{◌≡◌, ◌≤◌, ◌⊎◌, ℕ, Some, None, List, [], ◌∷◌, length, take, map, Result, Ok, Err, option_map}
 use Rattle.lks_base.specs.Checking.{plan_fault}
 use Rattle.lks_base.specs.declared.plans.Plan.{Plan}
 use Rattle.lks_base.specs.declared.records.Record.{Record}
@@ -34,6 +34,10 @@ pub record LiesOn {D : Type 0} (f : Face D) (own : Station) (disk : D) (batches 
   pub holds : HoldsBodies (bodies_of batches) (f.seen disk)
   pub read : AreRead batches
   pub fit : AreFitting own (blank own) (together batches)
+
+-- A crash leaves at most one byte, of a journal that was being made, or a front of the batches with which it was to begin.
+pub record HasFront {D : Type 0} (f : Face D) (batches : List (List Record)) (disk : D) : Type 0 where
+  pub leaves : (c : List ℕ) → f.may_leave disk c → (length c ≤ 1) ⊎ ((n : ℕ) × HoldsBodies (bodies_of (take n batches)) c)
 
 -- so an honest peer of this good plan stands
 pub record IsMadeBy (plan : Plan) (own : Station) : Type 0 where

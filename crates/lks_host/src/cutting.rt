@@ -1,10 +1,11 @@
 //! A step while the power fails.
 
-ghost use Rattle.std.specs.Prelude.{◌≡◌, ◌≤◌, ◌+◌, List, IfOk, OnOk};
+ghost use Rattle.std.specs.Prelude.{◌≡◌, ◌≤◌, ◌+◌, List, IfOk, OnOk, OnErr};
 ghost use Rattle.lks_base.specs.declared.records.Record.{Record as Recorded};
-ghost use Rattle.lks_host.specs.Cutting.{CutsOff, IsBack};
+ghost use Rattle.lks_host.specs.Cutting.{CutsOff, Falls, HadFuse, IsBack};
 ghost use Rattle.lks_host.specs.Hosted.{StandsFor, IsMadeBy};
 ghost use Rattle.lks_host.specs.Stepping.{CanStep, IsWritten};
+ghost use Rattle.lks_law.specs.Batches.{with_batch};
 ghost use Rattle.lks_law.specs.Facts.{IsHeard};
 ghost use Rattle.lks_law.specs.Table.{react_on};
 
@@ -27,7 +28,9 @@ pub fn restart<R: Wait, D: CrashDisk>(
     requires made { IsMadeBy plan.now host.old.peer.own }
     requires stands { (batches : List (List Recorded)) × StandsFor D.face host.old batches }
     ensures stands { (batches : List (List Recorded)) → StandsFor D.face host.old batches → OnOk result (StandsFor D.face host.new batches) }
+    ensures falls { (batches : List (List Recorded)) → StandsFor D.face host.old batches → OnErr result (Falls D.face batches batches host.new.journal.disk) }
     ensures back { IsBack D.face host.old host.new result }
+    ensures burns { D.face.burns host.new.journal.disk ≡ D.face.burns host.old.journal.disk }
 {
     host.power_cut();
     host.recover(rt, pool, plan)?;
@@ -50,8 +53,10 @@ pub fn cut_step<R: Wait, D: CrashDisk>(
     requires heard { IsHeard input.now }
     ensures cuts { (batches : List (List Recorded)) → StandsFor D.face host.old batches →
         IfOk result (CutsOff D.face batches (react_on host.old.peer.own host.old.peer.state tick input.now) calls host.old host.new) }
+    ensures falls { (batches : List (List Recorded)) → StandsFor D.face host.old batches →
+        OnErr result (Falls D.face batches (with_batch batches (react_on host.old.peer.own host.old.peer.state tick input.now).records) host.new.journal.disk) }
     ensures back { IsBack D.face host.old host.new result }
-    ensures chosen { D.face.choice host.new.journal.disk ≡ choice }
+    ensures fuse { HadFuse D.face calls choice host.old host.new result }
     ensures end { OnOk result (host.new.journal.end ≤ host.old.journal.end + 32768) }
     ensures written { OnOk result (IsWritten host.old.peer.own host.old.peer.state (react_on host.old.peer.own host.old.peer.state tick input.now).records) }
 {

@@ -1,6 +1,6 @@
 //! What the journal of a new peer begins with.
 
-ghost use Rattle.std.specs.Prelude.{◌≡◌, ◌≤◌, ◌++◌, [], length, All, Some, None, IfOk, IsSome, OnOk, map, option_map};
+ghost use Rattle.std.specs.Prelude.{◌≡◌, ◌≤◌, ◌++◌, [], length, All, Some, None, IfOk, IsSome, OnOk, OnErr, map, option_map};
 ghost use Rattle.std.specs.List.{filter_map};
 ghost use Rattle.lks_base.specs.Checking.{plan_fault};
 ghost use Rattle.lks_base.specs.declared.limits.TheConstants.{MOST_AUS};
@@ -8,6 +8,7 @@ ghost use Rattle.lks_host.specs.Behaving.{Behaves};
 ghost use Rattle.lks_host.specs.Bodies.{bodies_of, AreRead};
 ghost use Rattle.lks_host.specs.Faults.{as_journal};
 ghost use Rattle.lks_host.specs.Fits.{AreFirst};
+ghost use Rattle.lks_host.specs.Hosted.{HasFront};
 ghost use Rattle.lks_journal.specs.Settled.{IsSettled};
 ghost use Rattle.lks_law.specs.Batches.{alone};
 ghost use Rattle.lks_law.specs.World.{deposit_for, deposits, honest_peer, standing_of};
@@ -87,6 +88,7 @@ pub fn write_each<D: Disk>(
     requires settled { D.face.told journal.old.disk → IsSettled D.face journal.old [] }
     ensures ok { D.face.told journal.old.disk → OnOk result (IsSettled D.face journal.new (bodies_of (map alone records.now))) }
     ensures read { OnOk result (AreRead (map alone records.now)) }
+    ensures front { D.face.told journal.old.disk → OnErr result (HasFront D.face (map alone records.now) journal.new.disk) }
     ensures end { OnOk result (journal.new.end ≤ 33558580) }
     ensures behaves { Behaves D.face journal.old.disk journal.new.disk (as_journal result) }
 {

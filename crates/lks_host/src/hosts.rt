@@ -57,7 +57,8 @@ pub struct Host<D: Disk> {
 impl<D: Disk> Host<D> {
     ghost use Rattle.lks_host.specs.Fits.{AreFirst};
     ghost use Rattle.lks_host.specs.declared.faults.HostFault.TheVariants.{Memory};
-    ghost use Rattle.lks_host.specs.Hosted.{Holds, StandsFor, answer_of, disk_hosted};
+    ghost use Rattle.lks_disk.specs.Device.{Only};
+    ghost use Rattle.lks_host.specs.Hosted.{HasFront, Holds, StandsFor, answer_of, disk_hosted};
     ghost use Rattle.lks_host.specs.Stepping.{CanStep, Stepped, IsWritten};
 
     /// The honest peer `id` of a good plan, on an empty disk: its deposits are there, one batch each. Nothing is written
@@ -75,6 +76,9 @@ impl<D: Disk> Host<D> {
         requires empty { D.face.told disk → D.face.seen disk ≡ [] }
         ensures peer { IfOk result (λ host. option_map (λ p. knowing_of pool.now (standing_of plan.now p)) (honest_peer id plan.now) ≡ Some host.peer) }
         ensures stands { D.face.told disk → (p : Planned) → honest_peer id plan.now ≡ Some p → IfOk result (λ host. StandsFor D.face host (map alone (standing_of plan.now p).journal)) }
+        // Of a disk on which nothing was pending.
+        ensures front { D.face.told disk → Only [] (D.face.may_leave disk) → (p : Planned) → honest_peer id plan.now ≡ Some p →
+            OnErr result (HasFront D.face (map alone (standing_of plan.now p).journal) (disk_hosted result)) }
         ensures whole { IfOk result (λ host. host.broken ≡ false) }
         ensures end { IfOk result (λ host. host.journal.end ≤ 33558580) }
         ensures behaves { Behaves D.face disk (disk_hosted result) (as_journal (answer_of result)) }
@@ -94,6 +98,7 @@ impl<D: Disk> Host<D> {
         ensures unmade { OnErr begun (result ≡ Err (disk, Memory)) }
         ensures peer { IfOk result (λ host. IfOk begun (λ p. host.peer ≡ p.0)) }
         ensures holds { D.face.told disk → IfOk result (λ host. IfOk begun (λ p. Holds D.face host p.1.items)) }
+        ensures front { D.face.told disk → Only [] (D.face.may_leave disk) → OnErr result (IfOk begun (λ p. HasFront D.face (map alone p.1.items) (disk_hosted result))) }
         ensures whole { IfOk result (λ host. host.broken ≡ false) }
         ensures end { IfOk result (λ host. host.journal.end ≤ 33558580) }
         ensures behaves { Behaves D.face disk (disk_hosted result) (as_journal (answer_of result)) }

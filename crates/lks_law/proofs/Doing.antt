@@ -4,6 +4,7 @@ use Rattle.std.specs.Prelude.{Option, Some, None, is_some, not, map, ◌&&◌, n
 use Rattle.std.specs.List.{filter_map, cons_option, list_any}
 use Rattle.std.proofs.lemmas.Bool.{eqb-true, eq-eqb, and_parts, cond_both}
 use Rattle.lks_base.specs.Checking.{has_member}
+use Rattle.lks_base.specs.declared.limits.TheConstants.{MOST_BLOCK_BYTES}
 use Rattle.lks_base.specs.declared.messages.Message.{Message}
 use Rattle.lks_base.specs.declared.messages.Message.TheVariants as message
 use Rattle.lks_base.specs.declared.names.HashKind.{HashKind}
@@ -28,11 +29,13 @@ use Rattle.lks_law.specs.Sessions.{Join, Commitment, first_in, hashes_in, join_o
 use Rattle.lks_law.specs.Voting.{named, answers, may_join, joined, on_invitation, nominates, repeats, vote_again, commits, proved_to, on_proof, vote_hashes, worked, on_work, most_served, serves, requested, on_request, on_end, may_tune, on_tune}
 use Rattle.lks_law.specs.Table.{on_message, reaction}
 use Rattle.lks_law.specs.World.{Standing, peer_at}
-use Rattle.lks_law.specs.Linked.{Each, Has, Any, Heard, IsVoteOver, Fact}
+use Rattle.lks_law.specs.Linked.{Has, IsVoteOver}
+use Rattle.lks_law.proofs.Linked.{Each, Any, Heard, Fact}
 use Rattle.lks_law.proofs.Growing.{opening_first, openings_grow}
 use Rattle.lks_law.proofs.Grown.{openings_more}
-use Rattle.lks_law.proofs.Knowing.{has_is, is_had, nonce_length, opening_fact, deposit_fact, committed_fact, IsWithin, request_fact, vote_limits, voted_limits}
-use Rattle.lks_law.proofs.Letters.{Sends, quiet_letter, told_letter}
+use Rattle.lks_law.proofs.Knowing.{has_is, is_had, nonce_length, opening_fact, opened_low, deposit_fact, join_fact, committed_fact, IsWithin, request_fact, request_limits, repair_limits, vote_limits, voted_limits}
+use Rattle.lks_law.proofs.Samples.{few_nominees}
+use Rattle.lks_law.proofs.Letters.{Sends, sends_so, nominates_so}
 use Rattle.lks_law.proofs.Linking.{says_grows}
 use Rattle.lks_tally.specs.declared.ballots.Verdict.{Verdict}
 use Rattle.lks_tally.specs.declared.ballots.Verdict.TheVariants as verdict
@@ -81,9 +84,9 @@ not_open r rs is rest =
     let none = none_open in
     omega (arith, all, first, none, rest)
 
-quiet_all : {X : Type 0} (js : List Record) (f : X → Outgoing) (xs : List X) → ((x : X) → Sends js (f x)) → Each (Sends js) (map f xs)
-quiet_all js f [] q = tt
-quiet_all js f (x ∷ xs) q = (q x, quiet_all js f xs q)
+send_all : {X : Type 0} (js : List Record) (f : X → Outgoing) (xs : List X) → ((x : X) → Sends js (f x)) → Each (Sends js) (map f xs)
+send_all js f [] q = tt
+send_all js f (x ∷ xs) q = (q x, send_all js f xs q)
 
 first_new : {X : Type 0} (has : Record → Option X) (js added : List Record) → first_in has js ≡ None → first_in has (js ++ added) ≡ first_in has added
 first_new has [] added e = refl
@@ -114,10 +117,8 @@ module _ (peers : List Standing) (own : Station) (js : List Record) (all : Each 
   poll_letter : (added : List Record) (n : ℕ) (o : Opening) (v : ℕ) → opening_of n js ≡ Some o → Sends (js ++ added) (letter (message.Poll n o.au) v)
   poll_letter added n o v opened =
       let fact = opening_fact peers own js all n o opened in
-      let low = fact.low in
-      let small : n < 2 ^ 32 = omega (arith, low, room) in
-      told_letter (js ++ added) (message.Poll n o.au) v (tt, (small, fact.au))
-      (says_grows js added v (message.Poll n o.au) (small, has_is (λ (x : Opening). x.au ≡ o.au) (opening_of n js) o opened refl))
+      sends_so (js ++ added) (message.Poll n o.au) v (tt, (opened_low peers own js all n o room opened, fact.au))
+      (says_grows js added v (message.Poll n o.au) (has_is (λ (x : Opening). x.au ≡ o.au) (opening_of n js) o opened refl))
 
   -- Poller.
 
@@ -137,8 +138,8 @@ module _ (peers : List Standing) (own : Station) (js : List Record) (all : Each 
       let held = (and_parts (is_some (deposit_of au js)) _ (and_parts (is_some (deposit_of au js) && not (list_any (opens_running au js) js)) _ (and_parts (is_some (deposit_of au js) && not (list_any (opens_running au js) js) && nat_lt (count_by (opens_open js) js) 8) _ may).0).0).0 in
       let small = is_held (deposit_of au js) refl held in
       let found : opening_of n (js ++ r ∷ []) ≡ Some here = opening_first n (js ++ r ∷ []) ∙ first_new (opening_in n) js (r ∷ []) (sym (opening_first n js) ∙ new_number (opening_of n js) refl) ∙ first_is here in
-      does_one r (map (letter (message.Poll n au)) inner) (new_number (opening_of n js) refl, (omega (arith, grown), nonce_length own.seed n, small)) (quiet_all (js ++ r ∷ []) (letter (message.Poll n au)) inner (λ v.
-      told_letter (js ++ r ∷ []) (message.Poll n au) v (tt, (room, small)) (room, has_is (λ (x : Opening). x.au ≡ au) (opening_of n (js ++ r ∷ [])) here found refl))))
+      does_one r (map (letter (message.Poll n au)) inner) (new_number (opening_of n js) refl, (omega (arith, grown), nonce_length own.seed n, small)) (send_all (js ++ r ∷ []) (letter (message.Poll n au)) inner (λ v.
+      sends_so (js ++ r ∷ []) (message.Poll n au) v (tt, (room, small)) (has_is (λ (x : Opening). x.au ≡ au) (opening_of n (js ++ r ∷ [])) here found refl))))
     where
       is_held : (o : Option (List (List ℕ))) → deposit_of au js ≡ o → is_some o ≡ true → au < 2 ^ 16
       is_held None e held = absurd cc
@@ -151,21 +152,25 @@ module _ (peers : List Standing) (own : Station) (js : List Record) (all : Each 
   unfolding on_widen
   does_widen n = does_if _ (for_opening (opening_of n js) (widened own js n)) (λ may. does_opening (opening_of n js) (widened own js n) (λ o opened.
       let r = records.OuterOpened n (outer_circle own n o js) in
-      does_one r _ tt (quiet_all (js ++ r ∷ []) (letter (message.Poll n o.au)) (outer_circle own n o js) (λ v. poll_letter (r ∷ []) n o v opened))))
+      does_one r _ tt (send_all (js ++ r ∷ []) (letter (message.Poll n o.au)) (outer_circle own n o js) (λ v. poll_letter (r ∷ []) n o v opened))))
 
-  request_letter : (after : List Record) (n b v : ℕ) → Sends after (letter (message.RepairRequest n b) v)
-  request_letter after n b v = quiet_letter after (message.RepairRequest n b) v tt
+  request_letter : (after : List Record) (n b v : ℕ) (o : Opening) → opening_of n js ≡ Some o → b < length (contents_of o.au js) → Sends after (letter (message.RepairRequest n b) v)
+  request_letter after n b v o opened within = sends_so after (message.RepairRequest n b) v (request_limits peers own js all n b o room opened within) tt
 
   does_nudge : (n : ℕ) → Does peers own js (on_nudge js n)
   unfolding on_nudge
   does_nudge n =
       cond_both (is_voting n js) (for_opening (opening_of n js) (reminded js n)) (asked_again n (unanswered n js)) (Does peers own js)
-      (λ voting. does_opening (opening_of n js) (reminded js n) (λ o opened. does_send _ (quiet_all (js ++ []) (letter (message.Poll n o.au)) (silent n o js) (λ v. poll_letter [] n o v opened))))
-      (λ over. by_request (unanswered n js))
+      (λ voting. does_opening (opening_of n js) (reminded js n) (λ o opened. does_send _ (send_all (js ++ []) (letter (message.Poll n o.au)) (silent n o js) (λ v. poll_letter [] n o v opened))))
+      (λ over. by_request (unanswered n js) (request_fact peers own js all n))
     where
-      by_request : (r : Option Request) → Does peers own js (asked_again n r)
-      by_request None = does_nothing
-      by_request (Some r) = does_send _ (request_letter (js ++ []) n r.block r.voter, tt)
+      by_opening : (r : Request) (o : Option Opening) → opening_of n js ≡ o → Has (λ (x : Opening). r.block < length (contents_of x.au js)) o → Does peers own js (asked_again n (Some r))
+      by_opening r None opened within = absurd within
+      by_opening r (Some o) opened within = does_send _ (request_letter (js ++ []) n r.block r.voter o opened within, tt)
+
+      by_request : (r : Option Request) → Any (IsWithin peers own js all n) r → Does peers own js (asked_again n r)
+      by_request None within = does_nothing
+      by_request (Some r) within = by_opening r (opening_of n js) refl within
 
   does_give_up : (n : ℕ) → Does peers own js (on_give_up js n)
   unfolding on_give_up
@@ -175,9 +180,9 @@ module _ (peers : List Standing) (own : Station) (js : List Record) (all : Each 
       by_request None = does_nothing
       by_request (Some r) = does_one _ [] tt tt
 
-  sent_receipts : (after : List Record) (n : ℕ) → Each (Sends after) (receipts n js)
+  sent_receipts : (after : List Record) (n : ℕ) → n < 2 ^ 32 → Each (Sends after) (receipts n js)
   unfolding receipts
-  sent_receipts after n = quiet_all after (λ (v : Vote). letter (message.Receipt n) v.voter) (votes n js) (λ v. quiet_letter after (message.Receipt n) v.voter tt)
+  sent_receipts after n low = send_all after (λ (v : Vote). letter (message.Receipt n) v.voter) (votes n js) (λ v. sends_so after (message.Receipt n) v.voter (tt, low) tt)
 
   does_shut : (tick n : ℕ) → Does peers own js (on_shut own js tick n)
   unfolding on_shut
@@ -187,13 +192,13 @@ module _ (peers : List Standing) (own : Station) (js : List Record) (all : Each 
         adds_all = (tt, (tt, tt));
         one = (let none = not_open (records.Shut n) (records.Closed n outcome.Inquorate tick ∷ []) refl (not_open (records.Closed n outcome.Inquorate tick) [] refl none_open) in omega (arith, none));
         few = inr (tt, (tt, tt));
-        sends_all = sent_receipts _ n;
+        sends_all = sent_receipts _ n (opened_low peers own js all n o room opened);
       })
       (λ enough. does_one (records.Shut n) [] tt tt)))
 
-  does_closed : (tick n : ℕ) (how : Outcome) → Does peers own js (closed js tick n how)
+  does_closed : (tick n : ℕ) (how : Outcome) (o : Opening) → opening_of n js ≡ Some o → Does peers own js (closed js tick n how)
   unfolding closed
-  does_closed tick n how = does_one (records.Closed n how tick) (receipts n js) tt (sent_receipts _ n)
+  does_closed tick n how o opened = does_one (records.Closed n how tick) (receipts n js) tt (sent_receipts _ n (opened_low peers own js all n o room opened))
 
   does_tally : (tick n : ℕ) → Does peers own js (on_tally own js tick n)
   unfolding on_tally verdict_in
@@ -202,14 +207,14 @@ module _ (peers : List Standing) (own : Station) (js : List Record) (all : Each 
       does_opening (opening_of n js) (λ o. tallied own js tick n o (verdict_in own n o js)) (λ o opened. by_verdict o opened (verdict_in own n o js) refl))
     where
       by_candidate : (b : ℕ) (o : Opening) → opening_of n js ≡ Some o → b < length (contents_of o.au js) → (v : Option ℕ) → Does peers own js (asked js tick n b v)
-      by_candidate b o opened within None = does_closed tick n (outcome.NoSupplier b)
+      by_candidate b o opened within None = does_closed tick n (outcome.NoSupplier b) o opened
       by_candidate b o opened within (Some v) =
-          does_one (records.Asked n b v) _ (has_is (λ (x : Opening). b < length (contents_of x.au js)) (opening_of n js) o opened within) (request_letter _ n b v, tt)
+          does_one (records.Asked n b v) _ (has_is (λ (x : Opening). b < length (contents_of x.au js)) (opening_of n js) o opened within) (request_letter _ n b v o opened within, tt)
 
       by_verdict : (o : Opening) → opening_of n js ≡ Some o → (v : Verdict) → verdict_in own n o js ≡ v → Does peers own js (tallied own js tick n o v)
       by_verdict o opened verdict.Inquorate is = does_nothing
-      by_verdict o opened verdict.Agreed is = does_closed tick n outcome.Agreed
-      by_verdict o opened (verdict.Split b) is = does_closed tick n (outcome.Split b)
+      by_verdict o opened verdict.Agreed is = does_closed tick n outcome.Agreed o opened
+      by_verdict o opened (verdict.Split b) is = does_closed tick n (outcome.Split b) o opened
       by_verdict o opened (verdict.Loss b) is =
           let limits = limits_of own.rules o in
           let copy = contents_of o.au js in
@@ -249,10 +254,8 @@ module _ (peers : List Standing) (own : Station) (js : List Record) (all : Each 
       does_if (agrees && is_voting n js) (for_opening (opening_of n js) (proved own js from n)) (λ may. does_opening (opening_of n js) (proved own js from n) (λ o opened.
       does_if (may_prove js from n o) _ (λ proves.
       let fact = opening_fact peers own js all n o opened in
-      let low = fact.low in
-      let small : n < 2 ^ 32 = omega (arith, low, room) in
       let m = message.PollProof n o.nonce o.kind own.proof in
-      does_send _ (told_letter (js ++ []) m from (proof, (small, fact.nonce)) (says_grows js [] from m (has_is (λ (x : Opening). (x.nonce ≡ o.nonce) × (x.kind ≡ o.kind)) (opening_of n js) o opened (refl, refl))), tt))))
+      does_send _ (sends_so (js ++ []) m from (proof, (opened_low peers own js all n o room opened, fact.nonce)) (says_grows js [] from m (has_is (λ (x : Opening). (x.nonce ≡ o.nonce) × (x.kind ≡ o.kind)) (opening_of n js) o opened (refl, refl))), tt))))
 
   does_nominate : (from n : ℕ) (nominees : List ℕ) → Does peers own js (on_nominate js from n nominees)
   unfolding on_nominate
@@ -260,26 +263,22 @@ module _ (peers : List Standing) (own : Station) (js : List Record) (all : Each 
       does_if (is_voting n js && not (is_widened n js)) (for_opening (opening_of n js) (nominated js from n nominees)) (λ may. does_opening (opening_of n js) (nominated js from n nominees) (λ o opened.
       does_if (may_nominate js from n o) _ (λ first. does_one (records.Nominated n from nominees) [] tt tt)))
 
-  heard_vote : (from n : ℕ) (hashes : List (List ℕ)) (sent : List ℕ) (o : Option Standing) → Heard o own.id (message.Vote n hashes sent) → Any (λ t. hashes_of_vote (named own.id n) t.journal ≡ Some hashes) o
-  heard_vote from n hashes sent None heard = tt
-  heard_vote from n hashes sent (Some t) heard = heard
-
   does_vote : (from n : ℕ) (hashes : List (List ℕ)) (sent : List ℕ) (judged : Judged) → Heard (peer_at from peers) own.id (message.Vote n hashes sent) → Does peers own js (on_vote js from n hashes judged)
   unfolding on_vote may_vote
   does_vote from n hashes sent judged heard =
       does_if (is_accepted judged && is_voting n js) (for_opening (opening_of n js) (counted js from n hashes)) (λ may. does_opening (opening_of n js) (counted js from n hashes) (λ o opened.
       does_if (may_vote js from n (length hashes) o) _ (λ counts.
       does_one (records.VoteIn n from hashes) [] (
-        heard_vote from n hashes sent (peer_at from peers) heard,
+        heard.1,
         has_is (λ (x : Opening). length hashes ≡ length (contents_of x.au js)) (opening_of n js) o opened (eqb-true _ _ (and_parts _ (eqb (length hashes) (length (contents_of o.au js))) counts).1),
       ) tt)))
 
-  does_repair : (from n b : ℕ) (bytes : List ℕ) → Does peers own js (on_repair own js from n b bytes)
+  does_repair : (from n b : ℕ) (bytes : List ℕ) → length bytes ≤ MOST_BLOCK_BYTES → Does peers own js (on_repair own js from n b bytes)
   unfolding on_repair may_repair
-  does_repair from n b bytes =
+  does_repair from n b bytes small =
       does_if (may_repair js from n b) (for_opening (opening_of n js) (repaired own js from n b bytes)) (λ may. does_opening (opening_of n js) (repaired own js from n b bytes) (λ o opened.
       cond_both (restores own n o b bytes js) (record { records = records.Replaced n o.au b bytes ∷ []; sends = [] }) _ (Does peers own js)
-      (λ good. does_one (records.Replaced n o.au b bytes) [] (by_request (unanswered n js) o opened may (request_fact peers own js all n)) tt) (λ bad. does_one (records.RepairBad n b from) [] tt tt)))
+      (λ good. does_one (records.Replaced n o.au b bytes) [] (by_request (unanswered n js) o opened may (request_fact peers own js all n), small) tt) (λ bad. does_one (records.RepairBad n b from) [] tt tt)))
     where
       by_request : (q : Option Request) (o : Opening) → opening_of n js ≡ Some o → is_request b from q ≡ true → Any (IsWithin peers own js all n) q → b < length (contents_of o.au js)
       by_request None o opened is within = absurd cc
@@ -289,22 +288,18 @@ module _ (peers : List Standing) (own : Station) (js : List Record) (all : Each 
 
   -- Voter.
 
-  challenge_letter : (after : List Record) (n : ℕ) (agrees : Bool) (to : ℕ) → Sends after (letter (message.PollChallenge n agrees) to)
-  challenge_letter after n agrees to = quiet_letter after (message.PollChallenge n agrees) to tt
-
-  heard_poll : (n au : ℕ) (o : Option Standing) → Heard o own.id (message.Poll n au) → (n < 2 ^ 32) × Any (λ t. Has (λ x. x.au ≡ au) (opening_of n t.journal)) o
-  heard_poll n au None heard = (heard.1.0, tt)
-  heard_poll n au (Some t) heard = heard
+  challenge_letter : (after : List Record) (n : ℕ) (agrees : Bool) (to : ℕ) → n < 2 ^ 32 → Sends after (letter (message.PollChallenge n agrees) to)
+  challenge_letter after n agrees to low = sends_so after (message.PollChallenge n agrees) to (tt, low) tt
 
   does_invitation : (tick from n au : ℕ) → Heard (peer_at from peers) own.id (message.Poll n au) → Does peers own js (on_invitation own js tick (named from n) au)
   unfolding on_invitation may_join
   does_invitation tick from n au heard =
       cond_both (is_session (named from n) js) (answers (letter (message.PollChallenge n true) from)) _ (Does peers own js)
-      (λ runs. does_send _ (challenge_letter _ n true from, tt))
+      (λ runs. does_send _ (challenge_letter _ n true from heard.0.1.0, tt))
       (λ new.
       cond_both (may_join own js tick (named from n) au) (joined own js tick (named from n) au) _ (Does peers own js)
-      (λ may. does_one _ _ (none_is (join_of (named from n) js) (joins_new may), heard_poll n au (peer_at from peers) heard) (challenge_letter _ n true from, tt))
-      (λ not. does_send _ (challenge_letter _ n false from, tt)))
+      (λ may. does_one _ _ (none_is (join_of (named from n) js) (joins_new may), (heard.0.1.0, heard.1)) (challenge_letter _ n true from heard.0.1.0, tt))
+      (λ not. does_send _ (challenge_letter _ n false from heard.0.1.0, tt)))
     where
       none_is : (o : Option Join) → not (is_some o) ≡ true → o ≡ None
       none_is None e = refl
@@ -313,12 +308,8 @@ module _ (peers : List Standing) (own : Station) (js : List Record) (all : Each 
       joins_new : may_join own js tick (named from n) au ≡ true → not (is_some (join_of (named from n) js)) ≡ true
       joins_new may = (and_parts _ _ (and_parts _ _ (and_parts _ _ may).0).0).0
 
-  heard_proof : (n : ℕ) (nonce : List ℕ) (kind : HashKind) (sent : List ℕ) (o : Option Standing) → Heard o own.id (message.PollProof n nonce kind sent) → Any (λ t. Has (λ x. (x.nonce ≡ nonce) × (x.kind ≡ kind)) (opening_of n t.journal)) o
-  heard_proof n nonce kind sent None heard = tt
-  heard_proof n nonce kind sent (Some t) heard = heard
-
-  nominates_letter : (after : List Record) (q : PollName) → Sends after (nominates own (reference_list own js) q)
-  nominates_letter after q = quiet_letter after (message.Nominate q.number _) q.poller tt
+  nominates_letter : (after : List Record) (q : PollName) → q.number < 2 ^ 32 → Sends after (nominates own (reference_list own js) q)
+  nominates_letter after q low = nominates_so after q.number _ q.poller low (few_nominees own (reference_list own js) q)
 
   does_proof : (from n : ℕ) (nonce : List ℕ) (kind : HashKind) (sent : List ℕ) (judged : Judged) → Heard (peer_at from peers) own.id (message.PollProof n nonce kind sent) → Does peers own js (on_proof own js (named from n) nonce kind judged)
   unfolding on_proof
@@ -330,18 +321,18 @@ module _ (peers : List Standing) (own : Station) (js : List Record) (all : Each 
 
       by_judged : (j : Join) (judged : Judged) → commitment_of q js ≡ None → join_of q js ≡ Some j → Does peers own js (commits own (reference_list own js) q (version_now j.au js) nonce kind judged)
       by_judged j Accepted new joined =
-          does_one _ _ (new, (has_is (λ (x : Join). version_now j.au js ≤ version_now x.au js) (join_of q js) j joined (omega arith), heard_proof n nonce kind sent (peer_at from peers) heard)) (nominates_letter _ q, tt)
+          does_one _ _ (new, (has_is (λ (x : Join). version_now j.au js ≤ version_now x.au js) (join_of q js) j joined (omega arith), heard.1)) (nominates_letter _ q (join_fact peers own js all q j joined), tt)
       by_judged j Refused new joined = does_one _ [] tt tt
       by_judged j NotAsked new joined = does_nothing
 
       by_vote : (o : Option (List (List ℕ))) → hashes_of_vote q js ≡ o → Each (Sends (js ++ [])) (vote_again own q o)
       by_vote None voted = tt
-      by_vote (Some hashes) voted = (told_letter (js ++ []) (message.Vote n hashes own.proof) from (voted_limits peers own js all q hashes proof voted) (says_grows js [] from (message.Vote n hashes own.proof) voted), tt)
+      by_vote (Some hashes) voted = (sends_so (js ++ []) (message.Vote n hashes own.proof) from (voted_limits peers own js all q hashes proof voted) (says_grows js [] from (message.Vote n hashes own.proof) voted), tt)
 
       by_session : (j : Option Join) (c : Option Commitment) → join_of q js ≡ j → commitment_of q js ≡ c → Does peers own js (proved_to own js q nonce kind judged j c)
       by_session None c joined committed = does_nothing
       by_session (Some j) None joined committed = by_judged j judged committed joined
-      by_session (Some j) (Some c) joined committed = does_if (repeats c nonce kind) _ (λ same. does_send _ (nominates_letter _ q, by_vote (hashes_of_vote q js) refl))
+      by_session (Some j) (Some c) joined committed = does_if (repeats c nonce kind) _ (λ same. does_send _ (nominates_letter _ q (join_fact peers own js all q j joined), by_vote (hashes_of_vote q js) refl))
 
   does_work : (q : PollName) → Does peers own js (on_work own js q)
   unfolding on_work hashes_of_vote
@@ -360,26 +351,25 @@ module _ (peers : List Standing) (own : Station) (js : List Record) (all : Each 
           let low = is_had (λ (x : Join). c.version ≤ version_now x.au js) (join_of q js) j joined (committed_fact peers own js all q c committed) in
           does_one (records.Voted q hashes) _
           (new, has_is (λ (x : Join). Has (IsVoteOver own js q hashes x) (commitment_of q js)) (join_of q js) j joined (has_is (IsVoteOver own js q hashes j) (commitment_of q js) c committed (low, refl)))
-          (told_letter (js ++ records.Voted q hashes ∷ []) (message.Vote q.number hashes own.proof) q.poller (vote_limits peers own js all q j c hashes proof joined refl) (found hashes new), tt)
+          (sends_so (js ++ records.Voted q hashes ∷ []) (message.Vote q.number hashes own.proof) q.poller (vote_limits peers own js all q j c hashes proof joined refl) (found hashes new), tt)
       by_session j c h joined committed new = does_nothing
-
-  repair_letter : (after : List Record) (n b : ℕ) (bytes : List ℕ) (to : ℕ) → Sends after (letter (message.Repair n b bytes) to)
-  repair_letter after n b bytes to = quiet_letter after (message.Repair n b bytes) to tt
 
   does_request : (q : PollName) (b : ℕ) → Does peers own js (on_request own js q b)
   unfolding on_request
-  does_request q b = does_if (is_session q js) (requested own js q b (join_of q js) (commitment_of q js) (hashes_of_vote q js)) (λ runs. by_session (join_of q js) (commitment_of q js) (hashes_of_vote q js))
+  does_request q b = does_if (is_session q js) (requested own js q b (join_of q js) (commitment_of q js) (hashes_of_vote q js)) (λ runs. by_session (join_of q js) (commitment_of q js) (hashes_of_vote q js) refl)
     where
-      by_block : (j : Join) (o : Option (List ℕ)) → Does peers own js (serves q b (most_served own.rules j.repairs) (served q js) o)
-      by_block j None = does_nothing
-      by_block j (Some bytes) =
+      by_block : (j : Join) (c : Commitment) (o : Option (List ℕ)) → join_of q js ≡ Some j → slice_get (contents_at j.au c.version js) b ≡ o
+          → Does peers own js (serves q b (most_served own.rules j.repairs) (served q js) o)
+      by_block j c None joined at = does_nothing
+      by_block j c (Some bytes) joined at =
+          let limits = repair_limits peers own js all q.number j.au c.version b bytes (join_fact peers own js all q j joined) at in
           cond_both (has_member (served q js) b) (answers (letter (message.Repair q.number b bytes) q.poller)) _ (Does peers own js)
-          (λ again. does_send _ (repair_letter _ q.number b bytes q.poller, tt))
-          (λ new. does_if (nat_lt (length (served q js)) (most_served own.rules j.repairs)) _ (λ few. does_one (records.Served q b) _ tt (repair_letter _ q.number b bytes q.poller, tt)))
+          (λ again. does_send _ (sends_so _ (message.Repair q.number b bytes) q.poller limits tt, tt))
+          (λ new. does_if (nat_lt (length (served q js)) (most_served own.rules j.repairs)) _ (λ few. does_one (records.Served q b) _ tt (sends_so _ (message.Repair q.number b bytes) q.poller limits tt, tt)))
 
-      by_session : (j : Option Join) (c : Option Commitment) (h : Option (List (List ℕ))) → Does peers own js (requested own js q b j c h)
-      by_session (Some j) (Some c) (Some hashes) = by_block j (slice_get (contents_at j.au c.version js) b)
-      by_session j c h = does_nothing
+      by_session : (j : Option Join) (c : Option Commitment) (h : Option (List (List ℕ))) → join_of q js ≡ j → Does peers own js (requested own js q b j c h)
+      by_session (Some j) (Some c) (Some hashes) joined = by_block j c (slice_get (contents_at j.au c.version js) b) joined refl
+      by_session j c h joined = does_nothing
 
   does_end : (q : PollName) → Does peers own js (on_end js q)
   unfolding on_end
@@ -401,7 +391,7 @@ module _ (peers : List Standing) (own : Station) (js : List Record) (all : Each 
   does_message tick from (message.Nominate n nominees) judged heard = does_nominate from n nominees
   does_message tick from (message.Vote n hashes sent) judged heard = does_vote from n hashes sent judged heard
   does_message tick from (message.RepairRequest n b) judged heard = does_request (named from n) b
-  does_message tick from (message.Repair n b bytes) judged heard = does_repair from n b bytes
+  does_message tick from (message.Repair n b bytes) judged heard = does_repair from n b bytes heard.0.0.1
   does_message tick from (message.Receipt n) judged heard = does_end (named from n)
 
   pub does_all : (tick : ℕ) (i : Input) → Known i → Does peers own js (reaction own js tick i)

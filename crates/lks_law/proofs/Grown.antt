@@ -6,8 +6,9 @@ use Rattle.std.proofs.lemmas.List.{append-nil}
 use Rattle.std.proofs.lemmas.List.Elements.{filter_map-append}
 use Rattle.std.proofs.lemmas.List.Folds.{list_any-append}
 use Rattle.std.proofs.lemmas.List.Sums.{sum_by_push}
+use Rattle.lks_base.specs.declared.names.Numbers.{Numbers}
 use Rattle.lks_base.specs.declared.records.Record.{Record}
-use Rattle.lks_law.specs.Journal.{Opening, Replacement, Request, deposit_in, deposit_of, replacement_in, replacements, replaced_by, contents_of, opening_in, opening_of, is_opening, openings, opened_in, opened_numbers, vote_in, shuts, is_shut, closes, is_closed, asks_any, has_asked, unanswered_after, unanswered_from, unanswered, waiting_after, waiting_from, waiting}
+use Rattle.lks_law.specs.Journal.{Opening, Replacement, Request, deposit_in, deposit_of, replacement_in, replacements, replaced_by, contents_of, opening_in, opening_of, is_opening, openings, opened_in, opened_numbers, vote_in, shuts, is_shut, closes, is_closed, asks_any, has_asked, unanswered_after, unanswered_from, unanswered, waiting_after, waiting_from, waiting, numbers_after, numbers_from}
 use Rattle.lks_law.specs.Polls.{votes}
 use Rattle.lks_tally.specs.declared.ballots.Vote.{Vote}
 
@@ -86,6 +87,11 @@ openings_more js r = sum_by_push (λ j. cond (is_opening j) 1 0) js r
 pub numbers_more : (js : List Record) (r : Record) → opened_numbers (js ++ r ∷ []) ≡ opened_numbers js ++ cons_option (opened_in r) []
 unfolding opened_numbers
 numbers_more js r = filter_map-append opened_in js (r ∷ [])
+
+-- the numbers in force
+pub numbers_last : (before : Numbers) (js : List Record) (r : Record) → numbers_from before (js ++ r ∷ []) ≡ numbers_after (numbers_from before js) r
+numbers_last before [] r = refl
+numbers_last before (j ∷ js) r = numbers_last (numbers_after before j) js r
 
 -- Copies of AUs.
 

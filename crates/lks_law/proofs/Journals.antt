@@ -19,14 +19,15 @@ use Rattle.lks_base.specs.declared.plans.AuPlan.{AuPlan}
 use Rattle.lks_base.specs.declared.plans.Holding.{Holding}
 use Rattle.lks_base.specs.declared.plans.PeerPlan.{PeerPlan}
 use Rattle.lks_base.specs.declared.plans.Plan.{Plan}
+use Rattle.lks_base.specs.declared.plans.Rules.{Rules}
 use Rattle.lks_base.specs.declared.reactions.Input.{Input}
 use Rattle.lks_base.specs.declared.reactions.Input.TheVariants as input
 use Rattle.lks_base.specs.declared.records.Record.{Record}
-use Rattle.lks_base.specs.declared.records.Record.TheVariants.{Deposit, Replaced}
+use Rattle.lks_base.specs.declared.records.Record.TheVariants.{Deposit}
 use Rattle.lks_law.specs.Circles.{IsCircle, HaveCircles, Samples}
 use Rattle.lks_law.specs.Facts.{Heard, IsHeard, GoesBy, AreInOrder, IsJournalOf, HasJournal, HaveJournals, HasPolls}
-use Rattle.lks_law.specs.Journal.{Opening, contents_of, opening_of, is_shut, is_closed, has_asked, unanswered, waiting, openings, opened_numbers}
-use Rattle.lks_law.specs.Polls.{Station, limits_of, ballot_of, votes, inner_votes, verdict_in}
+use Rattle.lks_law.specs.Journal.{Opening, said, contents_of, opening_of, is_shut, is_closed, has_asked, unanswered, waiting, openings, opened_numbers}
+use Rattle.lks_law.specs.Polls.{Station, ObeyQuorumRule, limits_in, numbers_in_force, limits_in_force, limits_of, ballot_of, votes, inner_votes, verdict_in}
 use Rattle.lks_law.specs.Reaction.{may_tally}
 use Rattle.lks_law.specs.Safe.{HasEvidence}
 use Rattle.lks_law.specs.Table.{reaction, on_message}
@@ -96,12 +97,25 @@ none_opened js all = let none = nothing_opened js all in none.0 ∙ ap (range_wi
     nothing_opened (Deposit au blocks ∷ rs) all = nothing_opened rs all
     nothing_opened (r ∷ rs) all = absurd cc
 
-none_replaced : (js : List Record) → AreDeposits js → (i n au b : ℕ) (bytes : List ℕ) → slice_get js i ≡ Some (Replaced n au b bytes) → ⊥
+deposit_at : (js : List Record) → AreDeposits js → (i : ℕ) (r : Record) → slice_get js i ≡ Some r → is_deposit r ≡ true
 unfolding AreDeposits
-none_replaced [] all i n au b bytes e = absurd cc
-none_replaced (Deposit a blocks ∷ js) all zero n au b bytes e = absurd cc
-none_replaced (Deposit a blocks ∷ js) all (suc i) n au b bytes e = none_replaced js all i n au b bytes e
-none_replaced (r ∷ js) all i n au b bytes e = absurd cc
+deposit_at [] all i r e = absurd cc
+deposit_at (Deposit au blocks ∷ js) all zero r e = let same : Deposit au blocks ≡ r = cc in ap is_deposit (sym same)
+deposit_at (Deposit au blocks ∷ js) all (suc i) r e = deposit_at js all i r e
+deposit_at (d ∷ js) all i r e = absurd cc
+
+none_replaced : (own : Station) (js : List Record) → AreDeposits js → HasEvidence own.rules own.id js
+none_replaced own js all i r x at says = absurd (by_record r (deposit_at js all i r at) says)
+  where
+    by_record : (r : Record) → is_deposit r ≡ true → (said r).replaced ≡ Some x → ⊥
+    by_record (Deposit au blocks) is says = absurd cc
+    by_record r is says = absurd cc
+
+none_tuned : (rules : Rules) (js : List Record) → AreDeposits js → limits_in_force rules js ≡ limits_in rules
+unfolding AreDeposits numbers_in_force
+none_tuned rules [] all = refl
+none_tuned rules (Deposit au blocks ∷ js) all = none_tuned rules js all
+none_tuned rules (r ∷ js) all = absurd cc
 
 good_blank : (own : Station) (n : ℕ) (copy : ℕ → List (List ℕ)) → Good own n copy blank
 good_blank own n copy = record {
@@ -123,7 +137,11 @@ kept_deposits own js all =
         in_order = none_opened js all;
         numbered = λ n o is. absurd (no_opening (opening_of n js) o (none n) is);
         alone = λ m n o p is too runs also au. absurd (no_opening (opening_of m js) o (none m) is);
-        evidence = λ i n au b bytes at. absurd (none_replaced js all i n au b bytes at);
+        lawful = λ rule. record {
+          in_force = subst ObeyQuorumRule (sym (none_tuned own.rules js all)) rule;
+          opened = λ n o is. absurd (no_opening (opening_of n js) o (none n) is);
+        };
+        evidence = λ rule. none_replaced own js all;
       };
     }
   where
@@ -150,13 +168,6 @@ deposits_are [] copies = refl
 deposits_are (au ∷ aus) copies =
     list_all-append is_deposit (filter_map (deposit_for au) copies) (deposits aus copies)
     ∙ ap (λ b. b && list_all is_deposit (deposits aus copies)) (held_are au copies) ∙ deposits_are aus copies
-
-deposit_at : (js : List Record) → AreDeposits js → (i : ℕ) (r : Record) → slice_get js i ≡ Some r → is_deposit r ≡ true
-unfolding AreDeposits
-deposit_at [] all i r e = absurd cc
-deposit_at (Deposit au blocks ∷ js) all zero r e = let same : Deposit au blocks ≡ r = cc in ap is_deposit (sym same)
-deposit_at (Deposit au blocks ∷ js) all (suc i) r e = deposit_at js all i r e
-deposit_at (d ∷ js) all i r e = absurd cc
 
 no_circle : (own : Station) (before : List Record) (r : Record) → is_deposit r ≡ true → IsCircle own before r
 no_circle own before (Deposit au blocks) e = tt
@@ -338,8 +349,17 @@ kept_in plan history place s at = kept_at plan (world plan history).tick (slice_
 pub polls_keep : (plan : Plan) (history : List Event) (place : ℕ) (s : Standing) → slice_get (world plan history).peers place ≡ Some s → HasPolls s.own s.journal
 polls_keep plan history place s at = polls_of s.own s.journal (kept_in plan history place s at)
 
-pub evidence_in : (plan : Plan) (history : List Event) (place : ℕ) (s : Standing) → slice_get (world plan history).peers place ≡ Some s → HasEvidence s.own s.journal
-evidence_in plan history place s at = (kept_in plan history place s at).rest.evidence
+pub rules_are : (plan : Plan) (history : List Event) (place : ℕ) (s : Standing) → slice_get (world plan history).peers place ≡ Some s → s.own.rules ≡ plan.rules
+rules_are plan history place s at = by_peer (slice_get (filter is_honest plan.peers) place) ((journals_are_own plan history).each place s at)
+  where
+    by_peer : (p : Option PeerPlan) → HasJournal plan (world plan history).tick p s → s.own.rules ≡ plan.rules
+    by_peer None has = absurd has
+    by_peer (Some p) has = ap (λ (own : Station). own.rules) has.0
+
+pub evidence_in : (plan : Plan) (history : List Event) (place : ℕ) (s : Standing) → ObeyQuorumRule (limits_in plan.rules) → slice_get (world plan history).peers place ≡ Some s
+    → HasEvidence s.own.rules s.own.id s.journal
+evidence_in plan history place s rule at =
+    (kept_in plan history place s at).rest.evidence (subst (λ rules. ObeyQuorumRule (limits_in rules)) (sym (rules_are plan history place s at)) rule)
 
 pub tallies_have_quorum : (plan : Plan) (history : List Event) (place : ℕ) (s : Standing) → slice_get (world plan history).peers place ≡ Some s
     → (n : ℕ) (opening : Opening) → may_tally n s.journal ≡ true → opening_of n s.journal ≡ Some opening → verdict_in s.own n opening s.journal ≢ verdict.Inquorate

@@ -1,12 +1,14 @@
 -- What a peer knows by the facts of its journal.
-use Rattle.std.proofs.Common.{◌≡◌, ◌≤◌, ◌<◌, ◌^◌, ◌∙◌, ap, sym, subst, ℕ, Bool, true, false, cond, eqb, List, [], ◌∷◌, ◌++◌, length, refl, arith}
-use Rattle.std.specs.Prelude.{Option, Some, None, unwrap_or, All}
-use Rattle.std.specs.List.{AllByRecursion}
+use Rattle.std.proofs.Common.{◌≡◌, ◌≤◌, ◌<◌, ◌+◌, ◌^◌, ◌∙◌, ap, sym, subst, ℕ, Bool, true, false, cond, eqb, List, [], ◌∷◌, ◌++◌, length, take, refl, arith}
+use Rattle.std.specs.Prelude.{Option, Some, None, unwrap_or, slice_get, slice_set, All}
+use Rattle.std.specs.List.{AllByRecursion, filter_map, cons_option}
 use Rattle.std.proofs.lemmas.Bool.{eqb-true}
-use Rattle.std.proofs.lemmas.List.Elements.{All-from_recursion}
+use Rattle.std.proofs.lemmas.List.Elements.{All-nil, All-set, All-from_recursion}
+use Rattle.std.proofs.lemmas.Option.{slice_get_within, get_or_from_slice_get}
 use Rattle.sha2.proofs.Facts256.{length-sha256}
 use Rattle.sha2.proofs.Facts512.{length-sha512_256}
 use Rattle.lks_base.specs.Kinds.{is_second}
+use Rattle.lks_base.specs.declared.limits.TheConstants.{MOST_BLOCK_BYTES}
 use Rattle.lks_base.specs.declared.messages.Message.TheVariants as message
 use Rattle.lks_base.specs.declared.names.PollName.{PollName}
 use Rattle.lks_base.specs.declared.records.Record.{Record}
@@ -15,14 +17,16 @@ use Rattle.lks_hash.specs.Hashes.{hash_of, key_of, nonce_from}
 use Rattle.lks_hash.specs.Running.{linked, hashes_of}
 use Rattle.lks_hash.proofs.RunningLaws.{hashes_length}
 use Rattle.lks_message.specs.Spelling.{IsInLimits}
-use Rattle.lks_law.specs.Journal.{Opening, Request, deposit_in, deposit_of, opening_in, opening_of, openings, contents_at, contents_of, unanswered_after, unanswered_from, unanswered}
+use Rattle.lks_law.specs.Fitting.{AreSmall}
+use Rattle.lks_law.specs.Journal.{Opening, Replacement, Request, replacement_in, replacements, replaced_by, deposit_in, deposit_of, opening_in, opening_of, openings, contents_at, contents_of, unanswered_after, unanswered_from, unanswered}
 use Rattle.lks_law.specs.Polls.{Station}
 use Rattle.lks_law.specs.Sessions.{Join, Commitment, is_poll, join_in, join_of, commitment_in, commitment_of, hashes_in, hashes_of_vote, version_now}
 use Rattle.lks_law.specs.Voting.{vote_hashes}
 use Rattle.lks_law.specs.World.{Standing}
-use Rattle.lks_law.specs.Linked.{Each, Has, Any, IsVoteOver, Fact}
+use Rattle.lks_law.specs.Linked.{Has, IsVoteOver}
+use Rattle.lks_law.proofs.Linked.{Each, Any, Fact}
 use Rattle.lks_law.proofs.Keyed.{same_poll}
-use Rattle.lks_law.proofs.Growing.{first_of, opening_first, deposit_first, version_length}
+use Rattle.lks_law.proofs.Growing.{first_of, opening_first, deposit_first, version_length, contents_length, each_take}
 
 pub has_is : {X : Type 0} (P : X → Type 0) (o : Option X) (x : X) → o ≡ Some x → P x → Has P o
 has_is P o x e p = subst (Has P) (sym e) p
@@ -47,6 +51,17 @@ pub record OpeningFact (js : List Record) (n : ℕ) (o : Opening) : Type 0 where
   pub nonce : length o.nonce ≡ 32
   pub au : o.au < 2 ^ 16
 
+-- how a copy begins
+abbrev IsDeposited : ℕ → List (List ℕ) → Type 0
+IsDeposited au blocks = (au < 2 ^ 16) × (length blocks ≤ 512) × AreSmall blocks
+
+abbrev HasSmallBytes : Replacement → Type 0
+HasSmallBytes x = length x.bytes ≤ MOST_BLOCK_BYTES
+
+replaced_small : (blocks : List (List ℕ)) (xs : List Replacement) → AreSmall blocks → Each HasSmallBytes xs → AreSmall (replaced_by blocks xs)
+replaced_small blocks [] small each = small
+replaced_small blocks (x ∷ xs) small each = replaced_small (slice_set blocks x.block x.bytes) xs (All-set (λ (b : List ℕ). length b ≤ MOST_BLOCK_BYTES) blocks x.block x.bytes each.0 small) each.1
+
 module _ (peers : List Standing) (own : Station) (js : List Record) (all : Each (Fact peers own js) js) where
   pub opening_fact : (n : ℕ) (o : Opening) → opening_of n js ≡ Some o → OpeningFact js n o
   opening_fact n o e = first_of (opening_in n) (Fact peers own js) (OpeningFact js n) by_record js o (sym (opening_first n js) ∙ e) all
@@ -63,25 +78,63 @@ module _ (peers : List Standing) (own : Station) (js : List Record) (all : Each 
       by_record (PollOpened m au nonce inner tick limits kind) o e fact = by_number (eqb m n) m (record { au = au; nonce = nonce; inner = inner; limits = limits; kind = kind }) o refl fact e
       by_record r o e fact = absurd cc
 
-  pub deposit_fact : (au : ℕ) (blocks : List (List ℕ)) → deposit_of au js ≡ Some blocks → (au < 2 ^ 16) × (length blocks ≤ 512)
-  deposit_fact au blocks e = first_of (deposit_in au) (Fact peers own js) (λ blocks. (au < 2 ^ 16) × (length blocks ≤ 512)) by_record js blocks (sym (deposit_first au js) ∙ e) all
+  pub opened_low : (n : ℕ) (o : Opening) → openings js + 1 < 2 ^ 32 → opening_of n js ≡ Some o → n < 2 ^ 32
+  opened_low n o room e = let low = (opening_fact n o e).low in omega (arith, low, room)
+
+  pub deposit_fact : (au : ℕ) (blocks : List (List ℕ)) → deposit_of au js ≡ Some blocks → IsDeposited au blocks
+  deposit_fact au blocks e = first_of (deposit_in au) (Fact peers own js) (IsDeposited au) by_record js blocks (sym (deposit_first au js) ∙ e) all
     where
-      by_number : (b : Bool) (a : ℕ) (x blocks : List (List ℕ)) → eqb a au ≡ b → (a < 2 ^ 16) × (length x ≤ 512) → cond b (Some x) None ≡ Some blocks → (au < 2 ^ 16) × (length blocks ≤ 512)
+      by_number : (b : Bool) (a : ℕ) (x blocks : List (List ℕ)) → eqb a au ≡ b → IsDeposited a x → cond b (Some x) None ≡ Some blocks → IsDeposited au blocks
       by_number true a x blocks same fact e =
           let is : x ≡ blocks = cc in
-          subst (λ (k : ℕ). (k < 2 ^ 16) × (length blocks ≤ 512)) (eqb-true a au same) (subst (λ (y : List (List ℕ)). (a < 2 ^ 16) × (length y ≤ 512)) is fact)
+          subst (λ (k : ℕ). IsDeposited k blocks) (eqb-true a au same) (subst (λ (y : List (List ℕ)). IsDeposited a y) is fact)
       by_number false a x blocks same fact e = absurd cc
 
-      by_record : (r : Record) (blocks : List (List ℕ)) → deposit_in au r ≡ Some blocks → Fact peers own js r → (au < 2 ^ 16) × (length blocks ≤ 512)
+      by_record : (r : Record) (blocks : List (List ℕ)) → deposit_in au r ≡ Some blocks → Fact peers own js r → IsDeposited au blocks
       by_record (Deposit a x) blocks e fact = by_number (eqb a au) a x blocks refl fact e
       by_record r blocks e fact = absurd cc
 
-  pub short_version : (au k : ℕ) → length (contents_at au k js) ≤ 512
-  short_version au k = let all = version_length au k js in let few = by_deposit (deposit_of au js) refl in omega (arith, all, few)
+  short_deposit : (au : ℕ) → (length (unwrap_or (deposit_of au js) []) ≤ 512) × AreSmall (unwrap_or (deposit_of au js) [])
+  short_deposit au = by_deposit (deposit_of au js) refl
     where
-      by_deposit : (o : Option (List (List ℕ))) → deposit_of au js ≡ o → length (unwrap_or o []) ≤ 512
-      by_deposit None e = omega arith
-      by_deposit (Some blocks) e = (deposit_fact au blocks e).1
+      by_deposit : (o : Option (List (List ℕ))) → deposit_of au js ≡ o → (length (unwrap_or o []) ≤ 512) × AreSmall (unwrap_or o [])
+      by_deposit None e = (omega arith, All-nil (λ (b : List ℕ). length b ≤ MOST_BLOCK_BYTES))
+      by_deposit (Some blocks) e = let fact = deposit_fact au blocks e in (fact.1, fact.2)
+
+  pub short_version : (au k : ℕ) → length (contents_at au k js) ≤ 512
+  short_version au k = let all = version_length au k js in let few = (short_deposit au).0 in omega (arith, all, few)
+
+  pub short_contents : (au : ℕ) → length (contents_of au js) ≤ 512
+  short_contents au = let all = contents_length au js in let few = (short_deposit au).0 in omega (arith, all, few)
+
+  -- no block of a version is too large
+
+  small_replacements : (au : ℕ) (rs : List Record) → Each (Fact peers own js) rs → Each HasSmallBytes (filter_map (replacement_in au) rs)
+  small_replacements au [] facts = tt
+  small_replacements au (r ∷ rs) facts = by_record r facts.0 (small_replacements au rs facts.1)
+    where
+      by_au : (b : Bool) (x : Replacement) → HasSmallBytes x → Each HasSmallBytes (filter_map (replacement_in au) rs) → Each HasSmallBytes (cons_option (cond b (Some x) None) (filter_map (replacement_in au) rs))
+      by_au true x is rest = (is, rest)
+      by_au false x is rest = rest
+
+      by_record : (r : Record) → Fact peers own js r → Each HasSmallBytes (filter_map (replacement_in au) rs) → Each HasSmallBytes (cons_option (replacement_in au r) (filter_map (replacement_in au) rs))
+      by_record (Replaced n a b bytes) fact rest = by_au (eqb a au) (record { block = b; bytes = bytes }) fact.1 rest
+      by_record r fact rest = rest
+
+  small_version : (au k : ℕ) → AreSmall (contents_at au k js)
+  unfolding contents_at
+  small_version au k = replaced_small _ (take k (replacements au js)) (short_deposit au).1 (each_take HasSmallBytes k (replacements au js) (small_replacements au js all))
+
+  -- what a peer asks for, and what it gives
+
+  pub request_limits : (n b : ℕ) (o : Opening) → openings js + 1 < 2 ^ 32 → opening_of n js ≡ Some o → b < length (contents_of o.au js) → IsInLimits (message.RepairRequest n b)
+  request_limits n b o room opened within = let few = short_contents o.au in (omega (arith, within, few), opened_low n o room opened)
+
+  pub repair_limits : (n au k b : ℕ) (bytes : List ℕ) → n < 2 ^ 32 → slice_get (contents_at au k js) b ≡ Some bytes → IsInLimits (message.Repair n b bytes)
+  repair_limits n au k b bytes number at =
+      let within = slice_get_within (contents_at au k js) b bytes at in
+      let few = short_version au k in
+      ((omega (arith, within, few), subst (λ (x : List ℕ). length x ≤ MOST_BLOCK_BYTES) (get_or_from_slice_get (contents_at au k js) b bytes bytes at) (small_version au k b bytes within)), number)
 
   pub join_fact : (q : PollName) (j : Join) → join_of q js ≡ Some j → q.number < 2 ^ 32
   unfolding join_of
@@ -109,9 +162,8 @@ module _ (peers : List Standing) (own : Station) (js : List Record) (all : Each 
       by_record (Committed p nonce version kind) c e fact = by_name (is_poll p q) p (record { nonce = nonce; version = version; kind = kind }) c refl fact.0 e
       by_record r c e fact = absurd cc
 
-  pub voted_fact : (q : PollName) (hashes : List (List ℕ)) → hashes_of_vote q js ≡ Some hashes → Has (λ j. Has (IsVoteOver own js q hashes j) (commitment_of q js)) (join_of q js)
-  unfolding hashes_of_vote
-  voted_fact q hashes e = first_of (hashes_in q) (Fact peers own js) (λ hs. Has (λ j. Has (IsVoteOver own js q hs j) (commitment_of q js)) (join_of q js)) by_record js hashes e all
+  pub voted_so : (q : PollName) (r : Record) (hashes : List (List ℕ)) → hashes_in q r ≡ Some hashes → Fact peers own js r → Has (λ j. Has (IsVoteOver own js q hashes j) (commitment_of q js)) (join_of q js)
+  voted_so q r hashes e fact = by_record r hashes e fact
     where
       by_name : (b : Bool) (p : PollName) (x hs : List (List ℕ)) → is_poll p q ≡ b → Has (λ j. Has (IsVoteOver own js p x j) (commitment_of p js)) (join_of p js) → cond b (Some x) None ≡ Some hs
           → Has (λ j. Has (IsVoteOver own js q hs j) (commitment_of q js)) (join_of q js)
@@ -124,6 +176,10 @@ module _ (peers : List Standing) (own : Station) (js : List Record) (all : Each 
       by_record : (r : Record) (hs : List (List ℕ)) → hashes_in q r ≡ Some hs → Fact peers own js r → Has (λ j. Has (IsVoteOver own js q hs j) (commitment_of q js)) (join_of q js)
       by_record (Voted p x) hs e fact = by_name (is_poll p q) p x hs refl fact e
       by_record r hs e fact = absurd cc
+
+  pub voted_fact : (q : PollName) (hashes : List (List ℕ)) → hashes_of_vote q js ≡ Some hashes → Has (λ j. Has (IsVoteOver own js q hashes j) (commitment_of q js)) (join_of q js)
+  unfolding hashes_of_vote
+  voted_fact q hashes e = first_of (hashes_in q) (Fact peers own js) (λ hs. Has (λ j. Has (IsVoteOver own js q hs j) (commitment_of q js)) (join_of q js)) (voted_so q) js hashes e all
 
   -- a request is for a block that is there
   abbrev pub IsWithin : ℕ → Request → Type 0

@@ -1,4 +1,5 @@
 pub mod Batches
+pub mod Between
 pub mod Breaking
 pub mod Colliding
 pub mod Counts
@@ -19,6 +20,7 @@ pub mod Parts
 pub mod Phases
 pub mod PollStates
 pub mod Knowing
+pub mod Linked
 pub mod Linking
 pub mod Lists
 pub mod Matching
@@ -26,6 +28,7 @@ pub mod Letters
 pub mod Ranges
 pub mod Repairs
 pub mod Restoring
+pub mod Room
 pub mod Rows
 pub mod RunningPolls
 pub mod Samples

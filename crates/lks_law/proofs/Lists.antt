@@ -4,7 +4,7 @@ use Rattle.std.specs.Prelude.{Some, find, slice_get, All}
 use Rattle.std.proofs.lemmas.List.Elements.{All-cons, All-head, All-tail}
 use Rattle.lks_law.specs.Firsts.{changed_first, without_first}
 use Rattle.lks_law.specs.Fitting.{Where}
-use Rattle.lks_law.specs.Linked.{Each}
+use Rattle.lks_law.proofs.Linked.{Each}
 
 -- what a filter lets pass stands in the list
 pub filter_at : {X : Type 0} (test : X → Bool) (xs : List X) (k : ℕ) (x : X) → slice_get (filter test xs) k ≡ Some x → (i : ℕ) × (slice_get xs i ≡ Some x) × (test x ≡ true)
@@ -24,6 +24,15 @@ each_filter P test (x ∷ xs) all = by_test (test x) (each_filter P test xs all.
     by_test : (b : Bool) → Each P (filter test xs) → Each P (cond b (x ∷ filter test xs) (filter test xs))
     by_test true rest = (all.0, rest)
     by_test false rest = rest
+
+-- what is true at each place
+pub each_at : {X : Type 0} (P : X → Type 0) (xs : List X) → ((i : ℕ) (x : X) → slice_get xs i ≡ Some x → P x) → Each P xs
+each_at P [] at = tt
+each_at P (x ∷ xs) at = (at 0 x refl, each_at P xs (λ i y there. at (suc i) y there))
+
+pub each_from : {X : Type 0} (P : X → Type 0) (xs : List X) → All P xs → Each P xs
+each_from P [] all = tt
+each_from P (x ∷ xs) all = (All-head P x xs all, each_from P xs (All-tail P x xs all))
 
 pub each_both : {X : Type 0} (P Q : X → Type 0) (xs : List X) → Each P xs → Each Q xs → Each (λ x. P x × Q x) xs
 each_both P Q [] p q = tt

@@ -12,7 +12,8 @@ use Rattle.lks_hash.specs.Hashes.{key_of}
 use Rattle.lks_hash.specs.Running.{hashes_of}
 use Rattle.lks_hash.proofs.RunningLaws.{hashes_length}
 use Rattle.lks_law.specs.Journal.{Opening, contents_at, contents_of, opening_of, vote_in}
-use Rattle.lks_law.specs.Linked.{Each, Has, Any, IsVoteOver, Fact}
+use Rattle.lks_law.specs.Linked.{Has, IsVoteOver}
+use Rattle.lks_law.proofs.Linked.{Each, Any, Fact}
 use Rattle.lks_law.specs.Polls.{Station, votes, inner_votes}
 use Rattle.lks_law.specs.Sessions.{Join, Commitment, is_poll, join_in, join_of, commitment_in, commitment_of, hashes_of_vote}
 use Rattle.lks_law.specs.Snapshots.{Snapshot}
@@ -37,9 +38,8 @@ snapshot_of peers k s q hashes is voted = by_join (join_of q s.journal) (commitm
 
 module _ (peers : List Standing) (own : Station) (js : List Record) (all : Each (Fact peers own js) js) where
   -- a session is on the AU of the poll
-  pub join_match : (q : PollName) (j : Join) → join_of q js ≡ Some j → Any (λ s. Has (λ o. o.au ≡ j.au) (opening_of q.number s.journal)) (peer_at q.poller peers)
-  unfolding join_of
-  join_match q j e = first_of (join_in q) (Fact peers own js) (λ j. Any (λ s. Has (λ o. o.au ≡ j.au) (opening_of q.number s.journal)) (peer_at q.poller peers)) by_record js j e all
+  pub joined_so : (q : PollName) (r : Record) (j : Join) → join_in q r ≡ Some j → Fact peers own js r → Any (λ s. Has (λ o. o.au ≡ j.au) (opening_of q.number s.journal)) (peer_at q.poller peers)
+  joined_so q r j e fact = by_record r j e fact
     where
       by_name : (b : Bool) (p : PollName) (x j : Join) → is_poll p q ≡ b → Any (λ s. Has (λ o. o.au ≡ x.au) (opening_of p.number s.journal)) (peer_at p.poller peers) → cond b (Some x) None ≡ Some j
           → Any (λ s. Has (λ o. o.au ≡ j.au) (opening_of q.number s.journal)) (peer_at q.poller peers)
@@ -53,10 +53,14 @@ module _ (peers : List Standing) (own : Station) (js : List Record) (all : Each 
       by_record (Joined p au tick low repairs) j e fact = by_name (is_poll p q) p (record { au = au; tick = tick; low = low; repairs = repairs }) j refl fact.1 e
       by_record r j e fact = absurd cc
 
+  pub join_match : (q : PollName) (j : Join) → join_of q js ≡ Some j → Any (λ s. Has (λ o. o.au ≡ j.au) (opening_of q.number s.journal)) (peer_at q.poller peers)
+  unfolding join_of
+  join_match q j e = first_of (join_in q) (Fact peers own js) (λ j. Any (λ s. Has (λ o. o.au ≡ j.au) (opening_of q.number s.journal)) (peer_at q.poller peers)) (joined_so q) js j e all
+
   -- it is committed under the poll's nonce and kind of hash
-  pub commit_match : (q : PollName) (c : Commitment) → commitment_of q js ≡ Some c → Any (λ s. Has (λ o. (o.nonce ≡ c.nonce) × (o.kind ≡ c.kind)) (opening_of q.number s.journal)) (peer_at q.poller peers)
-  unfolding commitment_of
-  commit_match q c e = first_of (commitment_in q) (Fact peers own js) (λ c. Any (λ s. Has (λ o. (o.nonce ≡ c.nonce) × (o.kind ≡ c.kind)) (opening_of q.number s.journal)) (peer_at q.poller peers)) by_record js c e all
+  pub committed_so : (q : PollName) (r : Record) (c : Commitment) → commitment_in q r ≡ Some c → Fact peers own js r
+      → Any (λ s. Has (λ o. (o.nonce ≡ c.nonce) × (o.kind ≡ c.kind)) (opening_of q.number s.journal)) (peer_at q.poller peers)
+  committed_so q r c e fact = by_record r c e fact
     where
       by_name : (b : Bool) (p : PollName) (x c : Commitment) → is_poll p q ≡ b → Any (λ s. Has (λ o. (o.nonce ≡ x.nonce) × (o.kind ≡ x.kind)) (opening_of p.number s.journal)) (peer_at p.poller peers) → cond b (Some x) None ≡ Some c
           → Any (λ s. Has (λ o. (o.nonce ≡ c.nonce) × (o.kind ≡ c.kind)) (opening_of q.number s.journal)) (peer_at q.poller peers)
@@ -70,21 +74,31 @@ module _ (peers : List Standing) (own : Station) (js : List Record) (all : Each 
       by_record (Committed p nonce version kind) c e fact = by_name (is_poll p q) p (record { nonce = nonce; version = version; kind = kind }) c refl fact.1 e
       by_record r c e fact = absurd cc
 
+  pub commit_match : (q : PollName) (c : Commitment) → commitment_of q js ≡ Some c → Any (λ s. Has (λ o. (o.nonce ≡ c.nonce) × (o.kind ≡ c.kind)) (opening_of q.number s.journal)) (peer_at q.poller peers)
+  unfolding commitment_of
+  commit_match q c e = first_of (commitment_in q) (Fact peers own js) (λ c. Any (λ s. Has (λ o. (o.nonce ≡ c.nonce) × (o.kind ≡ c.kind)) (opening_of q.number s.journal)) (peer_at q.poller peers)) (committed_so q) js c e all
+
   -- what is known of a vote that a journal has
   abbrev pub VoteFact : ℕ → Vote → Type 0
   VoteFact n v = Any (λ t. hashes_of_vote (named own.id n) t.journal ≡ Some v.hashes) (peer_at v.voter peers) × Has (λ o. length v.hashes ≡ length (contents_of o.au js)) (opening_of n js)
 
+  pub counted_so : (n : ℕ) (r : Record) (v : Vote) → vote_in n r ≡ Some v → Fact peers own js r → VoteFact n v
+  counted_so n (VoteIn m voter hashes) v e fact = by_number (eqb m n) refl e
+    where
+      by_number : (b : Bool) → eqb m n ≡ b → cond b (Some (record { voter = voter; hashes = hashes })) None ≡ Some v → VoteFact n v
+      by_number true same e =
+          let is : record { voter = voter; hashes = hashes } ≡ v = cc in
+          subst (VoteFact n) is (subst (λ k. VoteFact k (record { voter = voter; hashes = hashes })) (eqb-true m n same) fact)
+      by_number false same e = absurd cc
+  counted_so n r v e fact = absurd cc
+
   vote_facts : (n : ℕ) (rs : List Record) → Each (Fact peers own js) rs → Each (VoteFact n) (filter_map (vote_in n) rs)
   vote_facts n [] each = tt
-  vote_facts n (r ∷ rs) each = by_record r each.0 (vote_facts n rs each.1)
+  vote_facts n (r ∷ rs) each = by_vote (vote_in n r) refl (vote_facts n rs each.1)
     where
-      by_record : (r : Record) → Fact peers own js r → Each (VoteFact n) (filter_map (vote_in n) rs) → Each (VoteFact n) (cons_option (vote_in n r) (filter_map (vote_in n) rs))
-      by_record (VoteIn m v hashes) fact rest = by_number (eqb m n) refl
-        where
-          by_number : (b : Bool) → eqb m n ≡ b → Each (VoteFact n) (cons_option (cond b (Some (record { voter = v; hashes = hashes })) None) (filter_map (vote_in n) rs))
-          by_number true same = (subst (λ k. VoteFact k (record { voter = v; hashes = hashes })) (eqb-true m n same) fact, rest)
-          by_number false same = rest
-      by_record r fact rest = rest
+      by_vote : (v : Option Vote) → vote_in n r ≡ v → Each (VoteFact n) (filter_map (vote_in n) rs) → Each (VoteFact n) (cons_option v (filter_map (vote_in n) rs))
+      by_vote None is rest = rest
+      by_vote (Some v) is rest = (counted_so n r v is each.0, rest)
 
   -- and of each of a poll's inner ones
   pub inner_facts : (n : ℕ) (inner : List ℕ) (i : ℕ) → Each (VoteFact n) (inner_votes n inner (take i js))

@@ -7,11 +7,11 @@ use Rattle.lks_base.specs.declared.records.Record.{Record}
 use Rattle.lks_base.specs.declared.records.Record.TheVariants as records
 use Rattle.lks_hash.specs.Hashes.{nonce_from}
 use Rattle.lks_law.specs.Journal.{Opening, deposit_of, opening_in, opening_of, openings, opened_numbers, is_closed, opens_running, opens_open, opens_lately}
-use Rattle.lks_law.specs.Polls.{Station, limits_in_force}
+use Rattle.lks_law.specs.Polls.{Station, ObeyQuorumRule, limits_in, limits_of, limits_in_force}
 use Rattle.lks_law.specs.Reaction.{may_open, opened, on_open}
 use Rattle.lks_law.specs.References.{inner_circle}
 use Rattle.lks_law.proofs.Grown.{first_opening, opening_more, openings_more, numbers_more, contents_more}
-use Rattle.lks_law.proofs.Kept.{Kept, AllGood, evidence_more, was_running}
+use Rattle.lks_law.proofs.Kept.{Kept, AllGood, AreLawful, in_force_more, evidence_more, was_running}
 use Rattle.lks_law.proofs.PollStates.{Good, poll_of, poll_more, copies_in, if_own, good_opened}
 use Rattle.lks_law.proofs.Ranges.{range_last}
 use Rattle.lks_law.proofs.Rows.{KeptBy, kept_if}
@@ -59,7 +59,8 @@ module _ (own : Station) (js : List Record) (n tick : ℕ) (o : Opening) where
       by_older None e is = inr (by_number (eqb n k) refl is)
       by_older (Some y) e is = inl (e ∙ is)
 
-  module _ (kept : Kept own js) (next : n ≡ openings js + 1) (free : list_any (opens_running o.au js) js ≡ false) where
+  module _ (kept : Kept own js) (next : n ≡ openings js + 1) (free : list_any (opens_running o.au js) js ≡ false)
+      (numbers : ObeyQuorumRule (limits_in own.rules) → ObeyQuorumRule (limits_in_force own.rules js) → ObeyQuorumRule (limits_of own.rules o)) where
     new_number : (x : Opening) → opening_of n js ≡ Some x → ⊥
     new_number x is = let low = kept.rest.numbered n x is in omega (arith, low, next)
 
@@ -108,6 +109,17 @@ module _ (own : Station) (js : List Record) (n tick : ℕ) (o : Opening) where
         (if_own own k (copies_in js) n (poll_of k js) _ (kept.good k) (λ same.
         good_opened own k (copies_in js) o (poll_of k js) (kept.good k) (subst (λ m. opening_of m js ≡ None) same (is_new (opening_of n js) refl)))))
 
+    lawful_after : ObeyQuorumRule (limits_in own.rules) → AreLawful own.rules (js ++ opening ∷ [])
+    lawful_after rule =
+        let before = kept.rest.lawful rule in
+        record {
+          in_force = in_force_more own.rules js opening tt before.in_force;
+          opened = λ k x is. elim (opened_where k x is) [
+            | inl older ↦ before.opened k x older
+            | inr this ↦ subst (λ y. ObeyQuorumRule (limits_of own.rules y)) this.1 (numbers rule before.in_force)
+          ];
+        }
+
     pub kept_opened : Kept own (js ++ opening ∷ [])
     kept_opened = record {
       good = good_after;
@@ -115,7 +127,8 @@ module _ (own : Station) (js : List Record) (n tick : ℕ) (o : Opening) where
         in_order = in_order_after;
         numbered = numbered_after;
         alone = alone_after;
-        evidence = evidence_more own js opening kept.rest.evidence (λ m au b bytes is. absurd cc);
+        lawful = lawful_after;
+        evidence = λ rule. evidence_more own js opening (kept.rest.evidence rule) (λ x is. absurd cc);
       };
     }
 
@@ -132,4 +145,4 @@ kept_on_open own js tick au kept =
     kept_if own js (may_open own js tick au) (opened own js tick au (openings js + 1)) kept (λ may.
     kept_opened own js (openings js + 1) tick
     (record { au = au; nonce = nonce_from own.seed (openings js + 1); inner = inner_circle own (openings js + 1) js; limits = Some (limits_in_force own.rules js); kind = own.hash })
-    kept refl (free_of own js tick au may))
+    kept refl (free_of own js tick au may) (λ rule in_force. in_force))

@@ -8,7 +8,7 @@ use Rattle.lks_base.specs.Checking.{has_member}
 use Rattle.lks_base.specs.declared.records.Record.{Record}
 use Rattle.lks_base.specs.declared.records.Record.TheVariants as records
 use Rattle.lks_law.specs.Journal.{Opening, Request, contents_of, opening_of, unanswered}
-use Rattle.lks_law.specs.Polls.{Station, limits_of, ballot_of, inner_votes, said_at, is_win, restores}
+use Rattle.lks_law.specs.Polls.{Station, ObeyQuorumRule, limits_in, limits_of, ballot_of, inner_votes, said_at, is_win, restores}
 use Rattle.lks_law.specs.Reaction.{for_opening, is_request, may_repair, repaired, on_repair, given_up, on_give_up}
 use Rattle.lks_law.specs.Safe.{Evidence}
 use Rattle.lks_law.proofs.Grown.{contents_more, replaced_if}
@@ -42,9 +42,9 @@ win_is at.Loss e = absurd cc
 win_is at.Split e = absurd cc
 
 evidence_for : (own : Station) (js : List Record) (n b : ℕ) (bytes : List ℕ) (o : Opening) → Kept own js → opening_of n js ≡ Some o → Waits js n b
-    → restores own n o b bytes js ≡ true → Evidence own js n o.au b bytes
+    → ObeyQuorumRule (limits_in own.rules) → restores own n o b bytes js ≡ true → Evidence own.rules own.id js (record { number = n; au = o.au; block = b; bytes = bytes })
 unfolding inner_votes said_at restores
-evidence_for own js n b bytes o kept opened waits win =
+evidence_for own js n b bytes o kept opened waits rule win =
     let good = kept.good n in
     let limits = limits_of own.rules o in
     let copy = contents_of o.au js in
@@ -54,6 +54,7 @@ evidence_for own js n b bytes o kept opened waits win =
       opening = o;
       opened = opened;
       of_au = refl;
+      lawful = (kept.rest.lawful rule).opened n o opened;
       ended = has.0;
       distinct = AllPairs-filter (λ v w. v.voter ≢ w.voter) (λ v. has_member o.inner v.voter) (poll_of n js).votes good.distinct;
       quorum = has.1;
@@ -93,17 +94,12 @@ good_replaced own js n b bytes o kept opened waits k =
 kept_replaced : (own : Station) (js : List Record) (n b : ℕ) (bytes : List ℕ) (o : Opening) → Kept own js → opening_of n js ≡ Some o → Waits js n b
     → restores own n o b bytes js ≡ true → Kept own (js ++ records.Replaced n o.au b bytes ∷ [])
 kept_replaced own js n b bytes o kept opened waits win =
-    let evidence = evidence_for own js n b bytes o kept opened waits win in
     record {
       good = good_replaced own js n b bytes o kept opened waits;
-      rest = rest_after own js (records.Replaced n o.au b bytes) (λ m. refl) refl
-          (evidence_more own js (records.Replaced n o.au b bytes) kept.rest.evidence (λ m au c content is.
-          let number : n ≡ m = cc in
-          let of_au : o.au ≡ au = cc in
-          let block : b ≡ c = cc in
-          let same : bytes ≡ content = cc in
-          subst (λ x. Evidence own js x au c content) number (subst (λ x. Evidence own js n x c content) of_au
-          (subst (λ x. Evidence own js n o.au x content) block (subst (λ x. Evidence own js n o.au b x) same evidence)))))
+      rest = rest_after own js (records.Replaced n o.au b bytes) (λ m. refl) refl tt
+          (λ rule. evidence_more own js (records.Replaced n o.au b bytes) (kept.rest.evidence rule) (λ x is.
+          let same : record { number = n; au = o.au; block = b; bytes = bytes } ≡ x = cc in
+          subst (Evidence own.rules own.id js) same (evidence_for own js n b bytes o kept opened waits rule win)))
           kept.rest;
     }
 

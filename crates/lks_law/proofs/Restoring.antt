@@ -6,10 +6,12 @@ use Rattle.std.proofs.lemmas.Bool.{eq-eqb}
 use Rattle.std.proofs.lemmas.List.{length-take-le}
 use Rattle.std.proofs.lemmas.List.Sums.{sum_by-cons}
 use Rattle.lks_base.specs.Kinds.{is_second}
+use Rattle.lks_base.specs.declared.names.PollName.{PollName}
+use Rattle.lks_base.specs.declared.records.Record.{Record}
 use Rattle.lks_hash.specs.Running.{running, hashes_of}
 use Rattle.lks_hash.proofs.RunningLaws.{hash_at as hash_at_own}
-use Rattle.lks_law.specs.Linked.{Each}
-use Rattle.lks_law.specs.Snapshots.{Collision}
+use Rattle.lks_law.proofs.Linked.{Each}
+use Rattle.lks_law.specs.Snapshots.{Journals, named_version, held_if, holders, Collision, Collides}
 use Rattle.lks_law.proofs.Colliding.{same_or_collide}
 use Rattle.lks_law.proofs.Growing.{each_map}
 use Rattle.lks_law.proofs.Lists.{each_both}
@@ -82,14 +84,14 @@ pub record HeldBy (q : Ballot) (b : ℕ) (good : List (List ℕ)) (Names : Vote 
   pub whole : length version ≡ q.count
   pub front_is : take (b + 1) version ≡ take (b + 1) good
 
-pub record CollidesIn (q : Ballot) (new : List (List ℕ)) (b : ℕ) (good : List (List ℕ)) (Names : Vote → List (List ℕ) → Type 0) (votes : List Vote) (held : Vote → Bool) : Type 0 where
+record CollidesIn (q : Ballot) (new : List (List ℕ)) (b : ℕ) (good : List (List ℕ)) (Names : Vote → List (List ℕ) → Type 0) (votes : List Vote) (held : Vote → Bool) : Type 0 where
   pub vote : Vote
   pub there : list_any (λ (u : Vote). eqb u.voter vote.voter) votes ≡ true
   pub holds : held vote ≡ true
   pub by : HeldBy q b good Names vote
   pub collision : Collision (is_second q.kind) (key_for q vote.voter) (take (b + 1) new) (take (b + 1) by.version)
 
-pub restores_or_collides : (q : Ballot) (votes : List Vote) (new good : List (List ℕ)) (b minority : ℕ) (Names : Vote → List (List ℕ) → Type 0) (held : Vote → Bool) → b < length new → length new ≡ q.count → Each (λ v. held v ≡ true → HeldBy q b good Names v) votes
+restores_or_collides : (q : Ballot) (votes : List Vote) (new good : List (List ℕ)) (b minority : ℕ) (Names : Vote → List (List ℕ) → Type 0) (held : Vote → Bool) → b < length new → length new ≡ q.count → Each (λ v. held v ≡ true → HeldBy q b good Names v) votes
     → against_at q votes new b ≤ minority → minority < length (filter held votes) → (take (b + 1) new ≡ take (b + 1) good) ⊎ CollidesIn q new b good Names votes held
 restores_or_collides q votes new good b minority Names held inside count each few many =
     elim (both_pass (λ v. (held v ≡ true → HeldBy q b good Names v) × (list_any (λ (u : Vote). eqb u.voter v.voter) votes ≡ true)) held (agrees q new b) votes (each_both (λ v. held v ≡ true → HeldBy q b good Names v) _ votes each (each_there votes))) [
@@ -115,3 +117,29 @@ restores_or_collides q votes new good b minority Names held inside count each fe
         let mine = agrees_hash q new b v agreed in
         let equal = some_is (slice_get v.hashes b) (running second key (take (b + 1) new)) (running second key (take (b + 1) x.version)) mine his in
         by_hashes v holds x there (same_or_collide second key (take (b + 1) new) (take (b + 1) x.version) (length-take-le (b + 1) new short_new ∙ sym (length-take-le (b + 1) x.version short)) equal)
+
+-- Of known journals.
+
+-- that the voter's journal is known, and names this version
+pub record Names (journals : Journals) (q : PollName) (v : Vote) (version : List (List ℕ)) : Type 0 where
+  pub journal : List Record
+  pub known : journals v.voter ≡ Some journal
+  pub named_so : named_version q journal ≡ Some version
+
+pub restored : (journals : Journals) (q : Ballot) (votes : List Vote) (new good : List (List ℕ)) (b minority : ℕ) → b < length new → length new ≡ q.count
+    → Each (λ v. held_if q.poll good b (journals v.voter) ≡ true → HeldBy q b good (Names journals q.poll) v) votes → against_at q votes new b ≤ minority
+    → minority < length (holders journals q.poll good b votes) → (take (b + 1) new ≡ take (b + 1) good) ⊎ Collides journals q new b votes
+unfolding holders
+restored journals q votes new good b minority inside count each few many =
+    elim (restores_or_collides q votes new good b minority (Names journals q.poll) (λ v. held_if q.poll good b (journals v.voter)) inside count each few many) [
+      | inl same ↦ inl same
+      | inr found ↦ inr (record {
+        voter = found.vote.voter;
+        voted = found.there;
+        journal = found.by.names.journal;
+        known = found.by.names.known;
+        version = found.by.version;
+        named_so = found.by.names.named_so;
+        collision = found.collision;
+      })
+    ]

@@ -38,7 +38,9 @@ use Rattle.lks_refs.specs.Circles.{circle_of}
 use Rattle.lks_refs.specs.Lists.{IsReferenceList}
 use Rattle.lks_tally.specs.declared.ballots.Verdict.{Verdict}
 use Rattle.lks_tally.specs.declared.ballots.Verdict.TheVariants as verdict
-use Rattle.lks_law.specs.Voting.{named}
+use Rattle.lks_law.specs.Voting.{named, draw_number, nominees}
+use Rattle.lks_base.specs.declared.limits.TheConstants.{MOST_NOMINEES}
+use Rattle.lks_base.specs.declared.names.PollName.{PollName}
 use Rattle.lks_law.proofs.VoterAdds.{IsVoters, VoterAdds, invitation_adds, proof_adds, work_adds, request_adds, end_adds, tune_adds}
 
 -- The reference list.
@@ -73,6 +75,13 @@ inner_pick own n js =
 
 pub few_inner : (own : Station) (n : ℕ) (js : List Record) → length (inner_circle own n js) ≤ own.rules.inner
 few_inner own n js = let pick = inner_pick own n js in omega (arith, pick.count)
+
+pub few_nominees : (own : Station) (refs : List ℕ) (q : PollName) → length (nominees own refs q) ≤ MOST_NOMINEES
+unfolding nominees
+few_nominees own refs q =
+    let d = drawn_from own.seed 5 (draw_number q) in
+    let pick = pick_law (words_of d.key) (word_fits d.key) d.place refs MOST_NOMINEES in
+    omega (arith, pick.count)
 
 pub inner_sample : (own : Station) (n : ℕ) (js : List Record) → IsReferenceList own.id own.refs → IsSample own.id own.rules.inner (inner_circle own n js)
 inner_sample own n js is =

@@ -3,18 +3,17 @@ use Rattle.std.proofs.Common.{◌≡◌, ◌∙◌, ap, sym, subst, ℕ, Bool, t
 use Rattle.std.specs.Prelude.{Option, Some, None, is_some, ◌+◌}
 use Rattle.std.proofs.lemmas.Bool.{eqb-true, and_parts, and_from}
 use Rattle.std.proofs.lemmas.List.{append-nil, append_assoc}
-use Rattle.lks_base.specs.declared.names.Numbers.{Numbers}
 use Rattle.lks_base.specs.declared.names.Outcome.TheVariants.{Agreed}
 use Rattle.lks_base.specs.declared.records.Record.{Record}
 use Rattle.lks_base.specs.declared.records.Record.TheVariants.{Asked, RepairBad, Replaced, Closed}
-use Rattle.lks_law.specs.Journal.{Opening, deposit_of, is_opening, openings, opening_in, opening_of, closes, is_closed, is_running, contents_of, numbers_after, numbers_from, unanswered_after, unanswered}
+use Rattle.lks_law.specs.Journal.{Opening, deposit_of, is_opening, openings, opening_in, opening_of, closes, is_closed, is_running, contents_of, numbers_after, unanswered_after, unanswered}
 use Rattle.lks_law.specs.Polls.{Station, numbers_in_force}
 use Rattle.lks_law.specs.References.{dissenters, joiners, picked_friends, list_agreed, list_with, list_from, reference_list}
 use Rattle.lks_law.specs.State.{settled, State, poll_at, copy_at, blocks_at, refs_agreed, refs_after, leavers, comers, polls_after, copies_after, after, after_all, blank, state_of}
 use Rattle.lks_law.specs.Written.{MayFollow, AreWritten}
 use Rattle.lks_law.proofs.HeldCopies.{copy_of, copies_more, blocks_are}
 use Rattle.lks_law.proofs.RunningPolls.{AreApart, apart_after, poll_as, polls_of, polls_more, running_by, poll_found}
-use Rattle.lks_law.proofs.Grown.{first_opening, opening_more, openings_more, closed_more, unanswered_more}
+use Rattle.lks_law.proofs.Grown.{first_opening, opening_more, openings_more, numbers_last, closed_more, unanswered_more}
 use Rattle.lks_law.proofs.Taken.{Takes, takes_more, takes_none}
 use Rattle.lks_refs.specs.Lists.{list_after}
 
@@ -27,10 +26,6 @@ pub record Stands (own : Station) (js : List Record) (s : State) : Type 0 where
   pub refs : s.refs ≡ reference_list own js
   pub idle : (n : ℕ) → is_some (unanswered n js) ≡ true → is_running n js ≡ true
   pub voter : Takes own.rules js s.voter
-
-numbers_last : (before : Numbers) (js : List Record) (r : Record) → numbers_from before (js ++ r ∷ []) ≡ numbers_after (numbers_from before js) r
-numbers_last before [] r = refl
-numbers_last before (j ∷ js) r = numbers_last (numbers_after before j) js r
 
 count_more : (js : List Record) (r : Record) → openings (js ++ r ∷ []) ≡ cond (is_opening r) (openings js + 1) (openings js)
 count_more js r = openings_more js r ∙ by_test (is_opening r)

@@ -6,9 +6,9 @@ use Rattle.std.proofs.lemmas.Bool.{eqb-true, eq-eqb, and_parts, leb-true, not-tr
 use Rattle.std.proofs.lemmas.List.{append-nil}
 use Rattle.std.proofs.lemmas.List.Folds.{list_any-append}
 use Rattle.lks_base.specs.Checking.{plan_fault, is_within, is_fit, unless, each as each_fault, has_peer, has_corrupt, peer_fault}
-use Rattle.lks_base.specs.Sizes.{is_small_copy, is_small_peer}
 use Rattle.lks_base.specs.declared.plans.PlanFault.TheVariants.{Bounds, Repeat}
-use Rattle.lks_base.proofs.PlanLaws.{no_first, no_second, stands, small_copies, fit_peers, fit_proof, lists_stand, numbered_aus}
+use Rattle.lks_base.proofs.PlanBounds.{sound_copy}
+use Rattle.lks_base.proofs.PlanLaws.{no_first, no_second, stands, fit_peers, fit_proof, lists_stand, numbered_aus}
 use Rattle.lks_base.specs.declared.events.Event.{Event}
 use Rattle.lks_base.specs.declared.events.Event.TheVariants.{Step, Cut, Tick, Lose, Forge, Crash}
 use Rattle.lks_base.specs.declared.plans.AuPlan.{AuPlan}
@@ -17,15 +17,17 @@ use Rattle.lks_base.specs.declared.plans.PeerPlan.{PeerPlan}
 use Rattle.lks_base.specs.declared.plans.Plan.{Plan}
 use Rattle.lks_base.specs.declared.records.Record.{Record}
 use Rattle.lks_base.specs.declared.records.Record.TheVariants.{Deposit}
+use Rattle.lks_law.specs.Fitting.{AreSmall}
 use Rattle.lks_law.specs.Journal.{openings, opening_in}
 use Rattle.lks_law.specs.Sessions.{join_in, commitment_in, hashes_in}
 use Rattle.lks_law.specs.Polls.{Station}
 use Rattle.lks_law.specs.World.{Standing, World, is_honest, station_of, standing_of, deposit_for, deposits, start, peer_at, happens, world}
 use Rattle.lks_law.specs.Histories.{IsHistory, MayHappen, MayAllHappen}
-use Rattle.lks_law.specs.Linked.{Each, Fact}
+use Rattle.lks_law.proofs.Linked.{Each, Fact}
 use Rattle.lks_law.proofs.Doing.{none_open, not_open}
 use Rattle.lks_law.proofs.Growing.{each_append}
 use Rattle.lks_law.proofs.Linking.{AreApart}
+use Rattle.lks_law.proofs.Lists.{each_at, each_from}
 use Rattle.lks_law.proofs.Journals.{AreDeposits, deposits_are, kept_deposits}
 use Rattle.lks_law.proofs.Worlds.{ForgesSo, IsSingle, IsSound, Holds, all_hold}
 
@@ -40,19 +42,27 @@ short_each (a ∷ aus) all =
     let most = leb-true a.id 65535 (and_parts (nat_le 0 a.id) (nat_le a.id 65535) parts.0).1 in
     (omega (arith, most), short_each aus parts.1)
 
-module _ (peers : List Standing) (own : Station) (js : List Record) where
-  held_facts : (au : AuPlan) (copies : List Holding) → IsShortAu au → list_all is_small_copy copies ≡ true → Each (Fact peers own js) (filter_map (deposit_for au) copies)
-  held_facts au [] short small = tt
-  held_facts au (c ∷ cs) short small =
-      let parts = and_parts (is_small_copy c) (list_all is_small_copy cs) small in
-      by_test (eqb c.au au.id) (leb-true (length c.blocks) 512 parts.0) (held_facts au cs short parts.1)
-    where
-      by_test : (b : Bool) → length c.blocks ≤ 512 → Each (Fact peers own js) (filter_map (deposit_for au) cs)
-          → Each (Fact peers own js) (cons_option (cond b (Some (Deposit au.id c.blocks)) None) (filter_map (deposit_for au) cs))
-      by_test true few rest = ((short, few), rest)
-      by_test false few rest = rest
+-- 1 to 512 blocks, none of them too large
+abbrev pub IsSoundCopy : Holding → Type 0
+IsSoundCopy c = (1 ≤ length c.blocks) × (length c.blocks ≤ 512) × AreSmall c.blocks
 
-  deposit_facts : (aus : List AuPlan) (copies : List Holding) → Each IsShortAu aus → list_all is_small_copy copies ≡ true → Each (Fact peers own js) (deposits aus copies)
+abbrev HasSoundCopies : PeerPlan → Type 0
+HasSoundCopies p = Each IsSoundCopy p.copies
+
+all_sound : (plan : Plan) → plan_fault plan ≡ None → Each HasSoundCopies plan.peers
+all_sound plan good = each_at HasSoundCopies plan.peers (λ i p at. each_from IsSoundCopy p.copies (sound_copy plan good i p at))
+
+module _ (peers : List Standing) (own : Station) (js : List Record) where
+  held_facts : (au : AuPlan) (copies : List Holding) → IsShortAu au → Each IsSoundCopy copies → Each (Fact peers own js) (filter_map (deposit_for au) copies)
+  held_facts au [] short small = tt
+  held_facts au (c ∷ cs) short small = by_test (eqb c.au au.id) small.0 (held_facts au cs short small.1)
+    where
+      by_test : (b : Bool) → IsSoundCopy c → Each (Fact peers own js) (filter_map (deposit_for au) cs)
+          → Each (Fact peers own js) (cons_option (cond b (Some (Deposit au.id c.blocks)) None) (filter_map (deposit_for au) cs))
+      by_test true sound rest = ((short, sound.1, sound.2), rest)
+      by_test false sound rest = rest
+
+  deposit_facts : (aus : List AuPlan) (copies : List Holding) → Each IsShortAu aus → Each IsSoundCopy copies → Each (Fact peers own js) (deposits aus copies)
   unfolding deposits
   deposit_facts [] copies short small = tt
   deposit_facts (au ∷ aus) copies short small = each_append (Fact peers own js) (filter_map (deposit_for au) copies) (deposits aus copies) (held_facts au copies short.0 small) (deposit_facts aus copies short.1 small)
@@ -78,7 +88,7 @@ none_twice js all = record {
     none_had has none (r ∷ rs) all = absurd cc
 
 module _ (plan : Plan) (short : Each IsShortAu plan.aus) where
-  sound_start : (peers : List Standing) (p : PeerPlan) → is_fit p ≡ true → is_small_peer p ≡ true → IsSound peers 0 (standing_of plan p)
+  sound_start : (peers : List Standing) (p : PeerPlan) → is_fit p ≡ true → Each IsSoundCopy p.copies → IsSound peers 0 (standing_of plan p)
   unfolding AreDeposits
   sound_start peers p fit small =
       let all = deposits_are plan.aus p.copies in
@@ -92,13 +102,12 @@ module _ (plan : Plan) (short : Each IsShortAu plan.aus) where
         single = none_twice (deposits plan.aus p.copies) all;
       }
 
-  sound_in : (peers : List Standing) (ps : List PeerPlan) → list_all is_fit ps ≡ true → list_all is_small_peer ps ≡ true → (id : ℕ) (s : Standing) → peer_at id (map (standing_of plan) (filter is_honest ps)) ≡ Some s → IsSound peers 0 s
+  sound_in : (peers : List Standing) (ps : List PeerPlan) → list_all is_fit ps ≡ true → Each HasSoundCopies ps → (id : ℕ) (s : Standing) → peer_at id (map (standing_of plan) (filter is_honest ps)) ≡ Some s → IsSound peers 0 s
   unfolding peer_at
   sound_in peers [] fit small id s at = absurd cc
   sound_in peers (p ∷ ps) fit small id s at =
       let fits = and_parts (is_fit p) (list_all is_fit ps) fit in
-      let smalls = and_parts (is_small_peer p) (list_all is_small_peer ps) small in
-      by_tests (is_honest p) (eqb p.id id) refl (sound_start peers p fits.0 smalls.0) (sound_in peers ps fits.1 smalls.1 id s) at
+      by_tests (is_honest p) (eqb p.id id) refl (sound_start peers p fits.0 small.0) (sound_in peers ps fits.1 small.1 id s) at
     where
       rest : List Standing
       rest = map (standing_of plan) (filter is_honest ps)
@@ -212,7 +221,7 @@ all_forge_so plan w (e ∷ es) may = (forges_so plan w e may.0, all_forge_so pla
 start_holds : (plan : Plan) → plan_fault plan ≡ None → Holds (corrupt_in plan) (start plan) 0
 unfolding start has_corrupt
 start_holds plan good = record {
-  linked = record { each = λ id s at. sound_in plan (short_each plan.aus (numbered_aus plan good)) _ plan.peers (fit_peers plan good) (small_copies plan good) id s at; bagged = tt };
+  linked = record { each = λ id s at. sound_in plan (short_each plan.aus (numbered_aus plan good)) _ plan.peers (fit_peers plan good) (all_sound plan good) id s at; bagged = tt };
   outside = λ id is. apart plan plan.aus plan.peers [] plan.peers id (lists_stand plan good).1 is;
   apart = apart_start plan plan.aus plan.peers [] plan.peers (lists_stand plan good).1;
 }

@@ -1,9 +1,11 @@
 -- Journals that were begun before numbers could be tuned: which of their records lack numbers, and what these keep.
 use Rattle.std.proofs.Common.{◌≡◌, ◌+◌, ◌∙◌, ◌⊎◌, inl, inr, ap, sym, subst, ℕ, Bool, true, false, cond, List, [], ◌∷◌, ◌++◌, length, refl}
-use Rattle.std.specs.Prelude.{Option, Some, None, map, not, ◌&&◌}
+use Rattle.std.specs.Prelude.{Option, Some, None, unwrap_or, map, not, ◌&&◌}
 use Rattle.std.specs.List.{filter_map, cons_option}
 use Rattle.lks_base.specs.declared.messages.Message.{Message}
 use Rattle.lks_base.specs.declared.messages.Message.TheVariants as message
+use Rattle.lks_base.specs.declared.names.HashKind.{HashKind}
+use Rattle.lks_base.specs.declared.names.HashKind.TheVariants.{Sha256, Sha512_256}
 use Rattle.lks_base.specs.declared.names.Judged.{Judged}
 use Rattle.lks_base.specs.declared.plans.AuPlan.{AuPlan}
 use Rattle.lks_base.specs.declared.reactions.Input.{Input}
@@ -14,7 +16,7 @@ use Rattle.lks_base.specs.declared.records.Record.TheVariants as records
 use Rattle.lks_hash.specs.Hashes.{nonce_from}
 use Rattle.lks_law.specs.Facts.{AddsFor, limits_left, unnumbered}
 use Rattle.lks_law.specs.Journal.{Opening, Request, opening_of, openings, is_voting, is_widened, unanswered}
-use Rattle.lks_law.specs.Polls.{Station, limits_in_force, verdict_in, candidate, restores}
+use Rattle.lks_law.specs.Polls.{Station, ObeyQuorumRule, limits_in, limits_in_force, verdict_in, candidate, restores}
 use Rattle.lks_law.specs.Reaction.{nothing, for_opening, may_open, opened, on_open, widened, on_widen, is_inquorate, shut_inquorate, shut, on_shut, may_tally, closed, asked, tallied, on_tally, reminded, asked_again, on_nudge, given_up, on_give_up, must_note, overdue_in, on_check, may_prove, proved, on_challenge, may_nominate, nominated, on_nominate, is_accepted, may_vote, counted, on_vote, may_repair, repaired, on_repair}
 use Rattle.lks_law.specs.References.{inner_circle}
 use Rattle.lks_law.specs.Table.{on_message, reaction}
@@ -42,7 +44,7 @@ opening_same None f same = refl
 opening_same (Some x) f same = same x
 
 -- a message to a poller
-abbrev IsPollers : Message → Type 0
+abbrev pub IsPollers : Message → Type 0
 IsPollers (message.PollChallenge n agrees) = Unit {0}
 IsPollers (message.Nominate n nominees) = Unit {0}
 IsPollers (message.Vote n hashes proof) = Unit {0}
@@ -125,11 +127,16 @@ module _ (own : Station) (js : List Record) where
   opens_kept tick au added (inl is) kept = subst (λ (rs : List Record). Kept own (js ++ rs)) (sym is) (kept_on_open own js tick au kept)
   opens_kept tick au added (inr lacks) kept = subst (λ (rs : List Record). Kept own (js ++ rs)) (sym lacks.1) (by_test (may_open own js tick au) refl)
     where
+      by_kind : (kind : HashKind) → ObeyQuorumRule (limits_in own.rules) → ObeyQuorumRule (limits_in_force own.rules js)
+          → ObeyQuorumRule (unwrap_or (limits_left kind (Some (limits_in_force own.rules js))) (limits_in own.rules))
+      by_kind Sha256 rule in_force = rule
+      by_kind Sha512_256 rule in_force = in_force
+
       by_test : (b : Bool) → may_open own js tick au ≡ b → Kept own (js ++ map unnumbered (cond b (opened own js tick au (openings js + 1)) nothing).records)
       by_test true may =
           kept_opened own js (openings js + 1) tick
           (record { au = au; nonce = nonce_from own.seed (openings js + 1); inner = inner_circle own (openings js + 1) js; limits = limits_left own.hash (Some (limits_in_force own.rules js)); kind = own.hash })
-          kept refl (free_of own js tick au may)
+          kept refl (free_of own js tick au may) (by_kind own.hash)
       by_test false may = kept_nothing own js kept
 
   opens_add : (tick au : ℕ) (added : List Record) → IsReferenceList own.id own.refs → AddsFor own js (record { tick = tick; input = input.OpenPoll au }) added → Adds own js added
@@ -142,7 +149,7 @@ module _ (own : Station) (js : List Record) where
       by_test false = tt
 
 -- what a poller does or is told, but for an opening
-abbrev IsOther : Input → Type 0
+abbrev pub IsOther : Input → Type 0
 IsOther (input.Widen n) = Unit {0}
 IsOther (input.Shut n) = Unit {0}
 IsOther (input.Tally n) = Unit {0}
@@ -152,7 +159,7 @@ IsOther input.Check = Unit {0}
 IsOther (input.Got from m judged) = IsPollers m
 IsOther i = ⊥
 
-other_same : (own : Station) (js : List Record) (tick : ℕ) (i : Input) → IsOther i → Same (reaction own js tick i)
+pub other_same : (own : Station) (js : List Record) (tick : ℕ) (i : Input) → IsOther i → Same (reaction own js tick i)
 unfolding reaction on_check
 other_same own js tick (input.Widen n) other = widen_same own js n
 other_same own js tick (input.Shut n) other = shut_same own js tick n
@@ -165,10 +172,10 @@ other_same own js tick i other = absurd other
 
 -- An opening, what a poller does or is told else, or what a voter does or is told.
 
-abbrev Half : Station → List Record → ℕ → Input → Type 0
+abbrev pub Half : Station → List Record → ℕ → Input → Type 0
 Half own js tick i = ((au : ℕ) × (i ≡ input.OpenPoll au)) ⊎ IsOther i ⊎ VoterAdds js (reaction own js tick i).records
 
-half : (own : Station) (js : List Record) (tick : ℕ) (i : Input) → Half own js tick i
+pub half : (own : Station) (js : List Record) (tick : ℕ) (i : Input) → Half own js tick i
 unfolding reaction
 half own js tick (input.OpenPoll au) = inl (au, refl)
 half own js tick (input.Widen n) = inr (inl tt)

@@ -1,8 +1,10 @@
 -- What a voter adds: nothing, or one record of its part in a poll, or of its numbers, which may follow the journal.
 use Rattle.std.proofs.Common.{◌≡◌, ap, ℕ, Bool, true, false, cond, not, List, [], ◌∷◌, length, refl}
-use Rattle.std.specs.Prelude.{Option, Some, None, is_some, option_map, map, ◌&&◌, nat_lt, slice_get}
+use Rattle.std.specs.Prelude.{Option, Some, None, is_some, option_map, map, ◌&&◌, nat_lt, nat_le, slice_get}
 use Rattle.std.proofs.lemmas.Bool.{and_parts, and_from}
 use Rattle.lks_base.specs.Checking.{has_member}
+use Rattle.lks_base.specs.Quorums.{obeys_quorum_rule}
+use Rattle.lks_base.specs.declared.limits.TheConstants.{MOST_REPAIRS}
 use Rattle.lks_base.specs.declared.messages.Message.TheVariants as message
 use Rattle.lks_base.specs.declared.names.HashKind.{HashKind}
 use Rattle.lks_base.specs.declared.names.Judged.{Judged}
@@ -20,14 +22,14 @@ use Rattle.lks_law.specs.Sessions.{Join, Commitment, join_of, commitment_of, has
 use Rattle.lks_law.specs.Voting.{answers, challenge, may_join, joined, on_invitation, repeats, commits, proved_to, on_proof, worked, on_work, most_served, serves, requested, on_request, on_end, may_tune, on_tune}
 use Rattle.lks_law.specs.Written.{MayFollow}
 
--- whether the record is of the peer's part in a poll, or of its numbers
+-- whether the record is of the peer's part in a poll, or of its numbers, which obey the quorum rule
 abbrev pub IsVoters : Record → Type 0
 IsVoters (records.Joined poll au tick low repairs) = Unit {0}
 IsVoters (records.Committed poll nonce version kind) = Unit {0}
 IsVoters (records.Voted poll hashes) = Unit {0}
 IsVoters (records.Served poll block) = Unit {0}
 IsVoters (records.Ended poll) = Unit {0}
-IsVoters (records.Tuned quorum minority repairs) = Unit {0}
+IsVoters (records.Tuned quorum minority repairs) = obeys_quorum_rule quorum minority ≡ true
 IsVoters r = ⊥
 
 pub record VoterMay (js : List Record) (r : Record) : Type 0 where
@@ -132,5 +134,7 @@ module _ (own : Station) (js : List Record) where
   end_adds q = if_adds (is_session q js) _ (λ runs. record { voters = tt; follows = runs })
 
   pub tune_adds : (quorum minority repairs : ℕ) → VoterAdds js (on_tune own quorum minority repairs).records
-  unfolding on_tune
-  tune_adds quorum minority repairs = if_adds (may_tune own.rules quorum minority repairs) _ (λ may. record { voters = tt; follows = tt })
+  unfolding on_tune may_tune
+  tune_adds quorum minority repairs = if_adds (may_tune own.rules quorum minority repairs) _ (λ may.
+      let some = and_parts (nat_le 1 quorum && nat_le quorum own.rules.inner && obeys_quorum_rule quorum minority) (nat_le repairs MOST_REPAIRS) may in
+      record { voters = (and_parts (nat_le 1 quorum && nat_le quorum own.rules.inner) (obeys_quorum_rule quorum minority) some.0).1; follows = tt })

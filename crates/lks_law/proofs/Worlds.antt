@@ -28,12 +28,12 @@ use Rattle.lks_law.proofs.Keyed.{same_poll}
 use Rattle.lks_law.specs.Polls.{Station}
 use Rattle.lks_law.specs.World.{Standing, World, Deed, got, delivered, own_deed_of, deed_of, peer_at, with_records, sent_by, reaction_at, peers_after, sent, after_step, happens, happen_all}
 use Rattle.lks_law.specs.Table.{reaction}
-use Rattle.lks_law.specs.Linked.{Each, Any, Heard, IsFrom, Fact}
+use Rattle.lks_law.proofs.Linked.{Each, Any, Heard, IsSpelling, IsFrom, Fact}
 use Rattle.lks_law.proofs.Growing.{opening_first, each_append, each_map, IsLater, openings_grow, IsBegun, begun_more}
-use Rattle.lks_law.proofs.Linking.{GrowsTo, Grows, heard_grows, fact_grows, at_own, extended, at_after, peers_grow, AreApart, apart_after}
+use Rattle.lks_law.proofs.Linking.{GrowsTo, Grows, any_grows, heard_grows, fact_grows, at_own, extended, at_after, peers_grow, AreApart, apart_after}
 use Rattle.lks_law.proofs.Kept.{Kept}
 use Rattle.lks_law.proofs.Journals.{kept_reaction}
-use Rattle.lks_law.proofs.Letters.{Sends}
+use Rattle.lks_law.proofs.Letters.{Sends, reads_so, is_spelling}
 use Rattle.lks_law.proofs.Doing.{MayAdd, IsCommon, Does, does_all}
 
 -- forged bytes are bytes of a corrupt peer
@@ -212,7 +212,10 @@ sound_grown peers later k s r g is does kept =
     }
 
 from_later : (peers later : List Standing) (bag : List Envelope) → Grows peers later → Each (IsFrom peers) bag → Each (IsFrom later) bag
-from_later peers later bag g all = each_map (IsFrom peers) (IsFrom later) bag (λ e from m reads. heard_grows (peer_at e.from peers) (peer_at e.from later) e.to m (g e.from) (from m reads)) all
+from_later peers later bag g all = each_map (IsFrom peers) (IsFrom later) bag (λ e from. record {
+  heard = λ m reads. heard_grows (peer_at e.from peers) (peer_at e.from later) e.to m (g e.from) (from.heard m reads);
+  spelled = any_grows (λ s. IsSpelling e.bytes) (λ s. IsSpelling e.bytes) (peer_at e.from peers) (peer_at e.from later) (g e.from) (λ s t more is. is) from.spelled;
+}) all
 
 record Stepped (peers later : List Standing) (sent : List Envelope) (k : ℕ) : Type 0 where
   grows : Grows peers later
@@ -243,7 +246,13 @@ module _ (peers : List Standing) (k tick : ℕ) (each : (id : ℕ) (s : Standing
 
       sent_from : (later : List Standing) (t : Standing) → peer_at d.peer later ≡ Some t → (sends : List Outgoing) → Each (Sends t.journal) sends → Each (IsFrom later) (map (sent_by d.peer) sends)
       sent_from later t at [] all = tt
-      sent_from later t at (o ∷ os) all = ((λ m reads. subst (λ x. Heard x o.to m) (sym at) (all.0 m reads)), sent_from later t at os all.1)
+      sent_from later t at (o ∷ os) all = (
+        record {
+          heard = λ m reads. subst (λ x. Heard x o.to m) (sym at) (reads_so t.journal o all.0 m reads);
+          spelled = subst (Any (λ (s : Standing). IsSpelling o.bytes)) (sym at) (is_spelling t.journal o all.0);
+        },
+        sent_from later t at os all.1,
+      )
 
       by_actor : (a : Option Standing) → peer_at d.peer peers ≡ a → Stepped peers (with_records d.peer (reaction_at tick a d.input).records peers) (map (sent_by d.peer) (reaction_at tick a d.input).sends) k
       by_actor None none =
@@ -298,7 +307,7 @@ given_known peers judged None from = tt
 given_known peers judged (Some e) from = by_message (decode_of e.bytes) refl
   where
     by_message : (r : Result Message MsgFault) → decode_of e.bytes ≡ r → Any (KnownDeed peers) (got e judged (elim r [ Ok m ↦ Some m | Err fault ↦ None ]))
-    by_message (Ok m) reads = from m reads
+    by_message (Ok m) reads = from.heard m reads
     by_message (Err fault) reads = tt
 
 deed_known : (peers : List Standing) (bag : List Envelope) (s : PeerStep) → Each (IsFrom peers) bag → Any (KnownDeed peers) (deed_of bag s)
@@ -370,6 +379,12 @@ module _ (corrupt : ℕ → Bool) where
     apart = holds.apart;
   }
 
+  forged : {peers : List Standing} (from to : ℕ) (bytes : List ℕ) → ForgesSo corrupt (Forge from to bytes) → peer_at from peers ≡ None → IsFrom peers (record { from = from; to = to; bytes = bytes })
+  forged from to bytes asks nobody = record {
+    heard = λ m reads. subst (λ o. Heard o to m) (sym nobody) ((read_spells bytes m asks.1 reads).0, tt);
+    spelled = subst (Any (λ (s : Standing). IsSpelling bytes)) (sym nobody) tt;
+  }
+
   happens_holds : (w : World) (k : ℕ) (e : Event) → ForgesSo corrupt e → HasRoom k → Holds corrupt w k → Holds corrupt (happens w e) (k + 1)
   unfolding happens
   happens_holds w k (Step s) asks room holds = step_holds w k s true room holds
@@ -383,7 +398,7 @@ module _ (corrupt : ℕ → Bool) where
       record {
         linked = record {
           each = still.linked.each;
-          bagged = each_append (IsFrom w.peers) w.bag _ still.linked.bagged ((λ m reads. subst (λ o. Heard o to m) (sym (holds.outside from asks.0)) (read_spells bytes m asks.1 reads).0), tt);
+          bagged = each_append (IsFrom w.peers) w.bag _ still.linked.bagged (forged from to bytes asks (holds.outside from asks.0), tt);
         };
         outside = still.outside;
         apart = still.apart;

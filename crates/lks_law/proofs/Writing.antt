@@ -411,8 +411,11 @@ proper_journal own aus copies (h ∷ hs) js (before, added, goes, heard, adds, i
     let proper = proper_journal own aus copies hs before goes in
     subst Proper (sym is) (proper_all before added proper (added_may own before h added (reaction_may own before h.tick h.input proper) adds))
 
+pub written_by : (own : Station) (aus : List AuPlan) (copies : List Holding) (heard : List Heard) (js : List Record) → GoesBy own (deposits aus copies) heard js → AreWritten [] js
+written_by own aus copies heard js goes = (proper_journal own aus copies heard js goes).written
+
 pub written_of : (own : Station) (aus : List AuPlan) (copies : List Holding) (tick : ℕ) (js : List Record) → IsJournalOf own (deposits aus copies) tick js → AreWritten [] js
-written_of own aus copies tick js is = (proper_journal own aus copies is.heard js is.made).written
+written_of own aus copies tick js is = written_by own aus copies is.heard js is.made
 
 pub written_in : (plan : Plan) (history : List Event) (place : ℕ) (s : Standing) → slice_get (world plan history).peers place ≡ Some s → AreWritten [] s.journal
 written_in plan history place s at = by_peer (world plan history).tick _ ((journals_are_own plan history).each place s at)

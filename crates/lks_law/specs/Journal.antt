@@ -1,5 +1,5 @@
 -- What a journal, the list of a peer's records, says of its AUs and polls.
-use Rattle.std.specs.Prelude.{ℕ, Bool, true, false, ◌==◌, ◌-◌, ◌&&◌, nat_lt, not, if◌then◌else◌, Option, Some, None, is_some, unwrap_or, option_map, option_and_then, List, [], ◌∷◌, ◌++◌, slice_set, take, count_by}
+use Rattle.std.specs.Prelude.{◌≡◌, ℕ, Bool, true, false, ◌==◌, ◌-◌, ◌&&◌, nat_lt, not, if◌then◌else◌, Option, Some, None, is_some, unwrap_or, option_map, option_and_then, List, [], ◌∷◌, ◌++◌, slice_get, slice_set, take, count_by}
 use Rattle.std.specs.List.{list_any, filter_map}
 use Rattle.std.specs.Option.{option_map_or}
 use Rattle.lks_base.specs.declared.names.HashKind.{HashKind}
@@ -246,6 +246,14 @@ contents_at au version journal = replaced_by (unwrap_or (deposit_of au journal) 
 -- its contents with all replacements made
 unfoldable pub contents_of : ℕ → List Record → List (List ℕ)
 contents_of au journal = replaced_by (unwrap_or (deposit_of au journal) []) (replacements au journal)
+
+-- of each block that a record of the journal replaces, and of the journal before it, this is true
+abbrev pub EachRepair : (List Record → Repair → Type 0) → List Record → Type 0
+EachRepair Is journal = (i : ℕ) (r : Record) (repair : Repair) → slice_get journal i ≡ Some r → (said r).replaced ≡ Some repair → Is (take i journal) repair
+
+-- the copy with the block replaced
+abbrev pub with_repair : List Record → Repair → List (List ℕ)
+with_repair journal r = slice_set (contents_of r.au journal) r.block r.bytes
 
 -- Polls.
 

@@ -1,14 +1,15 @@
 -- The votes of a peer's own polls, and their verdicts.
-use Rattle.std.specs.Prelude.{ℕ, Bool, true, false, Option, unwrap_or, List, length, filter, find, not, slice_set}
+use Rattle.std.specs.Prelude.{◌≡◌, ℕ, Bool, true, false, Option, unwrap_or, List, length, filter, find, not, slice_set}
 use Rattle.std.specs.List.{filter_map}
 use Rattle.lks_base.specs.Checking.{has_member}
+use Rattle.lks_base.specs.Quorums.{obeys_quorum_rule}
 use Rattle.lks_base.specs.declared.names.HashKind.{HashKind}
 use Rattle.lks_base.specs.declared.names.Limits.{Limits}
 use Rattle.lks_base.specs.declared.names.Numbers.{Numbers}
 use Rattle.lks_base.specs.declared.plans.AuPlan.{AuPlan}
 use Rattle.lks_base.specs.declared.plans.Rules.{Rules}
 use Rattle.lks_base.specs.declared.records.Record.{Record}
-use Rattle.lks_law.specs.Journal.{Opening, vote_in, outer_of, contents_of, was_asked, numbers_from}
+use Rattle.lks_law.specs.Journal.{Opening, Repair, vote_in, outer_of, contents_of, was_asked, numbers_from}
 use Rattle.lks_tally.specs.declared.ballots.At.{At}
 use Rattle.lks_tally.specs.declared.ballots.At.TheVariants.{Win, Loss, Split}
 use Rattle.lks_tally.specs.declared.ballots.Ballot.{Ballot}
@@ -38,9 +39,17 @@ limits_in_force rules journal =
     let numbers = numbers_in_force rules journal in
     record { quorum = numbers.quorum; minority = numbers.minority }
 
+-- the rules' own
+abbrev pub limits_in : Rules → Limits
+limits_in rules = record { quorum = rules.quorum; minority = rules.minority }
+
 -- the numbers that a poll keeps, or the rules' where it keeps none
 abbrev pub limits_of : Rules → Opening → Limits
-limits_of rules opening = unwrap_or opening.limits (record { quorum = rules.quorum; minority = rules.minority })
+limits_of rules opening = unwrap_or opening.limits (limits_in rules)
+
+-- no votes are a landslide both ways
+abbrev pub ObeyQuorumRule : Limits → Type 0
+ObeyQuorumRule limits = obeys_quorum_rule limits.quorum limits.minority ≡ true
 
 -- all votes of poll n, in order
 unfoldable pub votes : ℕ → List Record → List Vote
@@ -54,10 +63,22 @@ inner_votes n inner journal = filter (λ v. has_member inner v.voter) (votes n j
 unfoldable pub is_invited : ℕ → ℕ → List ℕ → List Record → Bool
 is_invited v n inner journal = poll.is_invited inner (outer_of n journal) v
 
--- what the votes of poll n are about
+-- what the votes of a poller's poll n are about
+abbrev pub ballot_for : ℕ → ℕ → Opening → ℕ → Ballot
+ballot_for poller n opening count =
+    record { poll = record { poller = poller; number = n }; au = opening.au; kind = opening.kind; nonce = opening.nonce; count = count }
+
+-- and those of the peer's own
 abbrev pub ballot_of : Station → ℕ → Opening → ℕ → Ballot
-ballot_of own n opening count =
-    record { poll = record { poller = own.id; number = n }; au = opening.au; kind = opening.kind; nonce = opening.nonce; count = count }
+ballot_of own n opening count = ballot_for own.id n opening count
+
+-- the votes that replaced a block, and what they are about
+
+abbrev pub votes_behind : List Record → Repair → Opening → List Vote
+votes_behind journal r opening = inner_votes r.number opening.inner journal
+
+abbrev pub ballot_behind : ℕ → List Record → Repair → Opening → Ballot
+ballot_behind poller journal r opening = ballot_for poller r.number opening (length (contents_of r.au journal))
 
 -- the verdict of the inner votes of poll n on the peer's copy as it is now
 unfoldable pub verdict_in : Station → ℕ → Opening → List Record → Verdict

@@ -1,21 +1,22 @@
 -- What stands behind the votes and replaced blocks of all honest peers together.
-use Rattle.std.specs.Prelude.{◌≡◌, ◌≢◌, ◌≤◌, ◌<◌, ◌==◌, ◌+◌, ℕ, Bool, true, false, ◌⊎◌, Option, Some, None, Ok, List, ◌++◌, length, take, filter, slice_get, slice_set}
+use Rattle.std.specs.Prelude.{◌≡◌, ◌≢◌, ◌≤◌, ◌<◌, ◌==◌, ◌+◌, ℕ, Bool, true, false, ◌⊎◌, Option, Some, None, Ok, option_map, List, ◌++◌, length, take, filter, slice_get}
 use Rattle.std.specs.List.{list_any, filter_map}
 use Rattle.std.specs.Cmp.Lexicographic.{pointwise}
 use Rattle.lks_base.specs.Kinds.{is_second}
 use Rattle.lks_base.specs.declared.events.Envelope.{Envelope}
 use Rattle.lks_base.specs.declared.messages.Message.TheVariants as message
 use Rattle.lks_base.specs.declared.names.PollName.{PollName}
+use Rattle.lks_base.specs.declared.plans.Rules.{Rules}
 use Rattle.lks_base.specs.declared.records.Record.{Record}
-use Rattle.lks_base.specs.declared.records.Record.TheVariants.{Replaced}
 use Rattle.lks_hash.specs.Hashes.{hash_of}
 use Rattle.lks_hash.specs.Running.{running}
-use Rattle.lks_law.specs.Journal.{Opening, contents_at, contents_of, opening_of}
-use Rattle.lks_law.specs.Polls.{Station, limits_of, ballot_of, inner_votes}
+use Rattle.lks_law.specs.Journal.{Opening, Repair, EachRepair, with_repair, contents_at, contents_of, opening_of}
+use Rattle.lks_law.specs.Polls.{limits_of, votes_behind, ballot_behind}
 use Rattle.lks_law.specs.Sessions.{Join, Commitment, join_in, join_of, commitment_in, commitment_of, version_now}
 use Rattle.lks_law.specs.Voting.{named, vote_hashes}
 use Rattle.lks_law.specs.World.{Standing, World, peer_at}
 use Rattle.lks_message.specs.Reading.{decode_of}
+use Rattle.lks_tally.specs.declared.ballots.Ballot.{Ballot}
 use Rattle.lks_tally.specs.declared.ballots.Vote.{Vote}
 use Rattle.lks_tally.specs.Counting.{key_for}
 
@@ -49,19 +50,31 @@ abbrev pub is_front : List (List ℕ) → ℕ → Option (List (List ℕ)) → B
 is_front blocks b None = false
 is_front blocks b (Some version) = pointwise (pointwise ◌==◌) (take (b + 1) version) (take (b + 1) blocks)
 
-abbrev pub held_it : PollName → List (List ℕ) → ℕ → Option Standing → Bool
-held_it q blocks b None = false
-held_it q blocks b (Some s) = is_front blocks b (named_version q s.journal)
+-- the journals that are known, by peer
+abbrev pub Journals : Type 0
+Journals = ℕ → Option (List Record)
 
--- the votes of honest peers whose version was these blocks up to block b
-unfoldable pub holders : List Standing → PollName → List (List ℕ) → ℕ → List Vote → List Vote
-holders peers q blocks b votes = filter (λ v. held_it q blocks b (peer_at v.voter peers)) votes
+-- those of these peers
+abbrev pub journals_of : List Standing → Journals
+journals_of peers id = option_map (λ (s : Standing). s.journal) (peer_at id peers)
 
--- at most a minority held what was replaced
+abbrev pub held_if : PollName → List (List ℕ) → ℕ → Option (List Record) → Bool
+held_if q blocks b None = false
+held_if q blocks b (Some journal) = is_front blocks b (named_version q journal)
+
+-- the votes of those whose version is known to have been these blocks up to block b
+unfoldable pub holders : Journals → PollName → List (List ℕ) → ℕ → List Vote → List Vote
+holders journals q blocks b votes = filter (λ v. held_if q blocks b (journals v.voter)) votes
+
+-- of the votes behind a replaced block at most a minority is of those who held it and all blocks before it
+abbrev pub FewHeld : Journals → Rules → ℕ → List Record → Repair → Type 0
+FewHeld journals rules poller before r =
+    (o : Opening) → opening_of r.number before ≡ Some o
+    → length (holders journals (named poller r.number) (contents_of r.au before) r.block (votes_behind before r o)) ≤ (limits_of rules o).minority
+
+-- so it is of each, where the journals of honest peers are known
 abbrev pub HasFewHolders : World → Standing → Type 0
-HasFewHolders w s =
-    (i n au b : ℕ) (bytes : List ℕ) (o : Opening) → slice_get s.journal i ≡ Some (Replaced n au b bytes) → opening_of n (take i s.journal) ≡ Some o
-    → length (holders w.peers (named s.own.id n) (contents_of au (take i s.journal)) b (inner_votes n o.inner (take i s.journal))) ≤ (limits_of s.own.rules o).minority
+HasFewHolders w s = EachRepair (FewHeld (journals_of w.peers) s.own.rules s.own.id) s.journal
 
 -- Collisions.
 
@@ -81,20 +94,25 @@ pub record Collision (second : Bool) (key : List ℕ) (one other : List (List �
   pub differ : text ≢ twin
   pub same : hash_of second text ≡ hash_of second twin
 
--- a collision under the key of an honest voter of the poll, between the blocks up to b and the version that the voter named
-pub record Collides (peers : List Standing) (own : Station) (n : ℕ) (o : Opening) (blocks : List (List ℕ)) (b : ℕ) (votes : List Vote) : Type 0 where
+-- a collision under the key of a voter of the poll, between the blocks up to b and the version that the voter's journal names
+pub record Collides (journals : Journals) (q : Ballot) (blocks : List (List ℕ)) (b : ℕ) (votes : List Vote) : Type 0 where
   pub voter : ℕ
   pub voted : list_any (λ v. v.voter == voter) votes ≡ true
-  pub standing : Standing
-  pub honest : peer_at voter peers ≡ Some standing
+  pub journal : List Record
+  pub known : journals voter ≡ Some journal
   pub version : List (List ℕ)
-  pub named_so : named_version (named own.id n) standing.journal ≡ Some version
-  pub collision : Collision (is_second o.kind) (key_for (ballot_of own n o (length blocks)) voter) (take (b + 1) blocks) (take (b + 1) version)
+  pub named_so : named_version q.poll journal ≡ Some version
+  pub collision : Collision (is_second q.kind) (key_for q voter) (take (b + 1) blocks) (take (b + 1) version)
 
--- where more than a minority of honest voters held these blocks up to b, the replacement restores them, or there is a collision
+-- where more than a minority of the votes behind a replaced block is of those who held these blocks up to there, it restores them,
+-- or there is a collision
+abbrev pub Restores : Journals → Rules → ℕ → List Record → Repair → Type 0
+Restores journals rules poller before r =
+    (o : Opening) (good : List (List ℕ)) → opening_of r.number before ≡ Some o
+    → (limits_of rules o).minority < length (holders journals (named poller r.number) good r.block (votes_behind before r o))
+    → (take (r.block + 1) (with_repair before r) ≡ take (r.block + 1) good)
+    ⊎ Collides journals (ballot_behind poller before r o) (with_repair before r) r.block (votes_behind before r o)
+
+-- so it is of each, where the journals of honest peers are known
 abbrev pub IsRestored : World → Standing → Type 0
-IsRestored w s =
-    (i n au b : ℕ) (bytes : List ℕ) (o : Opening) (good : List (List ℕ)) → slice_get s.journal i ≡ Some (Replaced n au b bytes) → opening_of n (take i s.journal) ≡ Some o
-    → (limits_of s.own.rules o).minority < length (holders w.peers (named s.own.id n) good b (inner_votes n o.inner (take i s.journal)))
-    → (take (b + 1) (slice_set (contents_of au (take i s.journal)) b bytes) ≡ take (b + 1) good)
-    ⊎ Collides w.peers s.own n o (slice_set (contents_of au (take i s.journal)) b bytes) b (inner_votes n o.inner (take i s.journal))
+IsRestored w s = EachRepair (Restores (journals_of w.peers) s.own.rules s.own.id) s.journal

@@ -9,28 +9,31 @@ ghost use Rattle.lks_base.specs.declared.events.Event.{Event};
 ghost use Rattle.lks_base.specs.declared.limits.TheConstants.{MOST_CIRCLE, MOST_EVENTS};
 ghost use Rattle.lks_base.specs.declared.plans.AuPlan.{AuPlan};
 ghost use Rattle.lks_base.specs.declared.plans.Holding.{Holding};
+ghost use Rattle.lks_base.specs.declared.plans.PeerPlan.{PeerPlan};
 ghost use Rattle.lks_base.specs.declared.plans.Plan.{Plan};
+ghost use Rattle.lks_base.specs.declared.plans.Rules.{Rules};
 ghost use Rattle.lks_base.specs.declared.reactions.Input.{Input};
 ghost use Rattle.lks_base.specs.declared.records.Record.{Record};
 ghost use Rattle.lks_law.specs.Alarms.{alarms_by, alarms};
 ghost use Rattle.lks_law.specs.Batches.{together, journal_at, batches_at};
-ghost use Rattle.lks_law.specs.Broken.{with_one_vote, with_one_voter, with_later_votes, with_no_envelope};
+ghost use Rattle.lks_law.specs.Broken.{with_lax_numbers, with_one_vote, with_one_voter, with_later_votes, with_strange_vote, with_strange_bytes, with_no_envelope};
 ghost use Rattle.lks_law.specs.Circles.{Samples};
 ghost use Rattle.lks_law.specs.Due.{next_to_finish, ready_at, turns_at};
 ghost use Rattle.lks_law.specs.Entries.{entries, is_inner};
 ghost use Rattle.lks_law.specs.Facts.{IsHeard, IsJournalOf, HaveJournals, HasPolls};
-ghost use Rattle.lks_law.specs.Fitting.{Fits, AreFitting, IsSound, has_room};
+ghost use Rattle.lks_law.specs.Fitting.{Fits, AreFitting, IsSound, has_room, most_numbered};
 ghost use Rattle.lks_law.specs.Histories.{MayHappen, IsHistory};
 ghost use Rattle.lks_law.specs.Journal.{Opening, opening_of, openings, opened_numbers, is_running};
-ghost use Rattle.lks_law.specs.Polls.{Station, verdict_in};
+ghost use Rattle.lks_law.specs.Linked.{AreLinked};
+ghost use Rattle.lks_law.specs.Polls.{Station, ObeyQuorumRule, limits_in, verdict_in};
 ghost use Rattle.lks_law.specs.Questions.{Verdicts, asked_by, questions, event_of};
 ghost use Rattle.lks_law.specs.Reaction.{may_tally};
 ghost use Rattle.lks_law.specs.Safe.{HasEvidence, Safe};
 ghost use Rattle.lks_law.specs.Snapshots.{IsRestored};
-ghost use Rattle.lks_law.specs.State.{State, after, state_of};
+ghost use Rattle.lks_law.specs.State.{State, after, blank, state_of};
 ghost use Rattle.lks_law.specs.Table.{react_on, reaction};
 ghost use Rattle.lks_law.specs.Turning.{ready_on, turns_on, has_inner_in};
-ghost use Rattle.lks_law.specs.World.{Standing, deposits, world};
+ghost use Rattle.lks_law.specs.World.{Standing, station_of, deposits, honest_peer, world};
 ghost use Rattle.lks_law.specs.Written.{AreWritten};
 ghost use Rattle.lks_tally.specs.declared.ballots.Verdict.{Verdict};
 
@@ -87,20 +90,26 @@ pub fn every_event_asks_and_raises_its_own()
     ensures raises { (plan : Plan) (history : List Event) (e : Event) → alarms plan (history ++ e ∷ []) ≡ alarms plan history ++ alarms_by (world plan history) e }
 {}
 
-/// The definitions can be broken: a block that was replaced with a vote too few, by one voter's two votes, or before the
-/// votes came has no evidence, and a list in which an envelope comes that nobody sent is no history.
+/// The definitions can be broken: a block that was replaced with a vote too few, by votes that may be a landslide both
+/// ways, by one voter's two votes, or before the votes came has no evidence. Peers don't agree where one counts a vote that
+/// an honest voter didn't vote, or sends bytes that spell no message. And a list in which an envelope comes that nobody sent
+/// is no history.
 pub fn rules_can_be_broken()
-    ensures few { (own : Station) (au b : ℕ) (bytes : List ℕ) → HasEvidence own (with_one_vote au b bytes) → ⊥ }
-    ensures twice { (own : Station) (au b : ℕ) (bytes : List ℕ) → HasEvidence own (with_one_voter au b bytes) → ⊥ }
-    ensures later { (own : Station) (au b : ℕ) (bytes : List ℕ) → HasEvidence own (with_later_votes au b bytes) → ⊥ }
+    ensures few { (rules : Rules) (poller au b : ℕ) (bytes : List ℕ) → HasEvidence rules poller (with_one_vote au b bytes) → ⊥ }
+    ensures lax { (rules : Rules) (poller au b : ℕ) (bytes : List ℕ) → HasEvidence rules poller (with_lax_numbers au b bytes) → ⊥ }
+    ensures twice { (rules : Rules) (poller au b : ℕ) (bytes : List ℕ) → HasEvidence rules poller (with_one_voter au b bytes) → ⊥ }
+    ensures later { (rules : Rules) (poller au b : ℕ) (bytes : List ℕ) → HasEvidence rules poller (with_later_votes au b bytes) → ⊥ }
+    ensures uncast { (rules : Rules) (hashes : List (List ℕ)) → AreLinked (with_strange_vote rules hashes) → ⊥ }
+    ensures unread { (rules : Rules) → AreLinked (with_strange_bytes rules) → ⊥ }
     ensures unsent { (plan : Plan) → IsHistory plan with_no_envelope → ⊥ }
 {}
 
 /// Each replaced block of each honest peer's journal has its evidence: at least a quorum of votes by distinct
 /// invited inner peers of one poll, at most a minority of them for the old block and at most a minority against
-/// the new one. So it is of every plan and of every list of events, whether or not they may happen.
+/// the new one, where no votes are a landslide both ways. So it is of every plan whose own numbers obey this rule, and
+/// of every list of events, whether or not they may happen.
 pub fn every_replacement_has_evidence()
-    ensures { (plan : Plan) (history : List Event) (place : ℕ) (s : Standing) → slice_get (world plan history).peers place ≡ Some s → HasEvidence s.own s.journal }
+    ensures { (plan : Plan) (history : List Event) (place : ℕ) (s : Standing) → ObeyQuorumRule (limits_in plan.rules) → slice_get (world plan history).peers place ≡ Some s → HasEvidence s.own.rules s.own.id s.journal }
 {}
 
 /// Every history of a plan that breaks no rule is safe, with any number of honest peers. Each replaced block has its evidence.
@@ -109,6 +118,14 @@ pub fn every_replacement_has_evidence()
 /// minority is of honest peers that held that block and all before it.
 pub fn every_history_is_safe()
     ensures { (plan : Plan) (history : List Event) → plan_fault plan ≡ None → IsHistory plan history → Safe plan history }
+{}
+
+/// In every history of a plan that breaks no rule the journals and the envelopes of different peers agree. Each envelope of
+/// an honest peer spells a message, and what this says of a poll is in its sender's journal. A peer joins, commits and votes
+/// once in a poll of another: on its AU, under its nonce and kind of hash, and over the version to which it committed. And
+/// each vote that an honest peer counts for an honest voter is the one which that one voted.
+pub fn every_peer_agrees_with_the_others()
+    ensures { (plan : Plan) (history : List Event) → plan_fault plan ≡ None → IsHistory plan history → AreLinked (world plan history) }
 {}
 
 /// Where more than a minority of the votes behind a replaced block is of honest peers that held some blocks up to there, the
@@ -139,6 +156,13 @@ pub fn every_turn_is_of_a_running_poll()
 pub fn whatever_is_added_fits()
     ensures adds { (own : Station) (s : State) → own.rules.inner ≤ MOST_CIRCLE → has_room s ≡ true → IsSound s → (tick : ℕ) (i : Input) → IsHeard i → AreFitting own s (react_on own s tick i).records }
     ensures keeps { (own : Station) (s : State) (r : Record) → Fits own s r → IsSound s → IsSound (after own s r) }
+{}
+
+/// Each journal of an honest peer of a plan that breaks no rule, with its numbers or without, fits record by record, while it is
+/// short enough that each thing in it can be numbered.
+pub fn every_journal_fits()
+    ensures { (plan : Plan) (id : ℕ) (p : PeerPlan) → plan_fault plan ≡ None → honest_peer id plan ≡ Some p → (tick : ℕ) (journal : List Record) → length journal < most_numbered
+        → IsJournalOf (station_of plan p) (deposits plan.aus p.copies) tick journal → AreFitting (station_of plan p) (blank (station_of plan p)) journal }
 {}
 
 /// Each journal that the rules make is written so, with its numbers or without, and so is that of each honest peer of a world.

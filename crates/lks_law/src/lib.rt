@@ -10,9 +10,10 @@ mod laws;
 
 pub use laws::{
     every_circle_is_a_sample, every_event_asks_and_raises_its_own, every_event_has_its_entry,
-    every_history_goes_on, every_history_is_safe, every_journal_is_its_batches,
-    every_journal_is_its_peers_own, every_journal_is_written, every_poll_keeps_its_state,
-    every_replacement_has_evidence, every_replacement_restores, every_state_stands_for_its_journal,
-    every_tally_has_its_quorum, every_turn_is_of_a_running_poll, rules_can_be_broken,
-    whatever_is_added_fits, whatever_is_due_may_happen,
+    every_history_goes_on, every_history_is_safe, every_journal_fits, every_journal_is_its_batches,
+    every_journal_is_its_peers_own, every_journal_is_written, every_peer_agrees_with_the_others,
+    every_poll_keeps_its_state, every_replacement_has_evidence, every_replacement_restores,
+    every_state_stands_for_its_journal, every_tally_has_its_quorum,
+    every_turn_is_of_a_running_poll, rules_can_be_broken, whatever_is_added_fits,
+    whatever_is_due_may_happen,
 };

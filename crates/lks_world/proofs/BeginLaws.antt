@@ -1,7 +1,7 @@
 -- Seats are made one after another.
 use Rattle.std.proofs.Common.{◌≡◌, ◌<◌, ◌+◌, ◌∙◌, ap, sym, subst, ℕ, zero, suc, false, List, [], ◌∷◌, ◌++◌, length, get_or, take, drop, refl, add-one, drop-cons, append_assoc}
 use Rattle.std.specs.Prelude.{Option, Some, None, option_map, filter, slice_get, map, reverse}
-use Rattle.std.proofs.lemmas.List.{map-append, reverse-append, take-append-drop, take_more}
+use Rattle.std.proofs.lemmas.List.{length-append, map-append, reverse-append, take-append-drop, take_more}
 use Rattle.std.proofs.lemmas.List.Elements.{filter-append, filter_map-append}
 use Rattle.std.proofs.lemmas.Option.{slice_get-get_or}
 use Rattle.lks_disk.specs.Face.{Face}
@@ -22,7 +22,7 @@ use Rattle.lks_host.specs.declared.hosts.Host.{Host}
 use Rattle.lks_law.specs.World.{Standing, is_honest, honest_peer, standing_of}
 use Rattle.lks_world.proofs.SeatLaws.{serves_next}
 use Rattle.lks_world.proofs.ServingLaws.{serves_none, serves_then}
-use Rattle.lks_world.specs.Begun.{HasBegun, HaveBegun, HasBegunAs, IsSeated, IsServed}
+use Rattle.lks_world.specs.Begun.{HasBegun, HaveBegun, HasBegunAs, IsSeated, IsServed, IsTaken}
 use Rattle.lks_world.specs.Counts.{ServesHonest}
 use Rattle.lks_world.specs.Held.{IsFresh, AreFresh}
 use Rattle.lks_world.specs.Hosts.{peer_in, peers_of, blamed}
@@ -105,6 +105,7 @@ pub record AreMade {D : Type 0} (f : Face D) (pool : List ℕ) (plan : Plan) (fi
   pub peers : peers_of f (hosts_of seats) ≡ map (standing_of plan) (filter is_honest done)
   pub begun : HaveBegun f pool (hosts_of seats)
   pub fresh : AreFresh f (reverse disks)
+  pub taken : (xs : List D) × (length xs ≡ length seats) × (reverse first ≡ xs ++ reverse disks)
   pub serves : ServesHonest f plan.peers (reverse first) (disks_at seats ++ reverse disks) None
   pub fuses : map f.fused (disks_at seats ++ reverse disks) ≡ map f.fused (reverse first)
 
@@ -112,7 +113,7 @@ module _ {D : Type 0} (f : Face D) (pool : List ℕ) (plan : Plan) where
   pub made_start : (disks : List D) (seats : List (Seat D)) → seats ≡ [] → AreFresh f (reverse disks) → AreMade f pool plan disks seats disks []
   made_start disks seats none fresh =
       subst (λ (ss : List (Seat D)). AreMade f pool plan disks ss disks []) (sym none)
-      (record { placed = refl; peers = refl; begun = λ place h at. absurd cc; fresh = fresh; serves = serves_none f plan.peers (reverse disks) None (λ id is. absurd cc); fuses = refl })
+      (record { placed = refl; peers = refl; begun = λ place h at. absurd cc; fresh = fresh; taken = ([], refl, refl); serves = serves_none f plan.peers (reverse disks) None (λ id is. absurd cc); fuses = refl })
 
   -- what one seat more is to the list of them
   record IsNext (p : PeerPlan) (s : Seat D) : Type 0 where
@@ -138,11 +139,11 @@ module _ {D : Type 0} (f : Face D) (pool : List ℕ) (plan : Plan) where
   begun_joined (h ∷ hs) ks first next (suc place) k at = begun_joined hs ks (λ i x there. first (suc i) x there) next place k at
 
   pub made_more : (first : List D) (seats seats_after : List (Seat D)) (disks disks_after : List D) (p : PeerPlan) (done left after : List PeerPlan) → AreMade f pool plan first seats disks done
-      → IsSeated f pool plan p seats seats_after → AreFresh f (reverse disks_after)
+      → IsSeated f pool plan p seats seats_after → IsTaken disks disks_after → AreFresh f (reverse disks_after)
       → ((ps qs : List PeerPlan) → AreSeats ps seats → ServesHonest f (ps ++ p ∷ qs) (disks_at seats ++ reverse disks) (disks_at seats_after ++ reverse disks_after) None)
       → map f.fused (disks_at seats_after ++ reverse disks_after) ≡ map f.fused (disks_at seats ++ reverse disks)
       → plan.peers ≡ done ++ p ∷ left → after ≡ done ++ p ∷ [] → AreMade f pool plan first seats_after disks_after after
-  made_more first seats seats_after disks disks_after p done left after made seated fresh serves fuses all next =
+  made_more first seats seats_after disks disks_after p done left after made seated took fresh serves fuses all next =
       let s = seated.made in
       let is = comes_next p s seated.begun in
       let hosts : hosts_of seats_after ≡ hosts_of seats ++ hosts_of (s ∷ []) = ap hosts_of seated.more ∙ filter_map-append host_at seats (s ∷ []) in
@@ -154,6 +155,11 @@ module _ {D : Type 0} (f : Face D) (pool : List ℕ) (plan : Plan) where
             ∙ sym (map-append (standing_of plan) (filter is_honest done) (filter is_honest (p ∷ []))) ∙ ap (map (standing_of plan)) (sym (filter-append is_honest done (p ∷ [])));
         begun = subst (HaveBegun f pool) (sym hosts) (begun_joined (hosts_of seats) (hosts_of (s ∷ [])) made.begun is.begun);
         fresh = fresh;
+        taken = (
+          made.taken.0 ++ took.disk ∷ [],
+          length-append made.taken.0 (took.disk ∷ []) ∙ ap (λ n. n + 1) made.taken.1 ∙ sym (ap length seated.more ∙ length-append seats (s ∷ [])),
+          made.taken.2 ∙ ap (λ ds. made.taken.0 ++ ds) (last_first disks disks_after took.disk took.front) ∙ sym (append_assoc made.taken.0 (took.disk ∷ []) (reverse disks_after)),
+        );
         serves =
             serves_then f plan.peers (reverse first) (disks_at seats ++ reverse disks) (disks_at seats_after ++ reverse disks_after) None made.serves
             (subst (λ ps. ServesHonest f ps (disks_at seats ++ reverse disks) (disks_at seats_after ++ reverse disks_after) None) (sym all) (serves done left made.placed));

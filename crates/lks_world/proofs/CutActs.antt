@@ -20,7 +20,7 @@ use Rattle.lks_law.specs.Table.{react_on, reaction}
 use Rattle.lks_law.specs.Turning.{has_inner_in}
 use Rattle.lks_law.specs.Written.{AreWritten}
 use Rattle.lks_world.proofs.Acting.{reacts, grown, more, noted}
-use Rattle.lks_world.specs.Endings.{BurnsFor, HostEnds, ending_of}
+use Rattle.lks_world.specs.Endings.{HostEnds, ending_of}
 use Rattle.lks_world.specs.Hosts.{peer_in, with_added}
 
 module _ {D : Type 0} (f : Face D) (h k : Host D) (batches : List (List Record)) (stood : StandsFor f h batches) (written : AreWritten [] (journal_on f h.journal.disk)) (own : k.peer.own ≡ h.peer.own) where
@@ -67,11 +67,6 @@ module _ {D : Type 0} (f : Face D) (h k : Host D) (batches : List (List Record))
         subst (λ (rs : List Record). StandsFor f k (with_batch bs rs)) (sym (more f h batches stood written k said.records own cut.3)) also.3
     stands_on outcome.Lost bs cut also =
         subst (λ (rs : List Record). StandsFor f k (with_batch bs rs)) (sym (more f h batches stood written k [] own cut.1)) also.1
-
-    pub burns_for : (o : Outcome) (choice : ℕ) → CutsOff f batches said calls h k o → f.choice k.journal.disk ≡ choice → BurnsFor f choice (ending_of (has_inner_in k.peer.state) o) h.journal.disk k.journal.disk
-    burns_for (outcome.Whole x) choice cut chosen = tt
-    burns_for (outcome.Kept rs) choice cut chosen = (cut.4, chosen)
-    burns_for outcome.Lost choice cut chosen = (cut.2, chosen)
 
   -- it goes on from where it was
   pub stands_still : (bs : List (List Record)) → StandsFor f k batches → StandsFor f k bs → StandsFor f k (with_batch bs (drop (length (journal_on f h.journal.disk)) (journal_on f k.journal.disk)))

@@ -153,11 +153,11 @@ module _ {D : Type 0} (f : Face D) (plan : Plan) where
       whole = λ x there spent. let both : None ≡ Some x = sym none ∙ same_taker ∙ there in absurd cc;
     }
 
-    pub cuts_whole : (m t : State D) → length (events_in s) < MOST_EVENTS → IsSome (taken (world_in f s)) → HasEnded f plan calls s p m true → Becomes f plan (kept (events_in m) (events.Crash (taker_of s.bag.items p))) t → Cuts plan (events_in s) calls p (events_in t)
-    cuts_whole m t room there end b = record {
+    pub cuts_whole : (m : State D) (after : List Event) → length (events_in s) < MOST_EVENTS → IsSome (taken (world_in f s)) → HasEnded f plan calls s p m true → after ≡ kept (events_in m) (events.Crash (taker_of s.bag.items p)) → Cuts plan (events_in s) calls p after
+    cuts_whole m after room there end is_crash = record {
       alone = λ none. absurd (some_there there none);
       short = λ (short : FallsShort plan (events_in s) calls p). absurd (never short end.1);
-      whole = λ x honest spent. b.events ∙ (λ i. kept ((end.0.events ∙ sym (kept_room (events_in s) (events.Step p) room)) i) (events.Crash (taker_of (is.world i).bag p)));
+      whole = λ x honest spent. is_crash ∙ (λ i. kept ((end.0.events ∙ sym (kept_room (events_in s) (events.Step p) room)) i) (events.Crash (taker_of (is.world i).bag p)));
     }
       where
         never : FallsShort plan (events_in s) calls p → (added_by (world_in f s) p ≡ []) ⊎ (4 ≤ calls) → ⊥
@@ -200,10 +200,10 @@ counted_still {D = D} f xs ys zs before result counted same none =
 pub counted_as : {D S T : Type 0} (f : Face D) (xs ys : List (Seat D)) (fault : WorldFault) → Counted {T = S} f xs ys (Err fault) → Counted {T = T} f xs ys (Err fault)
 counted_as f xs ys fault counted = record { ids = counted.ids; fuses = counted.fuses; serves = counted.serves }
 
-pub burns_unless : {D : Type 0} (f : Face D) (choice id : ℕ) (xs ys : List (Seat D)) (e : Ending) → SeatsBurnFor f choice id xs ys e → BurnsUnless f choice id xs ys (is_whole e)
-burns_unless f choice id xs ys (Whole done) burns = tt
-burns_unless f choice id xs ys (Kept notes) burns = burns
-burns_unless f choice id xs ys Lost burns = burns
+pub burns_unless : {D : Type 0} (f : Face D) (calls choice id : ℕ) (xs ys : List (Seat D)) (e : Ending) → SeatsBurnFor f calls choice id xs ys e → BurnsUnless f calls choice id xs ys (is_whole e)
+burns_unless f calls choice id xs ys (Whole done) burns = tt
+burns_unless f calls choice id xs ys (Kept notes) burns = burns
+burns_unless f calls choice id xs ys Lost burns = burns
 
 -- whether a peer's place was found says whether the peer is there
 

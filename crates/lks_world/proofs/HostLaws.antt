@@ -22,7 +22,7 @@ set_where (z ∷ zs) (suc i) zero y x is = inl is
 set_where (z ∷ zs) (suc i) (suc j) y x is = elim (set_where zs i j y x is) [ inl same ↦ inl same | inr here ↦ inr (ap suc here.0, here.1) ]
 
 module _ {D : Type 0} (f : Face D) where
-  nothing_more : (batches : List (List Record)) (js : List Record) → with_batch batches (drop (length js) js) ≡ batches
+  pub nothing_more : (batches : List (List Record)) (js : List Record) → with_batch batches (drop (length js) js) ≡ batches
   nothing_more batches js = ap (with_batch batches) (drop-length js)
 
   same_host : (h : Host D) → GoesOn f h h

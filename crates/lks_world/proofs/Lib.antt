@@ -1,9 +1,11 @@
 mod Acting
 mod BeginLaws
+pub mod BegunUpTo
 pub mod CountLaws
 mod CutActs
 mod CutLaws
 mod Ending
+mod Fallen
 mod Following
 mod FuseLaws
 mod HeldOnce
@@ -11,11 +13,15 @@ mod HostLaws
 mod Keeping
 mod NextLaws
 mod OwnSteps
+mod PowerEnds
+pub mod PowerLaws
 mod ReadyLaws
 mod SeatEnds
 mod SeatLaws
 mod Sending
 pub mod ServingLaws
 mod StateLaws
+pub mod Stopped
 mod Unsafe
+mod UpTo
 mod Watched

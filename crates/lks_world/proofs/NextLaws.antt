@@ -118,13 +118,17 @@ module _ {D : Type 0} (f : Face D) (plan : Plan) (s : State D) (is : IsStateOf f
   unfolding delivered_again
   again_is verdict i = ap (again_in verdict i) is.world
 
-  pub is_again : (verdict : Verdicts) (t : State D) (i : ℕ) (p : PeerStep) → nat_lt i (length s.bag.items) ≡ true → Step p ≡ delivery_of verdict plan (events_in s) i → Becomes f plan (kept (events_in s) (Step p)) t
-      → Becomes f plan (delivered_again verdict i plan (events_in s)) t
-  is_again verdict t i p stands made b =
+  pub kept_again : (verdict : Verdicts) (i : ℕ) (p : PeerStep) → nat_lt i (length s.bag.items) ≡ true → Step p ≡ delivery_of verdict plan (events_in s) i → kept (events_in s) (Step p) ≡ delivered_again verdict i plan (events_in s)
+  kept_again verdict i p stands made =
       let here : kept (events_in s) (Step p) ≡ again_in verdict i (world_in f s) =
       ap (kept (events_in s)) made
       ∙ ap (λ c. if c then kept (events_in s) (delivery_of verdict plan (events_in s) i) else events_in s) (sym stands) in
-      record { state = b.state; events = b.events ∙ here ∙ again_is verdict i }
+      here ∙ again_is verdict i
+
+  pub is_again : (verdict : Verdicts) (t : State D) (i : ℕ) (p : PeerStep) → nat_lt i (length s.bag.items) ≡ true → Step p ≡ delivery_of verdict plan (events_in s) i → Becomes f plan (kept (events_in s) (Step p)) t
+      → Becomes f plan (delivered_again verdict i plan (events_in s)) t
+  unfolding kept_again
+  is_again verdict t i p stands made b = record { state = b.state; events = b.events ∙ kept_again verdict i p stands made }
 
   pub full_again : (verdict : Verdicts) (i : ℕ) → MOST_EVENTS ≤ length (events_in s) → Becomes f plan (delivered_again verdict i plan (events_in s)) s
   unfolding delivered_again

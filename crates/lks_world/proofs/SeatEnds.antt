@@ -1,16 +1,19 @@
 -- What a host's step came to while its power failed, it came to for all peers of a world.
 use Rattle.std.proofs.Common.{◌≡◌, ◌∙◌, ap, sym, subst, ℕ, List, [], refl}
-use Rattle.std.specs.Prelude.{Option, Some, None, Result, Ok, Err, IfOk, IfSome, slice_set}
+use Rattle.std.specs.Prelude.{Option, Some, None, Result, Ok, Err, IfOk, IfSome, OnErr, slice_set}
 use Rattle.lks_base.specs.declared.records.Record.{Record}
 use Rattle.lks_disk.specs.Face.{Face}
+use Rattle.lks_host.specs.Cutting.{Falls}
+use Rattle.lks_host.specs.Hosted.{StandsFor}
 use Rattle.lks_host.specs.declared.hosts.Host.{Host}
 use Rattle.lks_law.proofs.Linking.{at_own}
+use Rattle.lks_law.specs.Batches.{with_batch}
 use Rattle.lks_law.specs.Entries.{notes_at}
-use Rattle.lks_law.specs.World.{Deed, Standing, peer_at, reaction_at, with_records}
+use Rattle.lks_law.specs.World.{Deed, Standing, peer_at, peers_after, reaction_at, with_records}
 use Rattle.lks_world.proofs.Ending.{nothing_added, with_nothing}
-use Rattle.lks_world.proofs.SeatLaws.{ActsAt, acts_there, acts_found, acts_added, burns_one}
+use Rattle.lks_world.proofs.SeatLaws.{ActsAt, acts_there, acts_found, acts_added, acts_fell, burns_one}
 use Rattle.lks_world.specs.Endings.{answer_to, BurnsFor, EndsAs, HostEnds, PeersEnd, SeatsBurnFor}
-use Rattle.lks_world.specs.Hosts.{peer_in, peers_of, with_added}
+use Rattle.lks_world.specs.Hosts.{HaveFallen, peer_in, peers_of, with_added}
 use Rattle.lks_world.specs.Seats.{hosts_of}
 use Rattle.lks_world.specs.declared.cutting.Ending.{Ending}
 use Rattle.lks_world.specs.declared.cutting.Ending.TheVariants.{Whole, Kept, Lost}
@@ -62,8 +65,25 @@ module _ {D : Type 0} (f : Face D) (id : ℕ) (seats : List (Seat D)) (place : �
   own_id : h.peer.own.id ≡ id
   own_id = at_own id peers (peer_in f h) (acts_found f id seats place h acts)
 
-  pub seats_burn : (choice : ℕ) (r : Result Ending WorldFault) → IfOk r (λ e. BurnsFor f choice e h.journal.disk k.journal.disk) → IfOk r (SeatsBurnFor f choice id seats (slice_set seats place (seat.Host k)))
-  seats_burn choice (Ok (Whole done)) burns = tt
-  seats_burn choice (Ok (Kept notes)) burns = burns_one f h k choice burns.0 burns.1 id seats place (acts_there f id seats place h acts) own_id
-  seats_burn choice (Ok Lost) burns = burns_one f h k choice burns.0 burns.1 id seats place (acts_there f id seats place h acts) own_id
-  seats_burn choice (Err fault) burns = tt
+  pub seats_burn : (calls choice : ℕ) (r : Result Ending WorldFault) → IfOk r (λ e. BurnsFor f calls choice e h.journal.disk k.journal.disk) → IfOk r (SeatsBurnFor f calls choice id seats (slice_set seats place (seat.Host k)))
+  seats_burn calls choice (Ok (Whole done)) burns = tt
+  seats_burn calls choice (Ok (Kept notes)) burns = burns_one f h k calls choice burns id seats place (acts_there f id seats place h acts) own_id
+  seats_burn calls choice (Ok Lost) burns = burns_one f h k calls choice burns id seats place (acts_there f id seats place h acts) own_id
+  seats_burn calls choice (Err fault) burns = tt
+
+  -- a refusal leaves of its disk what it was told to add, or not
+  fell_as : (tick : ℕ) (deed : Option Deed) → IfSome deed (λ d. d.peer ≡ id) → ((batches : List (List Record)) → StandsFor f h batches → Falls f batches (with_batch batches (answer_to tick (peer_in f h) deed).records) k.journal.disk)
+      → HaveFallen f (hosts_of seats) (peers_after tick peers deed) (hosts_of (slice_set seats place (seat.Host k)))
+  fell_as tick None whose fell =
+      subst (λ ps. HaveFallen f (hosts_of seats) ps (hosts_of (slice_set seats place (seat.Host k)))) (nothing_added id peers) (acts_fell f id seats place h acts [] k fell)
+  fell_as tick (Some d) whose fell =
+      let found : peer_at d.peer peers ≡ Some (peer_in f h) = ap (λ (n : ℕ). peer_at n peers) whose ∙ acts_found f id seats place h acts in
+      subst (λ o. HaveFallen f (hosts_of seats) (with_records d.peer (reaction_at tick o d.input).records peers) (hosts_of (slice_set seats place (seat.Host k)))) (sym found)
+      (subst (λ n. HaveFallen f (hosts_of seats) (with_records n (answer_to tick (peer_in f h) (Some d)).records peers) (hosts_of (slice_set seats place (seat.Host k)))) (sym whose)
+      (acts_fell f id seats place h acts (answer_to tick (peer_in f h) (Some d)).records k fell))
+
+  pub seats_fell : (tick : ℕ) (deed : Option Deed) (r : Result Ending WorldFault) → IfSome deed (λ d. d.peer ≡ id)
+      → ((batches : List (List Record)) → StandsFor f h batches → OnErr r (Falls f batches (with_batch batches (answer_to tick (peer_in f h) deed).records) k.journal.disk))
+      → OnErr r (HaveFallen f (hosts_of seats) (peers_after tick peers deed) (hosts_of (slice_set seats place (seat.Host k))))
+  seats_fell tick deed (Ok e) whose fell = tt
+  seats_fell tick deed (Err fault) whose fell = fell_as tick deed whose fell

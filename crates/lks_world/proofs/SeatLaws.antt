@@ -6,7 +6,7 @@ use Rattle.std.proofs.lemmas.Bool.{cases_Bool}
 use Rattle.std.proofs.lemmas.Iterator.Adapters.{position_from-zero}
 use Rattle.std.proofs.lemmas.List.{map-append, reverse-append, reverse-reverse}
 use Rattle.std.proofs.lemmas.Option.{slice_get-get_or, slice_get-map}
-use Rattle.lks_disk.specs.Counts.{Rose}
+use Rattle.lks_disk.specs.Counts.{Rose, raised}
 use Rattle.lks_disk.specs.Face.{Face}
 use Rattle.lks_base.specs.declared.plans.PeerPlan.{PeerPlan}
 use Rattle.lks_base.specs.declared.plans.Plan.{Plan}
@@ -14,15 +14,23 @@ use Rattle.lks_base.specs.declared.records.Record.{Record}
 use Rattle.lks_host.specs.declared.hosts.Host.{Host}
 use Rattle.lks_law.specs.World.{Standing, peer_at, with_records}
 use Rattle.lks_world.proofs.CountLaws.{some_is, untouched, counted_behind, counted_first}
+use Rattle.lks_base.specs.declared.events.PeerStep.{PeerStep}
+use Rattle.lks_host.specs.Cutting.{Falls}
+use Rattle.lks_host.specs.Hosted.{StandsFor}
+use Rattle.lks_host.specs.Journals.{journal_on}
+use Rattle.lks_law.specs.Batches.{batches_at, with_batch}
+use Rattle.lks_world.proofs.Fallen.{one_fell}
 use Rattle.lks_world.proofs.HostLaws.{one_went_on}
 use Rattle.lks_world.proofs.ServingLaws.{serves_none, serves_then, serves_unblamed}
 use Rattle.lks_world.specs.Begun.{IsServed}
 use Rattle.lks_world.specs.Counts.{fault_in, honest_ids, HasBurned, ServesHonest}
 use Rattle.lks_world.specs.Disks.{honest_disks, corrupt_disks}
-use Rattle.lks_world.specs.Held.{HoldsBatches, HaveBatches}
-use Rattle.lks_world.specs.Hosts.{peer_in, peers_of, disk_in, disks_of, with_added, GoesOn, HaveGoneOn, HasActed, IsAbsent}
-use Rattle.lks_world.specs.Seats.{hosts_of, disk_at, disks_at, id_at, ids_at, is_seat_of, id_for, AreSeats, BurnsAt, Counted, StandsAt}
-use Rattle.lks_world.specs.States.{events_in, IsStateOf}
+use Rattle.lks_world.specs.Held.{HoldsBatches, HaveBatches, HaveBatchesOrNext, with_next}
+use Rattle.lks_world.specs.Hosts.{journal_in, peer_in, peers_of, disk_in, disks_of, with_added, GoesOn, HaveFallen, HaveGoneOn, HasActed, IsAbsent}
+use Rattle.lks_world.specs.Seats.{hosts_of, disk_at, disks_at, id_at, ids_at, is_seat_of, id_for, AreSeats, BurnsAt, Counted, StandsAt, disks_on, ids_on}
+use Rattle.lks_world.specs.Endings.{BurnsOnce}
+use Rattle.lks_world.specs.Powers.{raised_at}
+use Rattle.lks_world.specs.States.{events_in, AreLeft, IsStateOf}
 use Rattle.lks_world.specs.declared.faults.WorldFault.{WorldFault}
 use Rattle.lks_world.specs.declared.faults.WorldFault.TheVariants.{Disk}
 use Rattle.lks_world.specs.declared.seats.Seat.{Seat}
@@ -45,6 +53,12 @@ not_front id p rest e = rw e refl
 not_added : (id : ℕ) (p : Standing) (rest : List Standing) (added : List Record) → eqb p.own.id id ≡ false → with_records id added (p ∷ rest) ≡ p ∷ with_records id added rest
 not_added id p rest added e = rw e refl
 
+raised_front : (id i : ℕ) (ids : List ℕ) (n : ℕ) (counts : List ℕ) → eqb i id ≡ true → raised_at id (i ∷ ids) (n ∷ counts) ≡ raised n ∷ counts
+raised_front id i ids n counts e = rw e refl
+
+not_raised : (id i : ℕ) (ids : List ℕ) (n : ℕ) (counts : List ℕ) → eqb i id ≡ false → raised_at id (i ∷ ids) (n ∷ counts) ≡ n ∷ raised_at id ids counts
+not_raised id i ids n counts e = rw e refl
+
 none_at : (id : ℕ) → peer_at id [] ≡ None
 unfolding peer_at
 none_at id = refl
@@ -60,7 +74,9 @@ module _ {D : Type 0} (f : Face D) (id : ℕ) where
     ranked = refl;
     found = at_front id (peer_in f h) (peers_of f (hosts_of ss)) is;
     sets = λ k. refl;
+    raises = λ count k up. ap (λ (n : ℕ). n ∷ map count (disks_on ss)) up ∙ sym (raised_front id h.peer.own.id (ids_on ss) (count (disk_in h)) (map count (disks_on ss)) is);
     added = λ rs k grown. ap (λ (p : Standing). p ∷ peers_of f (hosts_of ss)) grown ∙ sym (added_front id (peer_in f h) (peers_of f (hosts_of ss)) rs is);
+    grown = λ rs. ap (journal_in 0) (added_front id (peer_in f h) (peers_of f (hosts_of ss)) rs is);
   }
 
   stands_behind : (s : Seat D) (ss : List (Seat D)) (place : ℕ) → is_seat_of id s ≡ false → StandsAt f id ss place → StandsAt f id (s ∷ ss) (suc place)
@@ -72,7 +88,9 @@ module _ {D : Type 0} (f : Face D) (id : ℕ) where
     ranked = st.ranked;
     found = st.found;
     sets = st.sets;
+    raises = st.raises;
     added = st.added;
+    grown = st.grown;
   }
   stands_behind (seat.Host h) ss place other st = record {
     host = st.host;
@@ -82,8 +100,22 @@ module _ {D : Type 0} (f : Face D) (id : ℕ) where
     ranked = st.ranked;
     found = not_front id (peer_in f h) (peers_of f (hosts_of ss)) other ∙ st.found;
     sets = λ k. ap (λ (hs : List (Host D)). h ∷ hs) (st.sets k);
+    raises = λ count k up. ap (λ (ns : List ℕ). count (disk_in h) ∷ ns) (st.raises count k up) ∙ sym (not_raised id h.peer.own.id (ids_on ss) (count (disk_in h)) (map count (disks_on ss)) other);
     added = λ rs k grown. ap (λ (ps : List Standing). peer_in f h ∷ ps) (st.added rs k grown) ∙ sym (not_added id (peer_in f h) (peers_of f (hosts_of ss)) rs other);
+    grown = λ rs. ap (journal_in (suc st.rank)) (not_added id (peer_in f h) (peers_of f (hosts_of ss)) rs other) ∙ st.grown rs;
   }
+
+  -- no count of a peer rises who isn't there
+  pub raised_none : (seats : List (Seat D)) (counts : List ℕ) → peer_at id (peers_of f (hosts_of seats)) ≡ None → raised_at id (ids_on seats) counts ≡ counts
+  raised_none [] counts none = refl
+  raised_none (seat.Idle d ∷ ss) counts none = raised_none ss counts none
+  raised_none (seat.Host h ∷ ss) [] none = refl
+  raised_none (seat.Host h ∷ ss) (n ∷ counts) none = elim (cases_Bool (eqb h.peer.own.id id)) [
+    | inl is ↦ let both : Some (peer_in f h) ≡ None = sym (at_front id (peer_in f h) (peers_of f (hosts_of ss)) is) ∙ none in absurd cc
+    | inr other ↦
+        not_raised id h.peer.own.id (ids_on ss) n counts other
+        ∙ ap (λ (ns : List ℕ). n ∷ ns) (raised_none ss counts (sym (not_front id (peer_in f h) (peers_of f (hosts_of ss)) other) ∙ none))
+  ]
 
   absent_behind : (s : Seat D) (ss : List (Seat D)) → is_seat_of id s ≡ false → IsAbsent id (peers_of f (hosts_of ss)) → IsAbsent id (peers_of f (hosts_of (s ∷ ss)))
   absent_behind (seat.Idle d) ss other absent = absent
@@ -161,20 +193,27 @@ module _ {D : Type 0} (f : Face D) (id : ℕ) (seats : List (Seat D)) (place : �
   pub acts_on : (k : Host D) → GoesOn f h k → HaveGoneOn f (hosts_of seats) (hosts_of (slice_set seats place (seat.Host k)))
   acts_on k on = subst (HaveGoneOn f (hosts_of seats)) (sym (acts.stands.sets k)) (one_went_on f (hosts_of seats) acts.stands.rank h k acts_ranked on)
 
+  pub acts_fell : (added : List Record) (k : Host D) → ((batches : List (List Record)) → StandsFor f h batches → Falls f batches (with_batch batches added) k.journal.disk)
+      → HaveFallen f (hosts_of seats) (with_records id added (peers_of f (hosts_of seats))) (hosts_of (slice_set seats place (seat.Host k)))
+  acts_fell added k fell =
+      let peers = with_records id added (peers_of f (hosts_of seats)) in
+      let grown : journal_in acts.stands.rank peers ≡ journal_on f h.journal.disk ++ added = acts.stands.grown added ∙ ap (λ (x : Host D). journal_on f x.journal.disk ++ added) acts.is in
+      subst (HaveFallen f (hosts_of seats) peers) (sym (acts.stands.sets k)) (one_fell f (hosts_of seats) peers acts.stands.rank h k added acts_ranked grown fell)
+
 -- Whose seat it is.
 
-record IsHonest (p : PeerPlan) (id : ℕ) : Type 0 where
-  good : p.corrupt ≡ false
-  named : p.id ≡ id
+pub record IsHonest (p : PeerPlan) (id : ℕ) : Type 0 where
+  pub good : p.corrupt ≡ false
+  pub named : p.id ≡ id
 
-honest_seat : (p : PeerPlan) (id : ℕ) → Some id ≡ id_for p → IsHonest p id
+pub honest_seat : (p : PeerPlan) (id : ℕ) → Some id ≡ id_for p → IsHonest p id
 honest_seat p id is = by_kind p.corrupt refl is
   where
     by_kind : (b : Bool) → p.corrupt ≡ b → Some id ≡ cond b None (Some p.id) → IsHonest p id
     by_kind true bad is = absurd cc
     by_kind false good is = record { good = good; named = some_is (sym is) }
 
-corrupt_seat : (p : PeerPlan) → None ≡ id_for p → p.corrupt ≡ true
+pub corrupt_seat : (p : PeerPlan) → None ≡ id_for p → p.corrupt ≡ true
 corrupt_seat p is = by_kind p.corrupt refl is
   where
     by_kind : (b : Bool) → p.corrupt ≡ b → None ≡ cond b None (Some p.id) → p.corrupt ≡ true
@@ -198,6 +237,21 @@ honest_back (p ∷ ps) (seat.Idle d ∷ ss) rest are =
 -- the disks that were put behind the others, last first, stand first where all are turned round
 pub turned_back : {D : Type 0} (seats : List (Seat D)) (rest : List D) → reverse (rest ++ reverse (disks_at seats)) ≡ disks_at seats ++ reverse rest
 turned_back seats rest = reverse-append rest (reverse (disks_at seats)) ∙ ap (λ ds. ds ++ reverse rest) (reverse-reverse (disks_at seats))
+
+-- a crash leaves of them what it leaves of their hosts' disks
+pub disks_left : {D : Type 0} (f : Face D) (plan : Plan) (next : Option PeerStep) (s : State D) (rest : List D) → AreLeft f plan next s → AreSeats plan.peers s.seats.items
+    → HaveBatchesOrNext f plan (events_in s) next (disks_at s.seats.items ++ rest)
+disks_left {D = D} f plan next s rest left are place disk at =
+    let hosts = hosts_of s.seats.items in
+    let there : option_map disk_in (slice_get hosts place) ≡ Some disk =
+    sym (slice_get-map disk_in hosts place) ∙ ap (λ ds. slice_get ds place) (sym (honest_back plan.peers s.seats.items rest are)) ∙ at in
+    by_host (slice_get hosts place) refl there
+  where
+    by_host : (o : Option (Host D)) → slice_get (hosts_of s.seats.items) place ≡ o → option_map disk_in o ≡ Some disk → Falls f (batches_at place plan (events_in s)) (batches_at place plan (with_next (events_in s) next)) disk
+    by_host None e there = absurd cc
+    by_host (Some h) e there =
+        let same : disk_in h ≡ disk = some_is there in
+        subst (Falls f (batches_at place plan (events_in s)) (batches_at place plan (with_next (events_in s) next))) same (left place h e)
 
 -- the disks hold what their hosts stand for
 pub disks_hold : {D : Type 0} (f : Face D) (plan : Plan) (s : State D) (rest : List D) → IsStateOf f plan s → AreSeats plan.peers s.seats.items → HaveBatches f plan (events_in s) (disks_at s.seats.items ++ rest)
@@ -291,9 +345,9 @@ module _ {D : Type 0} (f : Face D) where
     set-fuses (s ∷ ss) zero at = let first : seat.Host h ≡ s = cc in ap (λ b. b ∷ map f.fused (disks_at ss)) (fuse ∙ ap (λ (y : Seat D). f.fused (disk_at y)) first)
     set-fuses (s ∷ ss) (suc place) at = ap (λ bs. f.fused (disk_at s) ∷ bs) (set-fuses ss place at)
 
-  burned_behind : (choice : ℕ) (p : PeerPlan) (ps : List PeerPlan) (x : D) (xs ys : List D) (id : ℕ) → HasBurned f (honest_ids ps) choice (honest_disks ps xs) (honest_disks ps ys) id
-      → HasBurned f (honest_ids (p ∷ ps)) choice (honest_disks (p ∷ ps) (x ∷ xs)) (honest_disks (p ∷ ps) (x ∷ ys)) id
-  burned_behind choice p ps x xs ys id burned =
+  burned_behind : (calls choice : ℕ) (p : PeerPlan) (ps : List PeerPlan) (x : D) (xs ys : List D) (id : ℕ) → HasBurned f (honest_ids ps) calls choice (honest_disks ps xs) (honest_disks ps ys) id
+      → HasBurned f (honest_ids (p ∷ ps)) calls choice (honest_disks (p ∷ ps) (x ∷ xs)) (honest_disks (p ∷ ps) (x ∷ ys)) id
+  burned_behind calls choice p ps x xs ys id burned =
       elim (cases_Bool p.corrupt) [
         | inl bad ↦ record {
           place = burned.place;
@@ -303,6 +357,7 @@ module _ {D : Type 0} (f : Face D) where
           there = rw bad burned.there;
           stays = rw bad burned.stays;
           rose = burned.rose;
+          allowed = burned.allowed;
           chosen = burned.chosen;
         }
         | inr good ↦ record {
@@ -313,14 +368,15 @@ module _ {D : Type 0} (f : Face D) where
           there = rw good burned.there;
           stays = rw good burned.stays;
           rose = burned.rose;
+          allowed = burned.allowed;
           chosen = burned.chosen;
         }
       ]
 
   -- a fuse burned on the disk of one host
-  module _ (h k : Host D) (choice : ℕ) (rose : Rose (f.burns (disk_in h)) (f.burns (disk_in k))) (chosen : f.choice (disk_in k) ≡ choice) where
+  module _ (h k : Host D) (calls choice : ℕ) (once : BurnsOnce f calls choice (disk_in h) (disk_in k)) where
     burned_at : (peers : List PeerPlan) (seats : List (Seat D)) (place : ℕ) (rest : List D) → AreSeats peers seats → slice_get seats place ≡ Some (seat.Host h)
-        → HasBurned f (honest_ids peers) choice (honest_disks peers (disks_at seats ++ rest)) (honest_disks peers (disks_at (slice_set seats place (seat.Host k)) ++ rest)) h.peer.own.id
+        → HasBurned f (honest_ids peers) calls choice (honest_disks peers (disks_at seats ++ rest)) (honest_disks peers (disks_at (slice_set seats place (seat.Host k)) ++ rest)) h.peer.own.id
     burned_at peers [] place rest are at = absurd cc
     burned_at [] (s ∷ ss) place rest are at = absurd cc
     burned_at (p ∷ ps) (seat.Idle d ∷ ss) zero rest are at = absurd cc
@@ -335,16 +391,17 @@ module _ {D : Type 0} (f : Face D) where
           named = rw is.good (ap Some is.named);
           there = rw is.good (ap (λ (y : Host D). Some (disk_in y)) (sym same));
           stays = rw is.good refl;
-          rose = rose;
-          chosen = chosen;
+          rose = once.rose;
+          allowed = once.allowed;
+          chosen = once.chosen;
         }
     burned_at (p ∷ ps) (s ∷ ss) (suc place) rest are at =
         let others : ids_at ss ≡ map id_for ps = cc in
-        burned_behind choice p ps (disk_at s) (disks_at ss ++ rest) (disks_at (slice_set ss place (seat.Host k)) ++ rest) h.peer.own.id (burned_at ps ss place rest others at)
+        burned_behind calls choice p ps (disk_at s) (disks_at ss ++ rest) (disks_at (slice_set ss place (seat.Host k)) ++ rest) h.peer.own.id (burned_at ps ss place rest others at)
 
-    pub burns_one : (id : ℕ) (seats : List (Seat D)) (place : ℕ) → slice_get seats place ≡ Some (seat.Host h) → h.peer.own.id ≡ id → BurnsAt f choice id seats (slice_set seats place (seat.Host k))
+    pub burns_one : (id : ℕ) (seats : List (Seat D)) (place : ℕ) → slice_get seats place ≡ Some (seat.Host h) → h.peer.own.id ≡ id → BurnsAt f calls choice id seats (slice_set seats place (seat.Host k))
     burns_one id seats place at same peers rest are =
-        subst (HasBurned f (honest_ids peers) choice (honest_disks peers (disks_at seats ++ rest)) (honest_disks peers (disks_at (slice_set seats place (seat.Host k)) ++ rest))) same (burned_at peers seats place rest are at)
+        subst (HasBurned f (honest_ids peers) calls choice (honest_disks peers (disks_at seats ++ rest)) (honest_disks peers (disks_at (slice_set seats place (seat.Host k)) ++ rest))) same (burned_at peers seats place rest are at)
 
   blames : {T : Type 0} (id : ℕ) (result : Result T WorldFault) → fault_in result ≡ Some (Disk id) → IsErrOf result (Disk id)
   blames id (Ok x) is = absurd cc

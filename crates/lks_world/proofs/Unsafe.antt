@@ -5,6 +5,7 @@ use Rattle.lks_base.specs.Checking.{has_member}
 use Rattle.lks_base.specs.declared.messages.Message.TheVariants as message
 use Rattle.lks_base.specs.declared.names.HashKind.TheVariants.{Sha256}
 use Rattle.lks_base.specs.declared.plans.Rules.{Rules}
+use Rattle.lks_base.specs.declared.records.Record.TheVariants.{Replaced}
 use Rattle.lks_law.specs.Journal.{opening_of, deposit_of, contents_at, contents_of}
 use Rattle.lks_law.specs.Polls.{votes, inner_votes}
 use Rattle.lks_law.specs.Sessions.{Join, Commitment, join_of, commitment_of}
@@ -32,5 +33,5 @@ short_vote rules first second bytes hash proof decoded has =
 pub one_holder : (rules : Rules) (hashes : List (List ℕ)) (bytes : List ℕ) → HasFewHolders (with_holder rules hashes bytes) (who_replaced rules hashes bytes) → ⊥
 unfolding opening_of inner_votes votes has_member holders named_version join_of commitment_of contents_at contents_of deposit_of peer_at
 one_holder rules hashes bytes has =
-    let few : 1 ≤ 0 = has 4 1 1 0 bytes (record { au = 1; nonce = []; inner = 2 ∷ []; limits = Some (record { quorum = 1; minority = 0 }); kind = Sha256 }) refl refl in
+    let few : 1 ≤ 0 = has 4 (Replaced 1 1 0 bytes) (record { number = 1; au = 1; block = 0; bytes = bytes }) refl refl (record { au = 1; nonce = []; inner = 2 ∷ []; limits = Some (record { quorum = 1; minority = 0 }); kind = Sha256 }) refl in
     absurd (omega (arith, few))

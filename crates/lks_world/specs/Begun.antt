@@ -6,7 +6,7 @@ use Rattle.lks_disk.specs.Counts.{Rose}
 use Rattle.lks_disk.specs.Face.{Face}
 use Rattle.lks_base.specs.declared.plans.PeerPlan.{PeerPlan}
 use Rattle.lks_base.specs.declared.plans.Plan.{Plan}
-use Rattle.lks_host.specs.Hosted.{StandsFor}
+use Rattle.lks_host.specs.Hosted.{HasFront, StandsFor}
 use Rattle.lks_host.specs.Journals.{journal_on}
 use Rattle.lks_host.specs.declared.hosts.Host.{Host}
 use Rattle.lks_law.specs.Batches.{alone}
@@ -50,6 +50,23 @@ pub record IsServed {D : Type 0} (f : Face D) (p : PeerPlan) (before after : D) 
   pub later : f.faults before ≤ f.faults after
   pub cause : (id : ℕ) → fault ≡ Some (Disk id) → (p.id ≡ id) × Rose (f.faults before) (f.faults after)
   pub idle : p.corrupt ≡ true → (after ≡ before) × (fault ≡ None)
+
+-- the last disk was taken from a list
+pub record IsTaken {D : Type 0} (disks disks_after : List D) : Type 0 where
+  pub disk : D
+  pub front : disks ≡ disks_after ++ disk ∷ []
+
+-- The next peer is honest, but got no seat, and of its disk a crash leaves at most a front of what its journal begins with. This
+-- disk, as it is now, is the last one again.
+pub record StopsAt {D : Type 0} (f : Face D) (plan : Plan) (p : PeerPlan) (seats : List (Seat D)) (disks : List D) (seats_after : List (Seat D)) (disks_after : List D) : Type 0 where
+  pub honest : p.corrupt ≡ false
+  pub disk : D
+  pub now : D
+  pub rest : List D
+  pub there : disks ≡ rest ++ disk ∷ []
+  pub stays : disks_after ≡ rest ++ now ∷ []
+  pub same : seats_after ≡ seats
+  pub front : HasFront f (map alone (standing_of plan p).journal) now
 
 -- What is left of a call that makes a seat: the disk, on the seat or given back, and its fault.
 

@@ -5,7 +5,7 @@ use Rattle.lks_base.specs.declared.events.PeerStep.{PeerStep}
 use Rattle.lks_base.specs.declared.limits.TheConstants.{MOST_EVENTS}
 use Rattle.lks_base.specs.declared.plans.PeerPlan.{PeerPlan}
 use Rattle.lks_base.specs.declared.plans.Plan.{Plan}
-use Rattle.lks_disk.specs.Counts.{Rose}
+use Rattle.lks_disk.specs.Counts.{Rose, raised}
 use Rattle.lks_disk.specs.Face.{Face}
 use Rattle.lks_law.specs.World.{is_honest, world}
 use Rattle.lks_world.specs.Cuts.{taker_of, FallsShort}
@@ -28,15 +28,16 @@ pub record HasRisen {D : Type 0} (faults : D → ℕ) (ids : List ℕ) (before a
   pub stays : slice_get after place ≡ Some now
   pub rose : Rose (faults disk) (faults now)
 
--- the disk of this peer was cut off: a fuse of this choice burned there
-pub record HasBurned {D : Type 0} (f : Face D) (ids : List ℕ) (choice : ℕ) (before after : List D) (id : ℕ) : Type 0 where
+-- the disk of this peer was cut off: a fuse burned there that let so many calls pass, and had this choice
+pub record HasBurned {D : Type 0} (f : Face D) (ids : List ℕ) (calls choice : ℕ) (before after : List D) (id : ℕ) : Type 0 where
   pub place : ℕ
   pub disk : D
   pub now : D
   pub named : slice_get ids place ≡ Some id
   pub there : slice_get before place ≡ Some disk
   pub stays : slice_get after place ≡ Some now
-  pub rose : Rose (f.burns disk) (f.burns now)
+  pub rose : f.burns now ≡ raised (f.burns disk)
+  pub allowed : f.calls now ≡ calls
   pub chosen : f.choice now ≡ choice
 
 -- no fuse is set or ended, no count falls, and a disk is blamed only where its count rose
@@ -56,8 +57,9 @@ pub record ServesHonest {D : Type 0} (f : Face D) (peers : List PeerPlan) (befor
   pub rest : drop (length peers) after ≡ drop (length peers) before
   pub honest : AreCounted f (honest_ids peers) (honest_disks peers before) (honest_disks peers after) fault
 
--- where the power of the peer falls short in a step, and the step is an event, a fuse of this choice burned on its disk
+-- where the power of the peer falls short in a step, and the step is an event, a fuse of so many calls and this choice burned on
+-- its disk
 abbrev pub BurnsInStep : {D : Type 0} → Face D → Plan → List Event → ℕ → ℕ → List D → List D → PeerStep → Type 0
 BurnsInStep f plan history calls choice before after s =
     FallsShort plan history calls s → length history < MOST_EVENTS
-    → HasBurned f (honest_ids plan.peers) choice (honest_disks plan.peers before) (honest_disks plan.peers after) (taker_of (world plan history).bag s)
+    → HasBurned f (honest_ids plan.peers) calls choice (honest_disks plan.peers before) (honest_disks plan.peers after) (taker_of (world plan history).bag s)

@@ -1,5 +1,5 @@
 -- What became of a step while the power failed.
-use Rattle.std.specs.Prelude.{◌≡◌, ◌≤◌, ◌<◌, ◌-◌, ◌⊎◌, ◌++◌, ◌∷◌, [], ℕ, Bool, true, false, Option, Some, None, IsSome, List, length, slice_get}
+use Rattle.std.specs.Prelude.{◌≡◌, ◌≤◌, ◌<◌, ◌-◌, ◌⊎◌, ◌++◌, ◌∷◌, [], ℕ, Bool, true, false, Option, Some, None, IsSome, List, length, slice_get, Result, Ok, Err}
 use Rattle.std.specs.List.{filter_map}
 use Rattle.lks_base.specs.declared.entries.Note.{Note}
 use Rattle.lks_base.specs.declared.events.Event.{Event}
@@ -9,7 +9,7 @@ use Rattle.lks_base.specs.declared.limits.TheConstants.{MOST_EVENTS}
 use Rattle.lks_base.specs.declared.plans.Plan.{Plan}
 use Rattle.lks_base.specs.declared.reactions.Outgoing.{Outgoing}
 use Rattle.lks_base.specs.declared.reactions.Reaction.{Reaction}
-use Rattle.lks_disk.specs.Counts.{Rose}
+use Rattle.lks_disk.specs.Counts.{raised}
 use Rattle.lks_disk.specs.Face.{Face}
 use Rattle.lks_host.specs.Cutting.{IsCutShort}
 use Rattle.lks_host.specs.Hosted.{IsMadeBy}
@@ -23,10 +23,11 @@ use Rattle.lks_law.specs.Table.{reaction}
 use Rattle.lks_law.specs.World.{Deed, Standing, effect_of, peer_at, peers_after}
 use Rattle.lks_world.specs.Cuts.{taker_of}
 use Rattle.lks_world.specs.Hosts.{peer_in, peers_of, with_added}
-use Rattle.lks_world.specs.Seats.{hosts_of, BurnsAt}
+use Rattle.lks_world.specs.Seats.{hosts_of, BurnsAt, Powered}
 use Rattle.lks_world.specs.States.{events_in, world_in, Becomes}
 use Rattle.lks_world.specs.declared.cutting.Ending.{Ending}
 use Rattle.lks_world.specs.declared.cutting.Ending.TheVariants.{Whole, Kept, Lost}
+use Rattle.lks_world.specs.declared.faults.WorldFault.{WorldFault}
 use Rattle.lks_world.specs.declared.seats.Seat.{Seat}
 use Rattle.lks_world.specs.declared.states.State.{State}
 
@@ -42,11 +43,17 @@ EndsAs r notes calls before added (Whole done) after = (done.sends ≡ r.sends) 
 EndsAs r notes calls before added (Kept kept) after = (kept ≡ notes) × (after ≡ added) × IsCutShort r calls × (2 ≤ calls)
 EndsAs r notes calls before added Lost after = (after ≡ before) × IsCutShort r calls
 
--- the fuse of this choice burned, unless the step was done before
-abbrev pub BurnsFor : {D : Type 0} → Face D → ℕ → Ending → D → D → Type 0
-BurnsFor f choice (Whole done) before after = Unit {0}
-BurnsFor f choice (Kept notes) before after = Rose (f.burns before) (f.burns after) × (f.choice after ≡ choice)
-BurnsFor f choice Lost before after = Rose (f.burns before) (f.burns after) × (f.choice after ≡ choice)
+-- the fuse of so many calls and this choice burned, once
+pub record BurnsOnce {D : Type 0} (f : Face D) (calls choice : ℕ) (before after : D) : Type 0 where
+  pub rose : f.burns after ≡ raised (f.burns before)
+  pub allowed : f.calls after ≡ calls
+  pub chosen : f.choice after ≡ choice
+
+-- it did, unless the step was done before
+abbrev pub BurnsFor : {D : Type 0} → Face D → ℕ → ℕ → Ending → D → D → Type 0
+BurnsFor f calls choice (Whole done) before after = f.burns after ≡ f.burns before
+BurnsFor f calls choice (Kept notes) before after = BurnsOnce f calls choice before after
+BurnsFor f calls choice Lost before after = BurnsOnce f calls choice before after
 
 -- what is noted of an outcome, by whether a vote that comes in is an inner one
 abbrev pub ending_of : (ℕ → ℕ → Bool) → Outcome → Ending
@@ -84,10 +91,24 @@ HostEnds f r calls h k e = EndsAs r (notes_at (Some (peer_in f h)) r.records) ca
 abbrev pub PeersEnd : ℕ → Option Deed → ℕ → List Standing → List Standing → Ending → Type 0
 PeersEnd tick deed calls before after e = EndsAs (effect_of tick before deed) (notes_of tick before deed) calls before (peers_after tick before deed) e after
 
-abbrev pub SeatsBurnFor : {D : Type 0} → Face D → ℕ → ℕ → List (Seat D) → List (Seat D) → Ending → Type 0
-SeatsBurnFor f choice id before after (Whole done) = Unit {0}
-SeatsBurnFor f choice id before after (Kept notes) = BurnsAt f choice id before after
-SeatsBurnFor f choice id before after Lost = BurnsAt f choice id before after
+abbrev pub SeatsBurnFor : {D : Type 0} → Face D → ℕ → ℕ → ℕ → List (Seat D) → List (Seat D) → Ending → Type 0
+SeatsBurnFor f calls choice id before after (Whole done) = Unit {0}
+SeatsBurnFor f calls choice id before after (Kept notes) = BurnsAt f calls choice id before after
+SeatsBurnFor f calls choice id before after Lost = BurnsAt f calls choice id before after
+
+-- the power of the peer was cut, and its fuse burned unless the step was done before
+abbrev pub PowersEnd : {D : Type 0} → Face D → ℕ → List (Seat D) → List (Seat D) → Bool → Type 0
+PowersEnd f id before after true = Powered f [] (id ∷ []) before after
+PowersEnd f id before after false = Powered f (id ∷ []) (id ∷ []) before after
+
+-- at a refusal it was cut or it wasn't
+abbrev pub MayLosePower : {D : Type 0} → Face D → ℕ → List (Seat D) → List (Seat D) → Type 0
+MayLosePower f id before after = Powered f [] [] before after ⊎ ((is_done : Bool) × PowersEnd f id before after is_done)
+
+-- the same of an answer that says whether it was done
+abbrev pub PowerEnds : {D T : Type 0} → Face D → (T → Bool) → ℕ → List (Seat D) → List (Seat D) → Result T WorldFault → Type 0
+PowerEnds f is_done id before after (Ok x) = PowersEnd f id before after (is_done x)
+PowerEnds f is_done id before after (Err fault) = MayLosePower f id before after
 
 -- whose host was made by this plan
 abbrev pub AreMade : {D : Type 0} → Plan → List (Host D) → Type 0
@@ -106,6 +127,6 @@ HasEnded f plan calls before s after false =
     (is_kept : Bool) × Becomes f plan (events_in before ++ events.Cut s is_kept ∷ []) after × (added_by (world_in f before) s ≡ [] → ⊥) × (calls < 4) × (calls < 2 → is_kept ≡ false)
 
 -- a fuse burned on the disk of its peer, unless it was done
-abbrev pub BurnsUnless : {D : Type 0} → Face D → ℕ → ℕ → List (Seat D) → List (Seat D) → Bool → Type 0
-BurnsUnless f choice id before after true = Unit {0}
-BurnsUnless f choice id before after false = BurnsAt f choice id before after
+abbrev pub BurnsUnless : {D : Type 0} → Face D → ℕ → ℕ → ℕ → List (Seat D) → List (Seat D) → Bool → Type 0
+BurnsUnless f calls choice id before after true = Unit {0}
+BurnsUnless f calls choice id before after false = BurnsAt f calls choice id before after

@@ -1,10 +1,12 @@
 -- The hosts of a world, and how they go on.
-use Rattle.std.specs.Prelude.{◌≡◌, ◌≤◌, ◌+◌, ◌*◌, ◌++◌, ℕ, false, Some, None, List, [], length, drop, map, slice_get, Result, IsErrOf}
-use Rattle.lks_disk.specs.Counts.{Rose}
+use Rattle.std.specs.Prelude.{◌≡◌, ◌≤◌, ◌+◌, ◌*◌, ◌++◌, ℕ, false, Some, None, List, [], length, drop, map, slice_get, Result, IsErrOf, ◌⊎◌, OnErr}
+use Rattle.std.specs.Option.{option_map_or}
+use Rattle.lks_disk.specs.Counts.{Rose, raised}
 use Rattle.lks_disk.specs.Face.{Face}
 use Rattle.lks_base.specs.declared.records.Record.{Record}
 use Rattle.lks_host.specs.Hosted.{StandsFor}
 use Rattle.lks_host.specs.Journals.{journal_on}
+use Rattle.lks_host.specs.Cutting.{Falls}
 use Rattle.lks_host.specs.declared.faults.HostFault.{HostFault}
 use Rattle.lks_host.specs.declared.faults.HostFault.TheVariants as host
 use Rattle.lks_host.specs.declared.hosts.Host.{Host}
@@ -56,6 +58,21 @@ pub record WentOn {D : Type 0} (f : Face D) (before : List (Host D)) (place : �
 abbrev pub HaveGoneOn : {D : Type 0} → Face D → List (Host D) → List (Host D) → Type 0
 HaveGoneOn {D} f before after = (place : ℕ) (k : Host D) → slice_get after place ≡ Some k → WentOn f before place k
 
+-- At a refusal a crash leaves of each host's disk the batches from before, or those with one more: what its peer was to have
+-- more in its journal.
+
+abbrev pub journal_in : ℕ → List Standing → List Record
+journal_in place peers = option_map_or (λ (s : Standing). s.journal) (slice_get peers place) []
+
+pub record HasFallen {D : Type 0} (f : Face D) (before : List (Host D)) (peers : List Standing) (place : ℕ) (k : Host D) : Type 0 where
+  pub host : Host D
+  pub there : slice_get before place ≡ Some host
+  pub falls : (batches : List (List Record)) → StandsFor f host batches
+      → Falls f batches (with_batch batches (drop (length (journal_on f host.journal.disk)) (journal_in place peers))) k.journal.disk
+
+abbrev pub HaveFallen : {D : Type 0} → Face D → List (Host D) → List Standing → List (Host D) → Type 0
+HaveFallen {D} f before peers after = (place : ℕ) (k : Host D) → slice_get after place ≡ Some k → HasFallen f before peers place k
+
 -- a host after so many events, whose disk holds these batches, and whose blocks are in this pool
 pub record IsHostAt {D : Type 0} (f : Face D) (pool : List ℕ) (batches : List (List Record)) (events : ℕ) (h : Host D) : Type 0 where
   pub stands : StandsFor f h batches
@@ -70,6 +87,16 @@ pub record HasActed {D T : Type 0} (f : Face D) (h k : Host D) (result : Result 
   pub fuse : f.fused k.journal.disk ≡ f.fused h.journal.disk
   pub later : f.faults h.journal.disk ≤ f.faults k.journal.disk
   pub cause : (id : ℕ) → IsErrOf result (Disk id) → (h.peer.own.id ≡ id) × Rose (f.faults h.journal.disk) (f.faults k.journal.disk)
+
+-- no fuse burned on a disk, and its power wasn't cut
+pub record KeepsPower {D : Type 0} (f : Face D) (disk now : D) : Type 0 where
+  pub burns : f.burns now ≡ f.burns disk
+  pub cuts : f.cuts now ≡ f.cuts disk
+
+-- its power was cut, once, and at a refusal a fuse burned or none did
+pub record LosesPower {D T : Type 0} (f : Face D) (disk now : D) (result : Result T WorldFault) : Type 0 where
+  pub cuts : f.cuts now ≡ raised (f.cuts disk)
+  pub burns : OnErr result ((f.burns now ≡ f.burns disk) ⊎ (f.burns now ≡ raised (f.burns disk)))
 
 -- what a refusal of a peer's host is to the world, in which no fuse is set
 abbrev pub blamed : ℕ → HostFault → WorldFault

@@ -7,8 +7,10 @@ pub mod Follows
 pub mod Held
 pub mod Hosts
 pub mod Kept
+pub mod Powers
 pub mod Seats
 pub mod States
+pub mod Stopping
 pub mod Unsafe
 pub mod Watched
 pub mod Worlds

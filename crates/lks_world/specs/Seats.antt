@@ -1,6 +1,7 @@
 -- The seats of a world, one for each peer of its plan in order: an honest peer's host, or the idle disk of a corrupt one.
 use Rattle.std.specs.Prelude.{◌≡◌, ◌<◌, ◌==◌, ◌++◌, ℕ, Bool, false, if◌then◌else◌, Option, Some, None, List, length, map, slice_get, slice_set, Result}
 use Rattle.std.specs.List.{filter_map}
+use Rattle.lks_disk.specs.Counts.{raised}
 use Rattle.lks_disk.specs.Face.{Face}
 use Rattle.lks_base.specs.declared.events.Event.{Event}
 use Rattle.lks_base.specs.declared.events.PeerStep.{PeerStep}
@@ -8,12 +9,14 @@ use Rattle.lks_base.specs.declared.limits.TheConstants.{MOST_EVENTS}
 use Rattle.lks_base.specs.declared.plans.PeerPlan.{PeerPlan}
 use Rattle.lks_base.specs.declared.plans.Plan.{Plan}
 use Rattle.lks_base.specs.declared.records.Record.{Record}
+use Rattle.lks_host.specs.Journals.{journal_on}
 use Rattle.lks_host.specs.declared.hosts.Host.{Host}
 use Rattle.lks_law.specs.World.{peer_at, with_records, world}
 use Rattle.lks_world.specs.Counts.{fault_in, honest_ids, HasBurned, ServesHonest}
 use Rattle.lks_world.specs.Cuts.{taker_of, FallsShort}
 use Rattle.lks_world.specs.Disks.{honest_disks}
-use Rattle.lks_world.specs.Hosts.{peer_in, peers_of, with_added}
+use Rattle.lks_world.specs.Hosts.{journal_in, peer_in, peers_of, with_added, disk_in, disks_of}
+use Rattle.lks_world.specs.Powers.{HavePower, raised_at, raised_each}
 use Rattle.lks_world.specs.declared.faults.WorldFault.{WorldFault}
 use Rattle.lks_world.specs.declared.seats.Seat.{Seat}
 use Rattle.lks_world.specs.declared.seats.Seat.TheVariants as seat
@@ -41,6 +44,14 @@ id_at (seat.Idle d) = None
 
 abbrev pub ids_at : {D : Type 0} → List (Seat D) → List (Option ℕ)
 ids_at seats = map id_at seats
+
+-- the numbers of the peers whose hosts are there, in order
+abbrev pub ids_on : {D : Type 0} → List (Seat D) → List ℕ
+ids_on seats = filter_map (λ o. o) (ids_at seats)
+
+-- and their disks
+abbrev pub disks_on : {D : Type 0} → List (Seat D) → List D
+disks_on seats = disks_of (hosts_of seats)
 
 -- whether the host of this peer is there
 abbrev pub is_seat_of : {D : Type 0} → ℕ → Seat D → Bool
@@ -71,14 +82,25 @@ pub record StandsAt {D : Type 0} (f : Face D) (id : ℕ) (seats : List (Seat D))
   pub ranked : slice_get (hosts_of seats) rank ≡ Some host
   pub found : peer_at id (peers_of f (hosts_of seats)) ≡ Some (peer_in f host)
   pub sets : (k : Host D) → hosts_of (slice_set seats place (seat.Host k)) ≡ slice_set (hosts_of seats) rank k
+  pub raises : (count : D → ℕ) (k : Host D) → count (disk_in k) ≡ raised (count (disk_in host)) → map count (disks_on (slice_set seats place (seat.Host k))) ≡ raised_at id (ids_on seats) (map count (disks_on seats))
   pub added : (added : List Record) (k : Host D) → peer_in f k ≡ with_added (peer_in f host) added → peers_of f (hosts_of (slice_set seats place (seat.Host k))) ≡ with_records id added (peers_of f (hosts_of seats))
+  pub grown : (added : List Record) → journal_in rank (with_records id added (peers_of f (hosts_of seats))) ≡ journal_on f host.journal.disk ++ added
 
--- a fuse of this choice burned on the disk of this peer
-abbrev pub BurnsAt : {D : Type 0} → Face D → ℕ → ℕ → List (Seat D) → List (Seat D) → Type 0
-BurnsAt {D} f choice id before after = (peers : List PeerPlan) (rest : List D) → AreSeats peers before
-    → HasBurned f (honest_ids peers) choice (honest_disks peers (disks_at before ++ rest)) (honest_disks peers (disks_at after ++ rest)) id
+-- on the disks of these peers fuses burned, one after another, and the power of these was cut
+pub record Powered {D : Type 0} (f : Face D) (burned cut : List ℕ) (before after : List (Seat D)) : Type 0 where
+  pub burns : map f.burns (disks_on after) ≡ raised_each burned (ids_on before) (map f.burns (disks_on before))
+  pub cuts : map f.cuts (disks_on after) ≡ raised_each cut (ids_on before) (map f.cuts (disks_on before))
+
+-- while these events went on to those, the disks of the hosts counted the fuses and the cuts
+abbrev pub SeatsPower : {D T : Type 0} → Face D → Plan → List Event → List Event → List (Seat D) → List (Seat D) → Result T WorldFault → Type 0
+SeatsPower f plan before after seats now result = HavePower f plan before after (fault_in result) (ids_on seats) (disks_on seats) (disks_on now)
+
+-- a fuse of so many calls and this choice burned on the disk of this peer
+abbrev pub BurnsAt : {D : Type 0} → Face D → ℕ → ℕ → ℕ → List (Seat D) → List (Seat D) → Type 0
+BurnsAt {D} f calls choice id before after = (peers : List PeerPlan) (rest : List D) → AreSeats peers before
+    → HasBurned f (honest_ids peers) calls choice (honest_disks peers (disks_at before ++ rest)) (honest_disks peers (disks_at after ++ rest)) id
 
 -- it did so where the power of the peer falls short in a step, and the step is an event
 abbrev pub SeatsBurn : {D : Type 0} → Face D → Plan → List Event → ℕ → ℕ → List (Seat D) → List (Seat D) → PeerStep → Type 0
 SeatsBurn f plan history calls choice before after s =
-    FallsShort plan history calls s → length history < MOST_EVENTS → BurnsAt f choice (taker_of (world plan history).bag s) before after
+    FallsShort plan history calls s → length history < MOST_EVENTS → BurnsAt f calls choice (taker_of (world plan history).bag s) before after

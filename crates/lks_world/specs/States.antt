@@ -9,6 +9,7 @@ use Rattle.lks_base.specs.declared.events.Event.{Event}
 use Rattle.lks_base.specs.declared.events.PeerStep.{PeerStep}
 use Rattle.lks_base.specs.declared.limits.TheConstants.{MOST_TICKS}
 use Rattle.lks_base.specs.declared.plans.Plan.{Plan}
+use Rattle.lks_host.specs.Cutting.{Falls}
 use Rattle.lks_host.specs.declared.hosts.Host.{Host}
 use Rattle.lks_law.specs.Batches.{batches_at}
 use Rattle.lks_law.specs.Due.{is_pending, pending, ready_at, turns_at, next_to_settle, next_to_deliver, next_to_finish}
@@ -17,6 +18,7 @@ use Rattle.lks_law.specs.Histories.{IsHistory}
 use Rattle.lks_law.specs.Turning.{ready_on, turns_on}
 use Rattle.lks_law.specs.World.{World, Standing, world, effect_of, deed_of}
 use Rattle.lks_peer.specs.Knows.{Knowing}
+use Rattle.lks_world.specs.Held.{with_next}
 use Rattle.lks_world.specs.Hosts.{peers_of, IsHostAt}
 use Rattle.lks_world.specs.Seats.{hosts_of}
 use Rattle.lks_world.specs.declared.settling.Course.{Course}
@@ -63,6 +65,11 @@ pub record IsStateOf {D : Type 0} (f : Face D) (plan : Plan) (s : State D) : Typ
 pub record Becomes {D : Type 0} (f : Face D) (plan : Plan) (history : List Event) (s : State D) : Type 0 where
   pub state : IsStateOf f plan s
   pub events : events_in s ≡ history
+
+-- a crash leaves of each honest peer's disk the batches of its journal, or those with the batch of a step that was begun
+abbrev pub AreLeft : {D : Type 0} → Face D → Plan → Option PeerStep → State D → Type 0
+AreLeft {D} f plan next s =
+    (place : ℕ) (h : Host D) → slice_get (hosts_of s.seats.items) place ≡ Some h → Falls f (batches_at place plan (events_in s)) (batches_at place plan (with_next (events_in s) next)) h.journal.disk
 
 -- one entry more, or at a refusal none
 abbrev pub HasNoted : {T F : Type 0} → Entry → List Entry → List Entry → Result T F → Type 0

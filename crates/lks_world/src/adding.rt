@@ -1,6 +1,6 @@
 //! One event more, unless the history is full.
 
-ghost use Rattle.std.specs.Prelude.{◌≡◌, ◌≤◌, ◌<◌, ◌-◌, ◌++◌, ◌∷◌, [], ℕ, true, None, OnOk, length, get_or};
+ghost use Rattle.std.specs.Prelude.{◌≡◌, ◌≤◌, ◌<◌, ◌-◌, ◌++◌, ◌∷◌, [], ℕ, true, None, Some, OnOk, OnErr, length, get_or};
 ghost use Rattle.lks_base.specs.Checking.{has_corrupt, has_peer};
 ghost use Rattle.lks_base.specs.declared.events.Event.TheVariants as events;
 ghost use Rattle.lks_base.specs.declared.limits.TheConstants.{MOST_FORGED_BYTES, MOST_TICKS};
@@ -10,8 +10,10 @@ ghost use Rattle.lks_law.specs.Questions.{question_on};
 ghost use Rattle.lks_watch.specs.Watching.{ears, AsksOn, WatchesBy};
 ghost use Rattle.lks_watch.specs.declared.watches.Watch.{Watch};
 ghost use Rattle.lks_world.specs.Kept.{kept};
-ghost use Rattle.lks_world.specs.Seats.{Counted};
-ghost use Rattle.lks_world.specs.States.{IsStateOf, Becomes, Extends, events_in, world_in};
+ghost use Rattle.lks_world.specs.Seats.{Counted, SeatsPower};
+ghost use Rattle.lks_world.specs.Stopping.{HasStopped};
+ghost use Rattle.lks_world.specs.Watched.{StopsBy};
+ghost use Rattle.lks_world.specs.States.{IsStateOf, AreLeft, Becomes, Extends, events_in, world_in};
 
 use crate::faults::WorldFault;
 use crate::other_events::{crash, forge, lose, tick};
@@ -47,7 +49,12 @@ pub fn take_step<R: Wait, D: CrashDisk, J: EffortJudge, B: Bell>(
         Extends plan state.old.history.items state.new.history.items }
     ensures watches { (plan : Plan) → IsStateOf D.face plan state.old → (first : Watch J B) → AsksOn (ears J.heard J.verdict B.rung B.limit) (world_in D.face state.old) s first watch.old →
         OnOk result (WatchesBy (ears J.heard J.verdict B.rung B.limit) plan (events_in state.old) (events_in state.new) first watch.new) }
+    ensures stops { (plan : Plan) → IsStateOf D.face plan state.old → (first : Watch J B) → AsksOn (ears J.heard J.verdict B.rung B.limit) (world_in D.face state.old) s first watch.old →
+        OnErr result (StopsBy (ears J.heard J.verdict B.rung B.limit) plan (events_in state.old) (events_in state.new) (Some s) first watch.new) }
+    ensures fallen { (plan : Plan) → IsStateOf D.face plan state.old → OnErr result (AreLeft D.face plan (Some s) state.new) }
+    ensures err { OnErr result (state.new.history.items ≡ state.old.history.items) }
     ensures counted { Counted D.face state.old.seats.items state.new.seats.items result }
+    ensures power { (plan : Plan) → SeatsPower D.face plan (events_in state.old) (events_in state.new) state.old.seats.items state.new.seats.items result }
 {
     step(alloc, rt, state, watch, s)?;
     Ok(())
@@ -68,7 +75,10 @@ pub fn add_step<R: Wait, D: CrashDisk, J: EffortJudge, B: Bell>(
         Extends plan state.old.history.items state.new.history.items }
     ensures watches { (plan : Plan) → IsStateOf D.face plan state.old → question_on (world_in D.face state.old) s ≡ None →
         OnOk result (WatchesBy (ears J.heard J.verdict B.rung B.limit) plan (events_in state.old) (events_in state.new) watch.old watch.new) }
+    ensures stops { (plan : Plan) → IsStateOf D.face plan state.old → question_on (world_in D.face state.old) s ≡ None →
+        OnErr result (HasStopped D.face (ears J.heard J.verdict B.rung B.limit) plan (λ after. after ≡ kept (events_in state.old) (events.Step s)) (events_in state.old) watch.old state.new watch.new) }
     ensures counted { Counted D.face state.old.seats.items state.new.seats.items result }
+    ensures power { (plan : Plan) → SeatsPower D.face plan (events_in state.old) (events_in state.new) state.old.seats.items state.new.seats.items result }
 {
     if room(state) > 0 {
         take_step(alloc, rt, state, watch, s)?;
@@ -92,6 +102,7 @@ pub fn add_forgery<D: CrashDisk>(
         OnOk result (Becomes D.face plan (kept (events_in state.old) (events.Forge from to bytes)) state.new) }
     ensures extends { (plan : Plan) → IsStateOf D.face plan state.old → has_corrupt plan.peers from ≡ true → has_peer plan.peers to ≡ true → length bytes ≤ MOST_FORGED_BYTES →
         Extends plan state.old.history.items state.new.history.items }
+    ensures err { OnErr result (state.new.history.items ≡ state.old.history.items) }
     ensures seats { state.new.seats.items ≡ state.old.seats.items }
 {
     are_bytes(bytes.as_slice());
@@ -109,6 +120,7 @@ pub fn add_ticks<D: CrashDisk>(state: &mut State<'_, D>, by: u32) -> Result<(), 
     ensures becomes { (plan : Plan) → IsStateOf D.face plan state.old →
         OnOk result (Becomes D.face plan (kept (events_in state.old) (events.Tick by)) state.new) }
     ensures extends { (plan : Plan) → IsStateOf D.face plan state.old → Extends plan state.old.history.items state.new.history.items }
+    ensures err { OnErr result (state.new.history.items ≡ state.old.history.items) }
     ensures seats { state.new.seats.items ≡ state.old.seats.items }
 {
     if room(state) > 0 {
@@ -123,6 +135,7 @@ pub fn add_loss<D: CrashDisk>(state: &mut State<'_, D>, envelope: u32) -> Result
         OnOk result (Becomes D.face plan (kept (events_in state.old) (events.Lose envelope)) state.new) }
     ensures extends { (plan : Plan) → IsStateOf D.face plan state.old → WasSent (world_in D.face state.old) envelope →
         Extends plan state.old.history.items state.new.history.items }
+    ensures err { OnErr result (state.new.history.items ≡ state.old.history.items) }
     ensures seats { state.new.seats.items ≡ state.old.seats.items }
 {
     if room(state) > 0 {
@@ -136,6 +149,7 @@ pub fn add_crash<D: CrashDisk>(state: &mut State<'_, D>, peer: PeerId) -> Result
     ensures becomes { (plan : Plan) → IsStateOf D.face plan state.old → IsHonest plan peer →
         OnOk result (Becomes D.face plan (kept (events_in state.old) (events.Crash peer)) state.new) }
     ensures extends { (plan : Plan) → IsStateOf D.face plan state.old → IsHonest plan peer → Extends plan state.old.history.items state.new.history.items }
+    ensures err { OnErr result (state.new.history.items ≡ state.old.history.items) }
     ensures seats { state.new.seats.items ≡ state.old.seats.items }
 {
     if room(state) > 0 {

@@ -1,14 +1,15 @@
 //! How a world begins: each peer gets its seat, an honest one its host on its disk.
 
-ghost use Rattle.std.specs.Prelude.{◌≡◌, ◌≤◌, ◌<◌, ◌+◌, ◌++◌, ◌∷◌, [], ℕ, List, false, Some, None, IfOk, OnOk, IsErrOf, IsSome, length, map, filter, option_map, reverse, vec_len, vec_capacity};
+ghost use Rattle.std.specs.Prelude.{◌≡◌, ◌≤◌, ◌<◌, ◌+◌, ◌++◌, ◌∷◌, [], ℕ, List, false, Some, None, IfOk, IfErr, OnOk, OnErr, IsErrOf, IsSome, length, map, filter, option_map, reverse, vec_len, vec_capacity};
 ghost use Rattle.lks_base.specs.Checking.{plan_fault};
 ghost use Rattle.lks_base.specs.declared.plans.PeerPlan.{PeerPlan as Planned};
 ghost use Rattle.lks_disk.specs.Counts.{Rose};
-ghost use Rattle.lks_host.specs.Hosted.{answer_of, disk_hosted};
+ghost use Rattle.lks_host.specs.Hosted.{HasFront, answer_of, disk_hosted};
+ghost use Rattle.lks_law.specs.Batches.{alone};
 ghost use Rattle.lks_law.specs.World.{standing_of, is_honest, honest_peer};
-ghost use Rattle.lks_world.specs.Begun.{CanBegin, CanSeat, HasBegun, HasBegunAs, HasNext, HaveBegun, HaveRoom, IsSeated, IsServed, disk_seated, fault_seated, disks_after};
+ghost use Rattle.lks_world.specs.Begun.{CanBegin, CanSeat, HasBegun, HasBegunAs, HasNext, HaveBegun, HaveRoom, IsSeated, IsServed, IsTaken, StopsAt, disk_seated, fault_seated, disks_after};
 ghost use Rattle.lks_world.specs.Counts.{fault_in, ServesHonest};
-ghost use Rattle.lks_world.specs.Held.{IsFresh, AreFresh};
+ghost use Rattle.lks_world.specs.Held.{IsFresh, AreFresh, HaveBegunUpTo};
 ghost use Rattle.lks_world.specs.Hosts.{peer_in, peers_of};
 ghost use Rattle.lks_world.specs.Seats.{AreSeats, disks_at, hosts_of};
 ghost use Rattle.lks_world.specs.States.{IsStateOf};
@@ -37,6 +38,7 @@ fn create_host<R: Wait, D: CrashDisk>(
     requires fresh { IsFresh D.face disk }
     ensures peer { IfOk result (λ host. option_map (standing_of plan.now) (honest_peer id plan.now) ≡ Some (peer_in D.face host)) }
     ensures begun { IfOk result (λ host. HasBegun D.face pool.now host) }
+    ensures front { (p : Planned) → honest_peer id plan.now ≡ Some p → OnErr result (HasFront D.face (map alone (standing_of plan.now p).journal) (disk_hosted result)) }
     ensures fuse { D.face.fused (disk_hosted result) ≡ D.face.fused disk }
     ensures later { D.face.faults disk ≤ D.face.faults (disk_hosted result) }
     ensures cause { (k : ℕ) → IsErrOf (answer_of result) (WorldFault.Disk k) → (id ≡ k) × Rose (D.face.faults disk) (D.face.faults (disk_hosted result)) }
@@ -60,6 +62,7 @@ fn make_seat<R: Wait, D: CrashDisk>(
     requires planned { peer.now.corrupt ≡ false → honest_peer peer.now.id plan.now ≡ Some peer.now }
     requires fresh { IsFresh D.face disk }
     ensures begun { IfOk result (HasBegunAs D.face pool.now plan.now peer.now) }
+    ensures front { IfErr result (λ e. (peer.now.corrupt ≡ false) × HasFront D.face (map alone (standing_of plan.now peer.now).journal) e.0) }
     ensures served { IsServed D.face peer.now disk (disk_seated result) (fault_seated result) }
 {
     if peer.corrupt {
@@ -83,6 +86,8 @@ fn seat_next<R: Wait, D: CrashDisk + Drop>(
 ) -> Result<(), WorldFault>
     requires next { HasNext D.face plan.now peer.now disks.old seats.old }
     ensures seated { OnOk result (IsSeated D.face pool.now plan.now peer.now seats.old.items seats.new.items) }
+    ensures taken { OnOk result (IsTaken disks.old.items disks.new.items) }
+    ensures stops { OnErr result (StopsAt D.face plan.now peer.now seats.old.items disks.old.items seats.new.items disks.new.items) }
     ensures fresh { OnOk result (AreFresh D.face (reverse disks.new.items)) }
     ensures serves { (before after : List Planned) → AreSeats before seats.old.items →
         ServesHonest D.face (before ++ peer.now ∷ after) (disks_at seats.old.items ++ reverse disks.old.items) (disks_at seats.new.items ++ reverse disks.new.items) (fault_in result) }
@@ -118,6 +123,7 @@ fn seat_each<R: Wait, D: CrashDisk + Drop>(
     ensures seats { OnOk result (AreSeats plan.now.peers seats.new.items) }
     ensures peers { OnOk result (peers_of D.face (hosts_of seats.new.items) ≡ map (standing_of plan.now) (filter is_honest plan.now.peers)) }
     ensures begun { OnOk result (HaveBegun D.face pool.now (hosts_of seats.new.items)) }
+    ensures stops { OnErr result (HaveBegunUpTo D.face plan.now (reverse disks.old.items) (disks_at seats.new.items ++ reverse disks.new.items)) }
     ensures serves { ServesHonest D.face plan.now.peers (reverse disks.old.items) (disks_at seats.new.items ++ reverse disks.new.items) (fault_in result) }
     ensures fuses { map D.face.fused (disks_at seats.new.items ++ reverse disks.new.items) ≡ map D.face.fused (reverse disks.old.items) }
     ensures len { vec_len disks.new + vec_len seats.new ≤ vec_capacity disks.new }
@@ -141,6 +147,7 @@ pub fn begin<'a, R: Wait, D: CrashDisk + Drop>(
     ensures state { IfOk result (λ state. IsStateOf D.face plan.now state) }
     ensures nothing { IfOk result (λ state. state.history.items ≡ []) }
     ensures seats { IfOk result (λ state. AreSeats plan.now.peers state.seats.items) }
+    ensures stops { OnErr result (HaveBegunUpTo D.face plan.now (reverse disks.old.items) (disks_after result disks.new.items)) }
     ensures serves { ServesHonest D.face plan.now.peers (reverse disks.old.items) (disks_after result disks.new.items) (fault_in result) }
     ensures fuses { map D.face.fused (disks_after result disks.new.items) ≡ map D.face.fused (reverse disks.old.items) }
     ensures room { IfOk result (λ state. vec_len disks.new + length state.seats.items ≤ vec_capacity disks.new) }

@@ -1,28 +1,32 @@
 //! Peers whose power fails, at a call of the disk in a step or between two events.
 
-ghost use Rattle.std.specs.Prelude.{◌≡◌, ◌<◌, ◌-◌, true, None, IfOk, IfSome, IsSome, OnOk, OnErr, length};
+ghost use Rattle.std.specs.Prelude.{◌≡◌, ◌<◌, ◌-◌, true, None, Some, IfOk, IfSome, IsSome, OnOk, OnErr, length, List, ◌∷◌, []};
 ghost use Rattle.lks_base.specs.Checking.{plan_fault};
 ghost use Rattle.lks_base.specs.declared.events.Event.TheVariants as events;
 ghost use Rattle.lks_base.specs.declared.limits.TheConstants.{MOST_EVENTS};
 ghost use Rattle.lks_base.specs.declared.plans.Plan.{Plan as Planned};
-ghost use Rattle.lks_host.specs.Hosted.{IsMadeBy};
+ghost use Rattle.lks_base.specs.declared.records.Record.{Record as Recorded};
+ghost use Rattle.lks_host.specs.Cutting.{Falls};
+ghost use Rattle.lks_host.specs.Hosted.{IsMadeBy, StandsFor};
 ghost use Rattle.lks_host.specs.Journals.{journal_on};
+ghost use Rattle.lks_law.specs.Batches.{with_batch};
 ghost use Rattle.lks_law.specs.Facts.{IsHeard};
 ghost use Rattle.lks_law.specs.Histories.{IsHonest, MayStep};
 ghost use Rattle.lks_law.specs.Questions.{questions};
 ghost use Rattle.lks_law.specs.Table.{reaction};
 ghost use Rattle.lks_law.specs.Turning.{has_inner_in};
-ghost use Rattle.lks_law.specs.World.{peer_at};
+ghost use Rattle.lks_law.specs.World.{peer_at, peers_after};
 ghost use Rattle.lks_script.specs.StepRules.{is_cut_step};
 ghost use Rattle.lks_watch.specs.Watching.{ears, AsksOn, WatchesBy};
 ghost use Rattle.lks_watch.specs.declared.watches.Watch.{Watch};
 ghost use Rattle.lks_world.specs.Cuts.{taker_of, step_cut, Cuts, CutsOff};
-ghost use Rattle.lks_world.specs.Endings.{answer_to, AreMade, BurnsFor, BurnsUnless, CanTake, HasEnded, HostEnds, PeersEnd, SeatsBurnFor, ending_of, event_for, is_whole, notes_for, sends_for};
-ghost use Rattle.lks_world.specs.Hosts.{peer_in, peers_of, IsReady, AreReady, GoesOn, HaveGoneOn, HasActed};
+ghost use Rattle.lks_world.specs.Endings.{answer_to, AreMade, BurnsFor, BurnsUnless, CanTake, HasEnded, HostEnds, PeersEnd, PowerEnds, SeatsBurnFor, ending_of, event_for, is_whole, notes_for, sends_for};
+ghost use Rattle.lks_world.specs.Hosts.{peer_in, peers_of, IsReady, AreReady, GoesOn, HaveGoneOn, HaveFallen, HasActed, LosesPower};
 ghost use Rattle.lks_world.specs.Kept.{kept};
-ghost use Rattle.lks_world.specs.Seats.{hosts_of, Counted, SeatsBurn};
-ghost use Rattle.lks_world.specs.States.{events_in, world_in, IsStateOf, Becomes, Extends};
-ghost use Rattle.lks_world.specs.Watched.{AsksIf};
+ghost use Rattle.lks_world.specs.Seats.{hosts_of, Counted, Powered, SeatsBurn, SeatsPower};
+ghost use Rattle.lks_world.specs.States.{events_in, world_in, IsStateOf, AreLeft, Becomes, Extends};
+ghost use Rattle.lks_world.specs.Stopping.{HasStopped};
+ghost use Rattle.lks_world.specs.Watched.{AsksIf, StopsBy};
 
 use crate::adding::{add_crash, room, take_step};
 use crate::deeds::{Deed, make_deed, taker};
@@ -79,7 +83,10 @@ fn restart_as<R: Wait, D: CrashDisk>(
     requires made { IsMadeBy plan.now host.old.peer.own }
     ensures peer { OnOk result (peer_in D.face host.new ≡ peer_in D.face host.old) }
     ensures on { OnOk result (GoesOn D.face host.old host.new) }
+    ensures falls { (batches : List (List Recorded)) → StandsFor D.face host.old batches → OnErr result (Falls D.face batches batches host.new.journal.disk) }
     ensures acted { HasActed D.face host.old host.new result }
+    ensures power { LosesPower D.face host.old.journal.disk host.new.journal.disk result }
+    ensures burns { D.face.burns host.new.journal.disk ≡ D.face.burns host.old.journal.disk }
 {
     match restart(rt, pool, host, plan) {
         Ok(()) => Ok(()),
@@ -116,8 +123,11 @@ fn cut_input<R: Wait, D: CrashDisk>(
     requires heard { IsHeard input.now }
     ensures ends { IfOk result (HostEnds D.face (reaction host.old.peer.own (journal_on D.face host.old.journal.disk) tick input.now) power.calls host.old host.new) }
     ensures on { OnOk result (GoesOn D.face host.old host.new) }
+    ensures falls { (batches : List (List Recorded)) → StandsFor D.face host.old batches →
+        OnErr result (Falls D.face batches (with_batch batches (reaction host.old.peer.own (journal_on D.face host.old.journal.disk) tick input.now).records) host.new.journal.disk) }
     ensures acted { HasActed D.face host.old host.new result }
-    ensures burns { IfOk result (λ e. BurnsFor D.face power.choice e host.old.journal.disk host.new.journal.disk) }
+    ensures power { LosesPower D.face host.old.journal.disk host.new.journal.disk result }
+    ensures burns { IfOk result (λ e. BurnsFor D.face power.calls power.choice e host.old.journal.disk host.new.journal.disk) }
 {
     let (calls, choice) = (u32::from(power.calls), u64::from(power.choice));
     match cut_step(rt, pool, host, plan, tick, input, calls, choice) {
@@ -142,8 +152,11 @@ fn cut_as<R: Wait, D: CrashDisk>(
     requires heard { IfSome deed.now (λ d. IsHeard d.input) }
     ensures ends { IfOk result (HostEnds D.face (answer_to tick (peer_in D.face host.old) deed.now) power.calls host.old host.new) }
     ensures on { OnOk result (GoesOn D.face host.old host.new) }
+    ensures falls { (batches : List (List Recorded)) → StandsFor D.face host.old batches →
+        OnErr result (Falls D.face batches (with_batch batches (answer_to tick (peer_in D.face host.old) deed.now).records) host.new.journal.disk) }
     ensures acted { HasActed D.face host.old host.new result }
-    ensures burns { IfOk result (λ e. BurnsFor D.face power.choice e host.old.journal.disk host.new.journal.disk) }
+    ensures power { LosesPower D.face host.old.journal.disk host.new.journal.disk result }
+    ensures burns { IfOk result (λ e. BurnsFor D.face power.calls power.choice e host.old.journal.disk host.new.journal.disk) }
 {
     match deed {
         Some(deed) => cut_input(rt, pool, plan, host, tick, &deed.input, power),
@@ -172,8 +185,10 @@ fn cut_at<R: Wait, D: CrashDisk>(
     requires told { IfSome deed.now (λ d. IsHeard d.input × (d.peer ≡ id)) }
     ensures ends { IfOk result (PeersEnd tick deed.now power.calls (peers_of D.face (hosts_of seats.old.items)) (peers_of D.face (hosts_of seats.new.items))) }
     ensures on { OnOk result (HaveGoneOn D.face (hosts_of seats.old.items) (hosts_of seats.new.items)) }
+    ensures fallen { OnErr result (HaveFallen D.face (hosts_of seats.old.items) (peers_after tick (peers_of D.face (hosts_of seats.old.items)) deed.now) (hosts_of seats.new.items)) }
     ensures counted { Counted D.face seats.old.items seats.new.items result }
-    ensures burns { IfOk result (SeatsBurnFor D.face power.choice id seats.old.items seats.new.items) }
+    ensures power { PowerEnds D.face is_whole id seats.old.items seats.new.items result }
+    ensures burns { IfOk result (SeatsBurnFor D.face power.calls power.choice id seats.old.items seats.new.items) }
 {
     let Some(place) = place_of(seats, id) else {
         unreachable!()
@@ -225,10 +240,14 @@ fn cut_there<R: Wait, D: CrashDisk, J: EffortJudge, B: Bell>(
     requires can { CanTake D.face plan.now state.old s }
     ensures ended { IfOk result (HasEnded D.face plan.now power.calls state.old s state.new) }
     ensures err { OnErr result (state.new.history.items ≡ state.old.history.items) }
+    ensures fallen { OnErr result (AreLeft D.face plan.now (Some s) state.new) }
     ensures counted { Counted D.face state.old.seats.items state.new.seats.items result }
-    ensures burns { IfOk result (BurnsUnless D.face power.choice (taker_of state.old.bag.items s) state.old.seats.items state.new.seats.items) }
+    ensures power { PowerEnds D.face (λ is_done. is_done) (taker_of state.old.bag.items s) state.old.seats.items state.new.seats.items result }
+    ensures burns { IfOk result (BurnsUnless D.face power.calls power.choice (taker_of state.old.bag.items s) state.old.seats.items state.new.seats.items) }
     ensures watches { (first : Watch J B) → AsksOn (ears J.heard J.verdict B.rung B.limit) (world_in D.face state.old) s first watch.old →
         OnOk result (WatchesBy (ears J.heard J.verdict B.rung B.limit) plan.now (events_in state.old) (events_in state.new) first watch.new) }
+    ensures stops { (first : Watch J B) → AsksOn (ears J.heard J.verdict B.rung B.limit) (world_in D.face state.old) s first watch.old →
+        OnErr result (StopsBy (ears J.heard J.verdict B.rung B.limit) plan.now (events_in state.old) (events_in state.new) (Some s) first watch.new) }
 {
     let id = taker(&state.bag, s);
     let deed = make_deed(alloc, &state.bag, s)?;
@@ -265,9 +284,12 @@ fn cut_off<R: Wait, D: CrashDisk, J: EffortJudge, B: Bell>(
     ensures cuts { OnOk result (IsStateOf D.face plan.now state.new × Cuts plan.now (events_in state.old) power.calls s (events_in state.new)) }
     ensures extends { Extends plan.now state.old.history.items state.new.history.items }
     ensures counted { Counted D.face state.old.seats.items state.new.seats.items result }
+    ensures power { SeatsPower D.face plan.now (events_in state.old) (events_in state.new) state.old.seats.items state.new.seats.items result }
     ensures burns { OnOk result (SeatsBurn D.face plan.now (events_in state.old) power.calls power.choice state.old.seats.items state.new.seats.items s) }
     ensures watches { (first : Watch J B) → AsksOn (ears J.heard J.verdict B.rung B.limit) (world_in D.face state.old) s first watch.old →
         OnOk result (WatchesBy (ears J.heard J.verdict B.rung B.limit) plan.now (events_in state.old) (events_in state.new) first watch.new) }
+    ensures stops { (first : Watch J B) → AsksOn (ears J.heard J.verdict B.rung B.limit) (world_in D.face state.old) s first watch.old →
+        OnErr result (HasStopped D.face (ears J.heard J.verdict B.rung B.limit) plan.now (Cuts plan.now (events_in state.old) power.calls s) (events_in state.old) first state.new watch.new) }
 {
     let id = taker(&state.bag, s);
     if place_of(&state.seats, id).is_none() {
@@ -291,6 +313,7 @@ fn find_step<D: CrashDisk, J: EffortJudge, B: Bell>(
     ensures step { (plan : Planned) → IsStateOf D.face plan state.now → J.heard watch.old.judge ≡ questions plan (events_in state.now) →
         IfOk result (λ o. o ≡ step_cut (J.verdict watch.old.judge) plan (events_in state.now) step) }
     ensures asks { (plan : Planned) → is_cut_step plan step ≡ true → IfOk result (λ o. AsksIf (ears J.heard J.verdict B.rung B.limit) (world_in D.face state.now) o watch.old watch.new) }
+    ensures err { OnErr result (watch.new ≡ watch.old) }
 {
     match step {
         CutStep::Next => match first_waiting(state) {
@@ -323,8 +346,10 @@ pub fn cut<R: Wait, D: CrashDisk, J: EffortJudge, B: Bell>(
     ensures state { OnOk result (IsStateOf D.face plan.now state.new) }
     ensures cuts { OnOk result (CutsOff plan.now (events_in state.old) power.calls (step_cut (J.verdict watch.old.judge) plan.now (events_in state.old) step) (events_in state.new)
         × WatchesBy (ears J.heard J.verdict B.rung B.limit) plan.now (events_in state.old) (events_in state.new) watch.old watch.new) }
+    ensures stops { OnErr result (HasStopped D.face (ears J.heard J.verdict B.rung B.limit) plan.now (CutsOff plan.now (events_in state.old) power.calls (step_cut (J.verdict watch.old.judge) plan.now (events_in state.old) step)) (events_in state.old) watch.old state.new watch.new) }
     ensures extends { Extends plan.now state.old.history.items state.new.history.items }
     ensures counted { Counted D.face state.old.seats.items state.new.seats.items result }
+    ensures power { SeatsPower D.face plan.now (events_in state.old) (events_in state.new) state.old.seats.items state.new.seats.items result }
     ensures burns { OnOk result (IfSome (step_cut (J.verdict watch.old.judge) plan.now (events_in state.old) step) (SeatsBurn D.face plan.now (events_in state.old) power.calls power.choice state.old.seats.items state.new.seats.items)) }
 {
     if room(state) == 0 {
@@ -348,7 +373,9 @@ fn reopen<R: Wait, D: CrashDisk>(
     requires made { AreMade plan.now (hosts_of seats.old.items) }
     ensures peers { OnOk result (peers_of D.face (hosts_of seats.new.items) ≡ peers_of D.face (hosts_of seats.old.items)) }
     ensures on { OnOk result (HaveGoneOn D.face (hosts_of seats.old.items) (hosts_of seats.new.items)) }
+    ensures fallen { OnErr result (HaveFallen D.face (hosts_of seats.old.items) (peers_of D.face (hosts_of seats.old.items)) (hosts_of seats.new.items)) }
     ensures counted { Counted D.face seats.old.items seats.new.items result }
+    ensures power { Powered D.face [] (id ∷ []) seats.old.items seats.new.items }
 {
     let Some(place) = place_of(seats, id) else {
         return Ok(());
@@ -370,8 +397,11 @@ pub fn crash<R: Wait, D: CrashDisk>(
     requires honest { IsHonest plan.now peer }
     requires state { IsStateOf D.face plan.now state.old }
     ensures becomes { OnOk result (Becomes D.face plan.now (kept (events_in state.old) (events.Crash peer)) state.new) }
+    ensures err { OnErr result (state.new.history.items ≡ state.old.history.items) }
     ensures extends { Extends plan.now state.old.history.items state.new.history.items }
+    ensures fallen { OnErr result (AreLeft D.face plan.now None state.new) }
     ensures counted { Counted D.face state.old.seats.items state.new.seats.items result }
+    ensures power { SeatsPower D.face plan.now (events_in state.old) (events_in state.new) state.old.seats.items state.new.seats.items result }
 {
     if room(state) == 0 {
         return Ok(());

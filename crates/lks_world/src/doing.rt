@@ -1,6 +1,6 @@
 //! What a step of a script does to the state of a world.
 
-ghost use Rattle.std.specs.Prelude.{◌≡◌, ℕ, true, None, OnOk, IfSome};
+ghost use Rattle.std.specs.Prelude.{◌≡◌, ℕ, true, None, OnOk, OnErr, IfSome};
 ghost use Rattle.lks_base.specs.Checking.{plan_fault};
 ghost use Rattle.lks_base.specs.declared.plans.Plan.{Plan as Planned};
 ghost use Rattle.lks_law.specs.Questions.{Verdicts, questions};
@@ -11,8 +11,11 @@ ghost use Rattle.lks_watch.specs.Watching.{ears, Watching, Watches, WatchesBy};
 ghost use Rattle.lks_world.specs.Follows.{done, lost, delivered_again, next_event, spoken, Performs};
 ghost use Rattle.lks_script.specs.declared.steps.CutStep.{CutStep};
 ghost use Rattle.lks_world.specs.Cuts.{step_cut};
-ghost use Rattle.lks_world.specs.Seats.{Counted, SeatsBurn};
-ghost use Rattle.lks_world.specs.States.{IsStateOf, Becomes, Extends, events_in, next_of};
+ghost use Rattle.lks_world.specs.Seats.{Counted, SeatsBurn, SeatsPower};
+ghost use Rattle.lks_world.specs.Stopping.{HasStopped};
+ghost use Rattle.lks_world.specs.States.{IsStateOf, Becomes, Extends, events_in, next_of, AreLeft};
+ghost use Rattle.lks_world.specs.Powers.{IsQuiet};
+ghost use Rattle.lks_world.specs.Watched.{StopsBy};
 
 use crate::adding::{add_forgery, add_loss, add_step, add_ticks, room, take_step};
 use crate::cutting::{Power, crash, cut};
@@ -44,9 +47,12 @@ fn go_on<R: Wait, D: CrashDisk, J: EffortJudge, B: Bell>(
         OnOk result (Becomes D.face plan (done (next_event (J.verdict watch.old.judge) (next_of course)) times plan (events_in state.old)) state.new) }
     ensures watches { (plan : Planned) → IsStateOf D.face plan state.old → J.heard watch.old.judge ≡ questions plan (events_in state.old) →
         OnOk result (WatchesBy (ears J.heard J.verdict B.rung B.limit) plan (events_in state.old) (events_in state.new) watch.old watch.new) }
+    ensures stops { (plan : Planned) → IsStateOf D.face plan state.old → J.heard watch.old.judge ≡ questions plan (events_in state.old) →
+        OnErr result (HasStopped D.face (ears J.heard J.verdict B.rung B.limit) plan (λ after. after ≡ done (next_event (J.verdict watch.old.judge) (next_of course)) times plan (events_in state.old)) (events_in state.old) watch.old state.new watch.new) }
     ensures extends { (plan : Planned) → IsStateOf D.face plan state.old → J.heard watch.old.judge ≡ questions plan (events_in state.old) →
         Extends plan state.old.history.items state.new.history.items }
     ensures counted { Counted D.face state.old.seats.items state.new.seats.items result }
+    ensures power { (plan : Planned) → SeatsPower D.face plan (events_in state.old) (events_in state.new) state.old.seats.items state.new.seats.items result }
 {
     for turn in 0..times.min(room(state)) {
         match next(state, course) {
@@ -65,6 +71,7 @@ fn lose_first<D: CrashDisk>(state: &mut State<'_, D>) -> Result<(), OutOfMemory>
     ensures becomes { (plan : Planned) → IsStateOf D.face plan state.old →
         OnOk result (Becomes D.face plan (lost plan (events_in state.old)) state.new) }
     ensures extends { (plan : Planned) → IsStateOf D.face plan state.old → Extends plan state.old.history.items state.new.history.items }
+    ensures err { OnErr result (state.new.history.items ≡ state.old.history.items) }
     ensures seats { state.new.seats.items ≡ state.old.seats.items }
 {
     match first_waiting(state) {
@@ -86,9 +93,12 @@ fn deliver_again<R: Wait, D: CrashDisk, J: EffortJudge, B: Bell>(
         OnOk result (Becomes D.face plan (delivered_again (J.verdict watch.old.judge) envelope plan (events_in state.old)) state.new) }
     ensures watches { (plan : Planned) → IsStateOf D.face plan state.old → J.heard watch.old.judge ≡ questions plan (events_in state.old) →
         OnOk result (WatchesBy (ears J.heard J.verdict B.rung B.limit) plan (events_in state.old) (events_in state.new) watch.old watch.new) }
+    ensures stops { (plan : Planned) → IsStateOf D.face plan state.old → J.heard watch.old.judge ≡ questions plan (events_in state.old) →
+        OnErr result (HasStopped D.face (ears J.heard J.verdict B.rung B.limit) plan (λ after. after ≡ delivered_again (J.verdict watch.old.judge) envelope plan (events_in state.old)) (events_in state.old) watch.old state.new watch.new) }
     ensures extends { (plan : Planned) → IsStateOf D.face plan state.old → J.heard watch.old.judge ≡ questions plan (events_in state.old) →
         Extends plan state.old.history.items state.new.history.items }
     ensures counted { Counted D.face state.old.seats.items state.new.seats.items result }
+    ensures power { (plan : Planned) → SeatsPower D.face plan (events_in state.old) (events_in state.new) state.old.seats.items state.new.seats.items result }
 {
     if room(state) == 0 {
         return Ok(());
@@ -111,6 +121,7 @@ fn speak<D: CrashDisk>(
         OnOk result (Becomes D.face plan (spoken (events_in state.old) said.now) state.new) }
     ensures extends { (plan : Planned) → IsStateOf D.face plan state.old → IfSome said.now (MayBeSaid plan) →
         Extends plan state.old.history.items state.new.history.items }
+    ensures err { OnErr result (state.new.history.items ≡ state.old.history.items) }
     ensures seats { state.new.seats.items ≡ state.old.seats.items }
 {
     let Some(said) = said else {
@@ -134,7 +145,9 @@ fn say<D: CrashDisk>(
     ensures state { OnOk result (IsStateOf D.face plan.now state.new) }
     ensures performs { OnOk result (((verdict : Verdicts) → Performs verdict plan.now (events_in state.old) step.now (events_in state.new))
         × ((x : Watching) → Watches plan.now (events_in state.old) (events_in state.new) x x)) }
+    ensures quiet { OnOk result (IsQuiet plan.now (events_in state.old) (events_in state.new)) }
     ensures extends { Extends plan.now state.old.history.items state.new.history.items }
+    ensures err { OnErr result (state.new.history.items ≡ state.old.history.items) }
     ensures seats { state.new.seats.items ≡ state.old.seats.items }
 {
     let said = what_is_said(alloc, plan, step)?;
@@ -156,8 +169,10 @@ pub fn do_step<R: Wait, D: CrashDisk, J: EffortJudge, B: Bell>(
     ensures state { OnOk result (IsStateOf D.face plan.now state.new) }
     ensures performs { OnOk result (Performs (J.verdict watch.old.judge) plan.now (events_in state.old) step.now (events_in state.new)
         × WatchesBy (ears J.heard J.verdict B.rung B.limit) plan.now (events_in state.old) (events_in state.new) watch.old watch.new) }
+    ensures stops { OnErr result (HasStopped D.face (ears J.heard J.verdict B.rung B.limit) plan.now (Performs (J.verdict watch.old.judge) plan.now (events_in state.old) step.now) (events_in state.old) watch.old state.new watch.new) }
     ensures extends { Extends plan.now state.old.history.items state.new.history.items }
     ensures counted { Counted D.face state.old.seats.items state.new.seats.items result }
+    ensures power { SeatsPower D.face plan.now (events_in state.old) (events_in state.new) state.old.seats.items state.new.seats.items result }
     ensures burns { (calls choice : ℕ) (given : CutStep) → step.now ≡ Step.Cut calls choice given →
         OnOk result (IfSome (step_cut (J.verdict watch.old.judge) plan.now (events_in state.old) given) (SeatsBurn D.face plan.now (events_in state.old) calls choice state.old.seats.items state.new.seats.items)) }
 {

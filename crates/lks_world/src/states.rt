@@ -1,15 +1,19 @@
 //! The state of a world, and what an event does to it.
 
-ghost use Rattle.std.specs.Prelude.{◌≡◌, ◌++◌, ◌∷◌, [], Some, IfOk, IfSome, OnOk, OnErr, ◌==◌, length, filter, map, not};
+ghost use Rattle.std.specs.Prelude.{◌≡◌, ◌++◌, ◌∷◌, [], Some, IfOk, IfSome, OnOk, OnErr, ◌==◌, length, filter, map, not, List};
 ghost use Rattle.std.specs.List.{filter_map, range_with_len};
 ghost use Rattle.lks_base.specs.declared.events.Event.TheVariants as events;
+ghost use Rattle.lks_base.specs.declared.records.Record.{Record as Recorded};
+ghost use Rattle.lks_host.specs.Cutting.{Falls};
+ghost use Rattle.lks_host.specs.Hosted.{StandsFor};
 ghost use Rattle.lks_law.specs.Alarms.{alarms_by, alarm_noted};
+ghost use Rattle.lks_law.specs.Batches.{with_batch};
 ghost use Rattle.lks_law.specs.Entries.{carried, entry_for, notes_at, notes_of, entry_of};
 ghost use Rattle.lks_law.specs.World.{Standing, reaction_at, with_records, peer_at, sent_by, actor_of, effect_of, peers_after, happens};
 ghost use Rattle.lks_law.specs.Facts.{IsHeard};
 ghost use Rattle.lks_watch.specs.Watching.{ears, Hears};
-ghost use Rattle.lks_world.specs.Hosts.{peer_in, peers_of, IsReady, AreReady, GoesOn, HaveGoneOn, HasActed, with_added};
-ghost use Rattle.lks_world.specs.Seats.{hosts_of, Counted};
+ghost use Rattle.lks_world.specs.Hosts.{peer_in, peers_of, IsReady, AreReady, GoesOn, HaveGoneOn, HaveFallen, HasActed, KeepsPower, with_added};
+ghost use Rattle.lks_world.specs.Seats.{hosts_of, Counted, Powered};
 ghost use Rattle.lks_world.specs.States.{left_after, world_in, sends_in, HasNoted};
 
 use crate::deeds::{Deed, ends_of, make_deed};
@@ -69,7 +73,10 @@ fn act_as<R: Wait, D: CrashDisk>(
     ensures notes { IfOk result (λ d. d.notes ≡ notes_at (Some (peer_in D.face host.old)) (reaction_at tick (Some (peer_in D.face host.old)) input.now).records) }
     ensures peer { OnOk result (peer_in D.face host.new ≡ with_added (peer_in D.face host.old) (reaction_at tick (Some (peer_in D.face host.old)) input.now).records) }
     ensures on { OnOk result (GoesOn D.face host.old host.new) }
+    ensures falls { (batches : List (List Recorded)) → StandsFor D.face host.old batches →
+        OnErr result (Falls D.face batches (with_batch batches (reaction_at tick (Some (peer_in D.face host.old)) input.now).records) host.new.journal.disk) }
     ensures acted { HasActed D.face host.old host.new result }
+    ensures power { KeepsPower D.face host.old.journal.disk host.new.journal.disk }
 {
     let Reaction { records, sends } = match host.step(rt, pool, tick, input) {
         Ok(reaction) => reaction,
@@ -93,7 +100,9 @@ fn act<R: Wait, D: CrashDisk>(
     ensures notes { IfOk result (λ d. d.notes ≡ notes_at (peer_at deed.now.peer (peers_of D.face (hosts_of seats.old.items))) (reaction_at tick (peer_at deed.now.peer (peers_of D.face (hosts_of seats.old.items))) deed.now.input).records) }
     ensures peers { OnOk result (peers_of D.face (hosts_of seats.new.items) ≡ with_records deed.now.peer (reaction_at tick (peer_at deed.now.peer (peers_of D.face (hosts_of seats.old.items))) deed.now.input).records (peers_of D.face (hosts_of seats.old.items))) }
     ensures on { OnOk result (HaveGoneOn D.face (hosts_of seats.old.items) (hosts_of seats.new.items)) }
+    ensures fallen { OnErr result (HaveFallen D.face (hosts_of seats.old.items) (with_records deed.now.peer (reaction_at tick (peer_at deed.now.peer (peers_of D.face (hosts_of seats.old.items))) deed.now.input).records (peers_of D.face (hosts_of seats.old.items))) (hosts_of seats.new.items)) }
     ensures counted { Counted D.face seats.old.items seats.new.items result }
+    ensures power { Powered D.face [] [] seats.old.items seats.new.items }
 {
     let Some(place) = place_of(seats, deed.peer) else {
         return Ok(nothing_done(alloc));
@@ -182,7 +191,9 @@ fn do_deed<R: Wait, D: CrashDisk>(
     ensures notes { IfOk result (λ d. d.notes ≡ notes_of tick (peers_of D.face (hosts_of seats.old.items)) deed.now) }
     ensures peers { OnOk result (peers_of D.face (hosts_of seats.new.items) ≡ peers_after tick (peers_of D.face (hosts_of seats.old.items)) deed.now) }
     ensures on { OnOk result (HaveGoneOn D.face (hosts_of seats.old.items) (hosts_of seats.new.items)) }
+    ensures fallen { OnErr result (HaveFallen D.face (hosts_of seats.old.items) (peers_after tick (peers_of D.face (hosts_of seats.old.items)) deed.now) (hosts_of seats.new.items)) }
     ensures counted { Counted D.face seats.old.items seats.new.items result }
+    ensures power { Powered D.face [] [] seats.old.items seats.new.items }
 {
     match deed {
         Some(deed) => act(alloc, rt, pool, seats, tick, deed),
@@ -253,7 +264,8 @@ pub fn step<R: Wait, D: CrashDisk, J: EffortJudge, B: Bell>(
     ensures history { HasNoted (entry_of (world_in D.face state.old) (events.Step s)) state.old.history.items state.new.history.items result }
     ensures pending { OnOk result (state.new.pending.items ≡ left_after s state.old.pending.items ++ range_with_len (length state.old.bag.items) (sends_in (world_in D.face state.old) s)) }
     ensures on { OnOk result (HaveGoneOn D.face (hosts_of state.old.seats.items) (hosts_of state.new.seats.items)) }
-    ensures counted { Counted D.face state.old.seats.items state.new.seats.items result }
+    ensures fallen { OnErr result (HaveFallen D.face (hosts_of state.old.seats.items) (happens (world_in D.face state.old) (events.Step s)).peers (hosts_of state.new.seats.items)) }
+    ensures counted { Counted D.face state.old.seats.items state.new.seats.items result × Powered D.face [] [] state.old.seats.items state.new.seats.items }
     ensures pool { state.new.pool.now ≡ state.old.pool.now }
     ensures hears { Hears (ears J.heard J.verdict B.rung B.limit) (alarms_by (world_in D.face state.old) (events.Step s)) watch.old watch.new result }
 {

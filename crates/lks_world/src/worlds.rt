@@ -1,6 +1,6 @@
 //! A world as its callers see it: a plan, and the history of the events that it kept.
 
-ghost use Rattle.std.specs.Prelude.{◌≡◌, ◌≤◌, ◌++◌, [], ℕ, true, None, Some, IfOk, IfErr, IfSome, OnOk, List, length};
+ghost use Rattle.std.specs.Prelude.{◌≡◌, ◌≤◌, ◌++◌, [], ℕ, true, None, Some, IfOk, IfErr, IfSome, OnOk, OnErr, List, length};
 ghost use Rattle.lks_base.specs.Checking.{plan_fault};
 ghost use Rattle.lks_base.specs.declared.events.Event.{Event};
 ghost use Rattle.lks_law.specs.Entries.{entries};
@@ -8,11 +8,13 @@ ghost use Rattle.lks_law.specs.Histories.{IsHistory};
 ghost use Rattle.lks_law.specs.Questions.{questions};
 ghost use Rattle.lks_script.specs.StepRules.{is_step_of};
 ghost use Rattle.lks_script.specs.declared.steps.CutStep.{CutStep};
-ghost use Rattle.lks_watch.specs.Watching.{ears};
+ghost use Rattle.lks_watch.specs.Watching.{ears, watching};
 ghost use Rattle.lks_world.specs.Counts.{fault_in, BurnsInStep, ServesHonest};
 ghost use Rattle.lks_world.specs.Cuts.{step_cut};
-ghost use Rattle.lks_world.specs.Held.{AreFresh, AreUnfused, HaveBatches};
-ghost use Rattle.lks_world.specs.Worlds.{Begins, PerformsIn};
+ghost use Rattle.lks_world.specs.Held.{AreFresh, AreUnfused, HaveBatches, HaveBegunUpTo};
+ghost use Rattle.lks_world.specs.Stopping.{StopsIn};
+ghost use Rattle.lks_world.specs.Worlds.{Begins, PerformsIn, SpendsPower};
+ghost use Rattle.lks_world.specs.Watched.{Stops};
 
 use crate::beginning::begin;
 use crate::doing::do_step;
@@ -85,6 +87,7 @@ impl<'a, D: CrashDisk + Drop, J: EffortJudge, B: Bell> World<'a, D, J, B> {
         ensures begins { IfOk result (Begins plan judge bells.items) }
         ensures refused { IfErr result (λ e. (e.0.history.items ≡ []) × AreUnfused D.face e.0.disks.items × (e.0.judge ≡ judge) × (e.0.bells.items ≡ bells.items)) }
         ensures disks { ServesHonest D.face plan.peers disks.items (disks_made result) (fault_made result) }
+        ensures made { OnErr result (HaveBegunUpTo D.face plan disks.items (disks_made result)) }
     {
         turn_round(&mut disks);
         match begin(alloc, rt, pool, &plan, &mut disks) {
@@ -117,12 +120,16 @@ impl<'a, D: CrashDisk + Drop, J: EffortJudge, B: Bell> World<'a, D, J, B> {
         // The history goes on as the step says and as the judge says, who was asked what the new events ask; and the bells were
         // rung for their alarms.
         ensures performs { OnOk result (PerformsIn (ears J.heard J.verdict B.rung B.limit) step.now self.old self.new) }
+        // At a fault it went on less far: to a front of such a history. The judge was asked what that asks, and what the step asks that
+        // was begun, if one was; the bells were rung for its alarms; and a crash leaves the journals of that history, or that of the
+        // peer which began the step with the step's batch.
+        ensures stops { OnErr result (StopsIn D.face (ears J.heard J.verdict B.rung B.limit) step.now self.old self.new) }
         ensures front { (more : List Event) × (self.new.history ≡ self.old.history ++ more) }
         ensures stopped { self.new.stopped ≡ fault_in result }
         ensures disks { ServesHonest D.face self.old.plan.peers self.old.disks self.new.disks (fault_in result) }
-        // Where a step is cut off, a fuse of its choice burned on the peer's disk.
-        ensures burns { (calls choice : ℕ) (given : CutStep) → step.now ≡ Step.Cut calls choice given →
-            OnOk result (IfSome (step_cut (J.verdict self.old.judge) self.old.plan self.old.history given) (BurnsInStep D.face self.old.plan self.old.history calls choice self.old.disks self.new.disks)) }
+        // The honest peers' disks counted the fuses that burned and the cuts of their power in the new events. Where a step is cut off,
+        // the fuse is one of its calls and choice.
+        ensures power { SpendsPower D.face J.verdict step.now self.old self.new result }
     {
         let (plan, state, watch) = (&self.plan, &mut self.state, &mut self.watch);
         match do_step(self.alloc, rt, plan, state, watch, step) {

@@ -1,7 +1,7 @@
 -- A world that was played, and its disks.
-use Rattle.std.proofs.Common.{◌≡◌, ◌∙◌, inl, inr, ap, sym, subst, cond, ℕ, List, [], ◌∷◌, refl}
+use Rattle.std.proofs.Common.{◌≡◌, ◌∙◌, inl, inr, ap, sym, subst, cond, ℕ, List, [], ◌∷◌, ◌++◌, refl}
 use Rattle.std.proofs.lemmas.Bool.{lt-ltb}
-use Rattle.std.specs.Prelude.{All, Option, Some, None, map}
+use Rattle.std.specs.Prelude.{All, Bool, Option, Some, None, Result, map}
 use Rattle.std.proofs.lemmas.List.Elements.{All-head, All-tail}
 use Rattle.lks_alarm.specs.Bells.{Heard, left_of, seen}
 use Rattle.lks_alarm.specs.declared.alarms.Alarm.{Alarm}
@@ -15,15 +15,31 @@ use Rattle.lks_law.specs.Questions.{questions}
 use Rattle.lks_script.specs.declared.steps.Script.{Script}
 use Rattle.lks_script.specs.declared.steps.Step.{Step}
 use Rattle.lks_watch.specs.Watching.{Ears}
-use Rattle.lks_world.proofs.ServingLaws.{serves_then}
+use Rattle.lks_world.proofs.ServingLaws.{serves_none, serves_then}
 use Rattle.lks_world.specs.Counts.{ServesHonest}
-use Rattle.lks_world.specs.Follows.{Follows}
-use Rattle.lks_world.specs.Held.{HaveBatches}
+use Rattle.lks_world.specs.Follows.{Follows, FollowsUpTo}
+use Rattle.lks_world.proofs.BegunUpTo.{none_up_to}
+use Rattle.lks_world.specs.Held.{HaveBatches, HaveBatchesOrNext}
+use Rattle.lks_world.specs.declared.faults.WorldFault.TheVariants.{Memory}
+use Rattle.lks_law.proofs.Happening.{no_events}
+use Rattle.lks_law.specs.World.{world}
+use Rattle.lks_world.specs.Watched.{asked_next}
+use Rattle.std.proofs.lemmas.List.{append-nil}
 use Rattle.lks_world.specs.Worlds.{Begins, Seen}
-use Rattle.lockss.specs.Playing.{AreGiven, Devices, HaveWatched, IsSilent, TellsOf, Tells, fault_told, IsPlayed, PlaysIn, Plays, IsServed}
-use Rattle.lockss.specs.declared.playing.Tale.{Tale}
-use Rattle.lockss.specs.declared.statuses.Status.{Status}
-use Rattle.lockss.specs.declared.statuses.Status.TheVariants.{Done, Alarmed, Usage, BadScript, ReadFault, WriteFault, DiskFault, NoMemory, TooLong}
+use Rattle.lks_base.specs.declared.events.Event.{Event}
+use Rattle.lks_base.specs.declared.events.PeerStep.{PeerStep}
+use Rattle.lks_command.specs.declared.commands.Command.{Command}
+use Rattle.lks_command.specs.declared.commands.Command.TheVariants.{Replay, Drill}
+use Rattle.lks_law.specs.Questions.{Verdicts}
+use Rattle.lks_outside.specs.declared.sinks.WriteStop.{WriteStop}
+use Rattle.lks_report.specs.Alarms.{has_any}
+use Rattle.lks_world.specs.declared.faults.WorldFault.{WorldFault}
+use Rattle.lockss.specs.Handed.{AreGiven, AreGivenFor, Devices, IsSilent, Senses}
+use Rattle.lockss.specs.Playing.{IsPlayed, IsStopped, PlaysIn}
+use Rattle.lockss.specs.Deeds.{deed_of}
+use Rattle.lockss.specs.Promise.{Halts, Kept, NeverBegins, Plays, PlaysTo, Tells}
+use Rattle.lockss.specs.declared.ends.Played.{Played}
+use Rattle.lockss.specs.declared.ends.Played.TheVariants.{Stopped, Told, Unmade}
 
 no_questions : (plan : Plan) → [] ≡ questions plan []
 unfolding questions
@@ -32,6 +48,11 @@ no_questions plan = refl
 no_alarms : (plan : Plan) → [] ≡ alarms plan []
 unfolding alarms
 no_alarms plan = refl
+
+-- neither command goes on after its steps
+stays_there : (command : Command) (verdict : Verdicts) (plan : Plan) (history : List Event) → (deed_of command).goes_on verdict plan history history
+stays_there Replay verdict plan history = refl
+stays_there (Drill seed) verdict plan history = refl
 
 -- bells that have rung for nothing and want more are those that are left before the first alarm
 silent_left : {B : Type 0} (rung : B → List Alarm) (limit : B → ℕ) (bells : List B) → All (IsSilent rung limit) bells → seen rung limit bells ≡ left_of [] (map limit bells)
@@ -44,75 +65,102 @@ silent_left rung limit (b ∷ bs) silent =
     ∙ sym (ap (λ t. cond t (first ∷ rest) rest) (lt-ltb 0 (limit b) here.1))
 
 -- the world began with the script's plan and no events, and did its steps
-module _ {D K J B : Type 0} (f : Face D) (e : Ears J B) (taken : K → Option (List ℕ)) (tale : Tale) (s : Script) (before after : Devices D K J B) (first now : Seen D J B) (steps : List Step) (asked : J) (hung : List B)
-    (good : plan_fault s.plan ≡ None) (given : AreGiven f e before) (asked_is : before.judge ≡ Some asked) (hung_is : hung ≡ before.bells) (begins : Begins s.plan asked hung first) (same : steps ≡ s.steps)
+module _ {D K J B : Type 0} (e : Senses D K J B) (command : Command) (s : Script) (before after : Devices D K J B) (first now : Seen D J B) (steps : List Step) (asked : J) (hung : List B) (handed : List D)
+    (good : plan_fault s.plan ≡ None) (given : AreGiven e before) (asked_is : before.judge ≡ Some asked) (hung_is : hung ≡ before.bells) (handed_is : handed ≡ before.disks) (begins : Begins s.plan asked hung first) (same : steps ≡ s.steps)
     (kept : now.plan ≡ first.plan) (disks_back : after.disks ≡ now.disks) (judge_back : after.judge ≡ Some now.judge) (bells_back : after.bells ≡ now.bells)
-    (holds : now.stopped ≡ None → HaveBatches f now.plan now.history now.disks) where
-  asked_first : e.heard first.judge ≡ questions first.plan first.history
+    (made : ServesHonest e.face s.plan.peers handed first.disks None) (occurred : IsHistory now.plan now.history)
+    (holds : now.stopped ≡ None → HaveBatches e.face now.plan now.history now.disks) where
+  asked_first : e.ears.heard first.judge ≡ questions first.plan first.history
   asked_first =
       let both : Some asked ≡ Some given.unasked.0 = sym asked_is ∙ given.unasked.1 in
       let one : asked ≡ given.unasked.0 = cc in
-      ap e.heard (begins.judge ∙ one) ∙ given.unasked.2 ∙ no_questions first.plan ∙ ap (questions first.plan) (sym begins.history)
+      ap e.ears.heard (begins.judge ∙ one) ∙ given.unasked.2 ∙ no_questions first.plan ∙ ap (questions first.plan) (sym begins.history)
 
-  rung_first : seen e.rung e.limit first.bells ≡ left_of (alarms first.plan first.history) (map e.limit before.bells)
+  rung_first : seen e.ears.rung e.ears.limit first.bells ≡ left_of (alarms first.plan first.history) (map e.ears.limit before.bells)
   rung_first =
-      ap (seen e.rung e.limit) (begins.bells ∙ hung_is) ∙ silent_left e.rung e.limit before.bells given.silent
-      ∙ ap (λ (raised : List Alarm). left_of raised (map e.limit before.bells)) (no_alarms first.plan ∙ ap (alarms first.plan) (sym begins.history))
+      ap (seen e.ears.rung e.ears.limit) (begins.bells ∙ hung_is) ∙ silent_left e.ears.rung e.ears.limit before.bells given.silent
+      ∙ ap (λ (raised : List Alarm). left_of raised (map e.ears.limit before.bells)) (no_alarms first.plan ∙ ap (alarms first.plan) (sym begins.history))
 
-  watched_with : (answer : Status) (told told_after : Option (List ℕ)) → IsPlayed e tale steps first now told told_after answer → HaveWatched e s.plan now.history before after
-  watched_with answer told told_after played =
-      let w = played.watches in
-      let limits = map e.limit before.bells in
-      record {
-        first = first.judge;
-        last = now.judge;
-        given = asked_is ∙ ap Some (sym begins.judge);
-        back = judge_back;
-        same = w.verdict;
-        heard = subst (λ p. e.heard now.judge ≡ questions p now.history) begins.plan (w.heard asked_first);
-        rung = ap (seen e.rung e.limit) bells_back ∙ subst (λ p. seen e.rung e.limit now.bells ≡ left_of (alarms p now.history) limits) begins.plan (w.bells limits rung_first);
-      }
+  happened : IsHistory s.plan now.history
+  happened = subst (λ p. IsHistory p now.history) (kept ∙ begins.plan) occurred
 
-  told_with : (answer : Status) → IsPlayed e tale steps first now (taken before.sink) (taken after.sink) answer → Tells f e taken tale s before after answer
-  unfolding watched_with
-  told_with answer played =
-      let verdict = e.verdict first.judge in
-      let happened : IsHistory s.plan now.history = subst (λ p. IsHistory p now.history) begins.plan played.happened in
+  -- first the world was made, and then the steps were done
+  served_then : (fault : Option WorldFault) → ServesHonest e.face first.plan.peers first.disks now.disks fault → ServesHonest e.face s.plan.peers before.disks after.disks fault
+  served_then fault played =
+      subst (λ ds. ServesHonest e.face s.plan.peers ds after.disks fault) handed_is
+      (subst (λ ds. ServesHonest e.face s.plan.peers handed ds fault) (sym disks_back)
+      (serves_then e.face s.plan.peers handed first.disks now.disks fault made
+      (subst (λ (p : Plan). ServesHonest e.face p.peers first.disks now.disks fault) begins.plan played)))
+
+  -- what is kept at the end, or at a fault
+  abbrev kept_with : (fault : Option WorldFault) (next : Option PeerStep) → e.ears.verdict now.judge ≡ e.ears.verdict first.judge → e.ears.heard now.judge ≡ questions first.plan now.history ++ asked_next (world first.plan now.history) next
+      → seen e.ears.rung e.ears.limit now.bells ≡ left_of (alarms first.plan now.history) (map e.ears.limit before.bells) → ServesHonest e.face first.plan.peers first.disks now.disks fault → Kept e (deed_of command) s before after fault next now.history
+  kept_with fault next same heard rung serves = record {
+    good = good;
+    happened = happened;
+    safe = is_safe s.plan now.history good happened;
+    served = served_then fault serves;
+    first = first.judge;
+    last = now.judge;
+    given = asked_is ∙ ap Some (sym begins.judge);
+    back = judge_back;
+    same = same;
+    heard = subst (λ p. e.ears.heard now.judge ≡ questions p now.history ++ asked_next (world p now.history) next) begins.plan heard;
+    rung = ap (seen e.ears.rung e.ears.limit) bells_back ∙ subst (λ p. seen e.ears.rung e.ears.limit now.bells ≡ left_of (alarms p now.history) (map e.ears.limit before.bells)) begins.plan rung;
+  }
+
+  played_whole : (told : Result Bool WriteStop) → IsPlayed e command steps first now before.sink after.sink told → Plays e (deed_of command) s before after
+  played_whole told played = record {
+    done = now.history;
+    history = now.history;
+    kept = kept_with None None played.watches.verdict (played.watches.heard asked_first ∙ sym (append-nil (questions first.plan now.history))) (played.watches.bells (map e.ears.limit before.bells) rung_first) played.serves;
+    follows =
+        subst (λ v. Follows v s.plan [] s.steps now.history) (sym played.watches.verdict)
+        (subst (λ ss. Follows (e.ears.verdict first.judge) s.plan [] ss now.history) same
+        (subst (λ h. Follows (e.ears.verdict first.judge) s.plan h steps now.history) begins.history
+        (subst (λ p. Follows (e.ears.verdict first.judge) p first.history steps now.history) begins.plan played.follows)));
+    goes_on = stays_there command (e.ears.verdict now.judge) s.plan now.history;
+    held =
+        subst (λ p. HaveBatches e.face p now.history after.disks) (kept ∙ begins.plan)
+        (subst (HaveBatches e.face now.plan now.history) (sym disks_back) (holds played.running));
+  }
+
+  halted : (fault : WorldFault) → IsStopped e steps first now before.sink after.sink fault → Halts e (deed_of command) s before after fault
+  halted fault stopped =
+      let off = stopped.off in
+      let next = off.next in
       record {
+        next = next;
         history = now.history;
-        watched = watched_with answer (taken before.sink) (taken after.sink) played;
+        kept = kept_with (Some fault) next off.stops.verdict (off.stops.heard asked_first) (off.stops.bells (map e.ears.limit before.bells) rung_first) stopped.serves;
         follows =
-            subst (λ ss. Follows verdict s.plan [] ss now.history) same
-            (subst (λ h. Follows verdict s.plan h steps now.history) begins.history
-            (subst (λ p. Follows verdict p first.history steps now.history) begins.plan played.follows));
-        safe = record {
-          good = good;
-          happened = happened;
-          safe = is_safe s.plan now.history good happened;
-          held =
-              subst (λ p. HaveBatches f p now.history after.disks) (kept ∙ begins.plan)
-              (subst (HaveBatches f now.plan now.history) (sym disks_back) (holds played.running));
-        };
-        told = subst (λ p. TellsOf tale p now.history (taken before.sink) (taken after.sink) answer) begins.plan played.told;
+            subst (λ v. FollowsUpTo v s.plan [] s.steps now.history next) (sym off.stops.verdict)
+            (subst (λ ss. FollowsUpTo (e.ears.verdict first.judge) s.plan [] ss now.history next) same
+            (subst (λ h. FollowsUpTo (e.ears.verdict first.judge) s.plan h steps now.history next) begins.history
+            (subst (λ p. FollowsUpTo (e.ears.verdict first.judge) p first.history steps now.history next) begins.plan off.follows)));
+        left = subst (λ p. HaveBatchesOrNext e.face p now.history next after.disks) begins.plan (subst (HaveBatchesOrNext e.face first.plan now.history next) (sym disks_back) off.left);
+        silent = stopped.silent;
       }
 
-  pub played_as : (answer : Status) → PlaysIn e taken tale steps first now before.sink after.sink answer → Plays f e taken tale s before after answer
-  played_as Done played = told_with Done played
-  played_as Alarmed played = told_with Alarmed played
-  played_as WriteFault played = told_with WriteFault played
-  played_as (DiskFault peer) played = played
-  played_as NoMemory (inl stays) = inl stays
-  played_as NoMemory (inr played) = inr (told_with NoMemory played)
-  played_as Usage played = played
-  played_as (BadScript line) played = played
-  played_as ReadFault played = played
-  played_as TooLong played = played
+  pub played_as : (played : Played) → PlaysIn e command steps first now before.sink after.sink played → PlaysTo e (deed_of command) s before after played
+  unfolding played_whole halted
+  played_as (Told told) is = (
+    played_whole told is,
+    subst (λ (p : Plan). Tells e ((deed_of command).told p now.history) (has_any (alarms p now.history)) before.sink after.sink told) begins.plan is.told,
+  )
+  played_as (Stopped fault) is = halted fault is
+  played_as (Unmade fault) is = absurd is
 
--- first the world was made, and then the steps were done
-pub served_then : {D J B : Type 0} (f : Face D) (s : Script) (handed disks back : List D) (first now : Seen D J B) (answer : Status) → first.plan ≡ s.plan → handed ≡ disks → back ≡ now.disks
-    → ServesHonest f s.plan.peers handed first.disks None → ServesHonest f first.plan.peers first.disks now.disks (fault_told answer) → IsServed f disks back s answer
-served_then f s handed disks back first now answer plan same given made played =
-    subst (λ ds. ServesHonest f s.plan.peers ds back (fault_told answer)) same
-    (subst (λ ds. ServesHonest f s.plan.peers handed ds (fault_told answer)) (sym given)
-    (serves_then f s.plan.peers handed first.disks now.disks (fault_told answer) made
-    (subst (λ (p : Plan). ServesHonest f p.peers first.disks now.disks (fault_told answer)) plan played)))
+-- where nothing was made, the disks are fresh
+pub none_made : {D K J B : Type 0} (e : Senses D K J B) (command : Command) (s : Script) (given : Devices D K J B) → plan_fault s.plan ≡ None → AreGiven e given → NeverBegins e (deed_of command) s given given Memory
+none_made e command s given good has = record {
+  good = good;
+  served = serves_none e.face s.plan.peers given.disks (Some Memory) (λ id is. absurd cc);
+  begun = none_up_to e.face s.plan given.disks has.fresh;
+  same = refl;
+}
+
+-- what words that name a command ask, it asks
+pub given_for : {D K J B : Type 0} (command : Command) (e : Senses D K J B) (given : Devices D K J B) → AreGivenFor (Some command) e given → AreGiven e given
+given_for Replay e given are = are
+given_for (Drill seed) e given are = are

@@ -1,7 +1,32 @@
--- The exit code of each answer.
-use Rattle.std.specs.Prelude.{ℕ}
+-- The answer of a run that came so far, and the exit code of each answer.
+use Rattle.std.specs.Prelude.{ℕ, true, false, Ok, Err}
+use Rattle.lks_outside.specs.declared.sinks.WriteStop.TheVariants as writing
+use Rattle.lks_outside.specs.declared.sources.ReadStop.TheVariants as reading
+use Rattle.lks_script.specs.declared.faults.ScriptFault.TheVariants as script
+use Rattle.lks_world.specs.declared.faults.WorldFault.TheVariants as world
+use Rattle.lockss.specs.declared.ends.End.{End}
+use Rattle.lockss.specs.declared.ends.End.TheVariants as end
+use Rattle.lockss.specs.declared.ends.Played.TheVariants.{Stopped, Told, Unmade}
+use Rattle.lockss.specs.declared.ends.Unscripted.TheVariants.{Unread, Unsaid}
 use Rattle.lockss.specs.declared.statuses.Status.{Status}
 use Rattle.lockss.specs.declared.statuses.Status.TheVariants.{Done, Alarmed, Usage, BadScript, ReadFault, WriteFault, DiskFault, NoMemory, TooLong}
+
+abbrev pub status_of : End → Status
+status_of end.Unnamed = Usage
+status_of end.Unbegun = NoMemory
+status_of (end.Unscripted (Unread reading.Failed)) = ReadFault
+status_of (end.Unscripted (Unread reading.TooLong)) = TooLong
+status_of (end.Unscripted (Unread reading.Memory)) = NoMemory
+status_of (end.Unscripted (Unsaid (script.BadLine line))) = BadScript line
+status_of (end.Unscripted (Unsaid script.Memory)) = NoMemory
+status_of (end.Played (Unmade (world.Disk peer))) = DiskFault peer
+status_of (end.Played (Unmade world.Memory)) = NoMemory
+status_of (end.Played (Stopped (world.Disk peer))) = DiskFault peer
+status_of (end.Played (Stopped world.Memory)) = NoMemory
+status_of (end.Played (Told (Ok false))) = Done
+status_of (end.Played (Told (Ok true))) = Alarmed
+status_of (end.Played (Told (Err writing.Failed))) = WriteFault
+status_of (end.Played (Told (Err writing.Memory))) = NoMemory
 
 abbrev pub code_of : Status → ℕ
 code_of Done = 0

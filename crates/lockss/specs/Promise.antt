@@ -1,43 +1,130 @@
--- What the program promises of each run that it reports, whatever its source and its sink tell.
-use Rattle.std.specs.Prelude.{◌≡◌, None, List}
+-- What the program promises of each run, from the bytes that it read to those that it wrote, whatever source and sink tell of them.
+use Rattle.std.specs.Prelude.{◌≡◌, ◌≤◌, ℕ, List, [], ◌++◌, length, map, Bool, true, false, Option, Some, None, Result, Ok, Err}
+use Rattle.lks_alarm.specs.Bells.{left_of, seen}
 use Rattle.lks_base.specs.Checking.{plan_fault}
 use Rattle.lks_base.specs.declared.events.Event.{Event}
-use Rattle.lks_base.specs.declared.plans.Plan.{Plan}
-use Rattle.lks_disk.specs.Face.{Face}
+use Rattle.lks_base.specs.declared.events.PeerStep.{PeerStep}
+use Rattle.lks_command.specs.declared.commands.Command.{Command}
+use Rattle.lks_law.specs.Alarms.{alarms}
 use Rattle.lks_law.specs.Histories.{IsHistory}
+use Rattle.lks_law.specs.Questions.{questions}
 use Rattle.lks_law.specs.Safe.{Safe}
+use Rattle.lks_law.specs.World.{world}
+use Rattle.lks_outside.specs.Counts.{Rose}
+use Rattle.lks_outside.specs.Streams.{AddsFront, ReadEnds}
+use Rattle.lks_outside.specs.declared.sinks.WriteStop.{WriteStop}
+use Rattle.lks_outside.specs.declared.sinks.WriteStop.TheVariants as writing
+use Rattle.lks_outside.specs.declared.sources.ReadStop.TheVariants as reading
+use Rattle.lks_report.specs.Alarms.{has_any}
+use Rattle.lks_script.specs.declared.faults.ScriptFault.TheVariants.{BadLine}
+use Rattle.lks_script.specs.declared.steps.Script.{Script}
 use Rattle.lks_world.specs.Counts.{ServesHonest}
-use Rattle.lks_world.specs.Held.{HaveBatches}
+use Rattle.lks_world.specs.Follows.{Follows, FollowsUpTo}
+use Rattle.lks_world.specs.Held.{HaveBatches, HaveBatchesOrNext, HaveBegunUpTo}
+use Rattle.lks_world.specs.Watched.{asked_next}
+use Rattle.lks_world.specs.declared.faults.WorldFault.{WorldFault}
+use Rattle.lockss.specs.Codes.{status_of}
+use Rattle.lockss.specs.Deeds.{Deed, deed_of}
+use Rattle.lockss.specs.Handed.{Devices, Senses}
+use Rattle.lockss.specs.declared.ends.End.{End}
+use Rattle.lockss.specs.declared.ends.End.TheVariants as end
+use Rattle.lockss.specs.declared.ends.Played.{Played}
+use Rattle.lockss.specs.declared.ends.Played.TheVariants.{Stopped, Told, Unmade}
+use Rattle.lockss.specs.declared.ends.Unscripted.{Unscripted}
+use Rattle.lockss.specs.declared.ends.Unscripted.TheVariants.{Unread, Unsaid}
+use Rattle.lockss.specs.declared.runs.TheConstants.{MOST_BYTES}
 use Rattle.lockss.specs.declared.statuses.Status.{Status}
-use Rattle.lockss.specs.declared.statuses.Status.TheVariants.{Done, Alarmed, Usage, BadScript, ReadFault, WriteFault, DiskFault, NoMemory, TooLong}
 
--- The plan breaks no rule, and what happened is a history that such a plan can have. It is safe: each block that an honest
--- peer replaced has, before it in that peer's journal, at least a quorum of votes of distinct invited inner peers of one
--- poll, at most a minority of them for the old block, and at most a minority against the new one; the hashes of each vote of
--- an honest peer are those of one version of its copy; and at most a minority of the votes behind a replaced block is of
--- honest peers whose version had that block and all before it. Each honest peer's disk holds the batches of its journal, and
--- so it does after every crash.
-pub record IsSafeRun {D : Type 0} (f : Face D) (disks : List D) (plan : Plan) (history : List Event) : Type 0 where
-  pub good : plan_fault plan ≡ None
-  pub happened : IsHistory plan history
-  pub safe : Safe plan history
-  pub held : HaveBatches f plan history disks
+module _ {S X : Type 0} (left : S → Option (List ℕ)) (failed : S → ℕ) (source after : S) (reads : Bool) (said : List ℕ → Result X ℕ) where
+  -- The bytes that were read, at most 16,777,216: of a source that tells, all that were left. Or none, and the source is as it was.
+  abbrev pub AreRead : Bool → List ℕ → Type 0
+  AreRead false bytes = (bytes ≡ []) × (after ≡ source)
+  AreRead true bytes = (length bytes ≤ MOST_BYTES) × ((all : List ℕ) → left source ≡ Some all → (all ≡ bytes) × (left after ≡ Some []))
 
--- What stands on the disks is of such a run: a disk that isn't an honest peer's stays as it was.
-pub record SomeSafeRun {D : Type 0} (f : Face D) (before after : List D) : Type 0 where
-  pub plan : Plan
-  pub history : List Event
-  pub run : IsSafeRun f after plan history
-  pub served : ServesHonest f plan.peers before after None
+  -- these are a script
+  pub record Finds (x : X) : Type 0 where
+    pub bytes : List ℕ
+    pub read : AreRead reads bytes
+    pub script : said bytes ≡ Ok x
 
--- the promise at each answer: every run whose report was written, all of it or less, was a safe one
-abbrev pub Promise : {D : Type 0} → Face D → List D → List D → Status → Type 0
-Promise f before after Done = SomeSafeRun f before after
-Promise f before after Alarmed = SomeSafeRun f before after
-Promise f before after WriteFault = SomeSafeRun f before after
-Promise f before after Usage = Unit {0}
-Promise f before after (BadScript line) = Unit {0}
-Promise f before after ReadFault = Unit {0}
-Promise f before after (DiskFault peer) = Unit {0}
-Promise f before after NoMemory = Unit {0}
-Promise f before after TooLong = Unit {0}
+  -- Or none was found: reading stopped, or the bytes are no script from this line on; want of memory says nothing of them.
+  abbrev pub FindsNone : Unscripted → Type 0
+  FindsNone (Unread stop) =
+      (reads ≡ true) × (stop ≡ reading.Failed → Rose (failed source) (failed after)) × ((all : List ℕ) → left source ≡ Some all → ReadEnds MOST_BYTES all (left after) (Err stop))
+  FindsNone (Unsaid fault) = (bytes : List ℕ) × AreRead reads bytes × ((line : ℕ) → fault ≡ BadLine line → said bytes ≡ Err line)
+
+-- A sink that tells took all of the text (with an alarm or none), or a front of it and not all; at its fault its count rose.
+abbrev pub Tells : {D K J B : Type 0} → Senses D K J B → List ℕ → Bool → K → K → Result Bool WriteStop → Type 0
+Tells e text alarmed sink after (Ok told) = (told ≡ alarmed) × ((taken : List ℕ) → e.taken sink ≡ Some taken → e.taken after ≡ Some (taken ++ text))
+Tells e text alarmed sink after (Err stop) =
+    (stop ≡ writing.Failed → Rose (e.failed sink) (e.failed after)) × ((taken : List ℕ) → e.taken sink ≡ Some taken → AddsFront taken text (e.taken after))
+
+module _ {D K J B : Type 0} (e : Senses D K J B) (c : Deed) (s : Script) (before after : Devices D K J B) where
+  -- The plan breaks no rule, and what happened is a history of it and safe. A disk that isn't an honest peer's is as it was; one that
+  -- is blamed has failed. The judge is the same, and heard what the history asks, and what the step asks that was begun, if one was.
+  -- Of the bells, those are back in their order that want more alarms than the history has, and each rang for exactly these.
+  pub record Kept (fault : Option WorldFault) (next : Option PeerStep) (history : List Event) : Type 0 where
+    pub good : plan_fault s.plan ≡ None
+    pub happened : IsHistory s.plan history
+    pub safe : Safe s.plan history
+    pub served : ServesHonest e.face s.plan.peers before.disks after.disks fault
+    pub first : J
+    pub last : J
+    pub given : before.judge ≡ Some first
+    pub back : after.judge ≡ Some last
+    pub same : e.ears.verdict last ≡ e.ears.verdict first
+    pub heard : e.ears.heard last ≡ questions s.plan history ++ asked_next (world s.plan history) next
+    pub rung : seen e.ears.rung e.ears.limit after.bells ≡ left_of (alarms s.plan history) (map e.ears.limit before.bells)
+
+  -- The script was played to its end: what happened follows its steps by the verdicts of the judge, and goes on as the command says.
+  -- Each honest peer's disk holds the batches of its journal, and so it does after every crash.
+  pub record Plays : Type 0 where
+    pub done : List Event
+    pub history : List Event
+    pub kept : Kept None None history
+    pub follows : Follows (e.ears.verdict kept.last) s.plan [] s.steps done
+    pub goes_on : c.goes_on (e.ears.verdict kept.last) s.plan done history
+    pub held : HaveBatches e.face s.plan history after.disks
+
+  -- A fault stopped it in one of its steps: what happened follows those before, and goes on to a front of what this one makes of it.
+  -- A crash leaves of each honest peer's disk the batches of its journal; of the one whose step was begun these, or this step's too.
+  -- Nothing was written.
+  pub record Halts (fault : WorldFault) : Type 0 where
+    pub next : Option PeerStep
+    pub history : List Event
+    pub kept : Kept (Some fault) next history
+    pub follows : FollowsUpTo (e.ears.verdict kept.last) s.plan [] s.steps history next
+    pub left : HaveBatchesOrNext e.face s.plan history next after.disks
+    pub silent : after.sink ≡ before.sink
+
+  -- Or nothing happened, since the plan's peers didn't all begin. Of the honest ones' disks, those before one hold its deposits, of
+  -- that one a crash leaves a front of them or at most a byte, and the later ones, and all else, are as they were.
+  pub record NeverBegins (fault : WorldFault) : Type 0 where
+    pub good : plan_fault s.plan ≡ None
+    pub served : ServesHonest e.face s.plan.peers before.disks after.disks (Some fault)
+    pub begun : HaveBegunUpTo e.face s.plan before.disks after.disks
+    pub same : after ≡ record before { disks = after.disks }
+
+  abbrev pub PlaysTo : Played → Type 0
+  PlaysTo (Told told) = (run : Plays) × Tells e (c.told s.plan run.history) (has_any (alarms s.plan run.history)) before.sink after.sink told
+  PlaysTo (Stopped fault) = Halts fault
+  PlaysTo (Unmade fault) = NeverBegins fault
+
+module _ {S D K J B : Type 0} (left : S → Option (List ℕ)) (failed : S → ℕ) (e : Senses D K J B) (source source_after : S) (before after : Devices D K J B) where
+  -- How far a run came. Before a script was found nothing was written, no disk was called, nobody was asked, and no bell rang.
+  abbrev pub Comes : Option Command → End → Type 0
+  Comes command end.Unnamed = (command ≡ None) × (source_after ≡ source) × (after ≡ before)
+  Comes command end.Unbegun = (source_after ≡ source) × (after ≡ before)
+  Comes None (end.Unscripted none) = ⊥
+  Comes None (end.Played played) = ⊥
+  Comes (Some command) (end.Unscripted none) = FindsNone left failed source source_after (deed_of command).reads (deed_of command).script none × (after ≡ before)
+  Comes (Some command) (end.Played played) =
+      (s : Script) × Finds left failed source source_after (deed_of command).reads (deed_of command).script s × PlaysTo e (deed_of command) s before after played
+
+  -- The answer says how far the run came, and no count of faults falls.
+  pub record Promise (command : Option Command) (answer : Status) : Type 0 where
+    pub end : End
+    pub answered : answer ≡ status_of end
+    pub came : Comes command end
+    pub source_count : failed source ≤ failed source_after
+    pub sink_count : e.failed before.sink ≤ e.failed after.sink

@@ -1,20 +1,25 @@
 //! A script is played on disks, and what is told of its history is written.
 
-ghost use Rattle.std.specs.Prelude.{◌≡◌, ◌≤◌, ◌++◌, ℕ, List, true, Some, None, OnOk, OnErr, IsErrOf, IsSome};
+ghost use Rattle.std.specs.Prelude.{◌≡◌, ◌≤◌, ◌++◌, ℕ, List, true, Some, None, OnOk, OnErr, IsErrOf};
 ghost use Rattle.lks_base.specs.Checking.{plan_fault};
-ghost use Rattle.lks_law.specs.Histories.{IsHistory};
+ghost use Rattle.lks_law.specs.Alarms.{alarms};
 ghost use Rattle.lks_outside.specs.Counts.{Rose};
 ghost use Rattle.lks_outside.specs.Streams.{AddsFront};
+ghost use Rattle.lks_report.specs.Alarms.{has_any};
 ghost use Rattle.lks_script.specs.StepRules.{are_steps_of};
 ghost use Rattle.lks_watch.specs.Watching.{ears, watching, Watches};
 ghost use Rattle.lks_world.specs.Counts.{fault_in, ServesHonest};
 ghost use Rattle.lks_world.specs.Follows.{Follows};
-ghost use Rattle.lockss.specs.Playing.{devices, stopped_as, fault_told, text_for, AreGiven, TellsOf, PlaysIn, Plays, IsServed};
+ghost use Rattle.lockss.specs.Handed.{devices, senses, AreGiven};
+ghost use Rattle.lockss.specs.Playing.{text_for, IsLeftOff, PlaysIn};
+ghost use Rattle.lockss.specs.Deeds.{deed_of};
+ghost use Rattle.lockss.specs.Promise.{PlaysTo, Tells};
 
-use crate::statuses::Status;
+use crate::ends::Played;
 use lks_alarm::Bell;
 use lks_base::{Entry, Plan};
 use lks_blocks::BlockPool;
+use lks_command::Command;
 use lks_disk::CrashDisk;
 use lks_effort::EffortJudge;
 use lks_outside::{Sink, WriteStop};
@@ -35,6 +40,7 @@ fn perform_all<R: Wait, D: CrashDisk + Drop, J: EffortJudge, B: Bell>(
     ensures plan { world.new.plan ≡ world.old.plan }
     ensures follows { OnOk result (Follows (J.verdict world.old.judge) world.old.plan world.old.history steps.now world.new.history) }
     ensures watches { OnOk result (Watches world.old.plan world.old.history world.new.history (watching (ears J.heard J.verdict B.rung B.limit) world.old.judge world.old.bells) (watching (ears J.heard J.verdict B.rung B.limit) world.new.judge world.new.bells)) }
+    ensures off { OnErr result (IsLeftOff D.face (ears J.heard J.verdict B.rung B.limit) steps.now world.old world.new) }
     ensures stopped { world.new.stopped ≡ fault_in result }
     ensures serves { ServesHonest D.face world.old.plan.peers world.old.disks world.new.disks (fault_in result) }
 {
@@ -44,65 +50,38 @@ fn perform_all<R: Wait, D: CrashDisk + Drop, J: EffortJudge, B: Bell>(
     Ok(())
 }
 
-/// What is told of a history.
-#[derive(Clone, Copy)]
-pub enum Tale {
-    Report,
-    /// The one line of the drill of this seed.
-    Summary { seed: u64 },
-}
-
 fn write<K: Sink>(
     alloc: Global,
-    tale: Tale,
+    command: Command,
     plan: &Plan,
     history: &[Entry],
     sink: &mut K,
 ) -> Result<(), WriteStop>
-    ensures whole { (bytes : List ℕ) → K.taken sink.old ≡ Some bytes → OnOk result (K.taken sink.new ≡ Some (bytes ++ text_for tale plan.now history.now)) }
-    ensures part { (bytes : List ℕ) → K.taken sink.old ≡ Some bytes → OnErr result (AddsFront bytes (text_for tale plan.now history.now) (K.taken sink.new)) }
+    ensures whole { (bytes : List ℕ) → K.taken sink.old ≡ Some bytes → OnOk result (K.taken sink.new ≡ Some (bytes ++ text_for command plan.now history.now)) }
+    ensures part { (bytes : List ℕ) → K.taken sink.old ≡ Some bytes → OnErr result (AddsFront bytes (text_for command plan.now history.now) (K.taken sink.new)) }
     ensures failed { IsErrOf result WriteStop.Failed → Rose (K.faults sink.old) (K.faults sink.new) }
     ensures count { K.faults sink.old ≤ K.faults sink.new }
 {
-    match tale {
-        Tale::Report => report(alloc, plan, history, sink),
-        Tale::Summary { seed } => summary(alloc, seed, history, sink),
+    match command {
+        Command::Replay => report(alloc, plan, history, sink),
+        Command::Drill { seed } => summary(alloc, seed, history, sink),
     }
 }
 
-/// Tells what happened in the world.
+/// Tells what happened in the world, and answers whether an alarm was raised in it.
 fn tell<K: Sink, D: CrashDisk + Drop, J: EffortJudge, B: Bell>(
     alloc: Global,
-    tale: Tale,
+    command: Command,
     world: &World<'_, D, J, B>,
     sink: &mut K,
-) -> Status
-    ensures happened { IsHistory world.now.plan world.now.history }
-    ensures tells { TellsOf tale world.now.plan world.now.history (K.taken sink.old) (K.taken sink.new) result }
-    ensures failed { result ≡ Status.WriteFault → Rose (K.faults sink.old) (K.faults sink.new) }
+) -> Result<bool, WriteStop>
+    ensures tells { Tells (senses D.face (ears J.heard J.verdict B.rung B.limit) K.taken K.faults) ((deed_of command).told world.now.plan world.now.history) (has_any (alarms world.now.plan world.now.history)) sink.old sink.new result }
     ensures count { K.faults sink.old ≤ K.faults sink.new }
 {
     let history = world.history();
-    match write(alloc, tale, world.plan(), history, sink) {
-        Ok(()) => {
-            if has_alarm(history) {
-                Status::Alarmed
-            } else {
-                Status::Done
-            }
-        }
-        Err(WriteStop::Failed) => Status::WriteFault,
-        Err(WriteStop::Memory) => Status::NoMemory,
-    }
-}
-
-/// What the fault of a world is to its run.
-fn stopped_by(fault: WorldFault) -> Status
-    ensures { result ≡ stopped_as fault }
-{
-    match fault {
-        WorldFault::Disk { peer } => Status::DiskFault { peer },
-        WorldFault::Memory => Status::NoMemory,
+    match write(alloc, command, world.plan(), history, sink) {
+        Ok(()) => Ok(has_alarm(history)),
+        Err(stop) => Err(stop),
     }
 }
 
@@ -110,22 +89,20 @@ fn stopped_by(fault: WorldFault) -> Status
 fn play_in<R: Wait, K: Sink, D: CrashDisk + Drop, J: EffortJudge, B: Bell>(
     alloc: Global,
     rt: &R,
-    tale: Tale,
+    command: Command,
     world: &mut World<'_, D, J, B>,
     steps: &[Step],
     sink: &mut K,
-) -> Status
+) -> Played
     requires running { world.old.stopped ≡ None }
     requires legal { are_steps_of world.old.plan steps.now ≡ true }
     ensures plan { world.new.plan ≡ world.old.plan }
-    ensures plays { PlaysIn (ears J.heard J.verdict B.rung B.limit) K.taken tale steps.now world.old world.new sink.old sink.new result }
-    ensures serves { ServesHonest D.face world.old.plan.peers world.old.disks world.new.disks (fault_told result) }
-    ensures failed { result ≡ Status.WriteFault → Rose (K.faults sink.old) (K.faults sink.new) }
+    ensures plays { PlaysIn (senses D.face (ears J.heard J.verdict B.rung B.limit) K.taken K.faults) command steps.now world.old world.new sink.old sink.new result }
     ensures count { K.faults sink.old ≤ K.faults sink.new }
 {
     match perform_all(rt, world, steps) {
-        Ok(()) => tell(alloc, tale, world, sink),
-        Err(fault) => stopped_by(fault),
+        Ok(()) => Played::Told(tell(alloc, command, world, sink)),
+        Err(fault) => Played::Stopped(fault),
     }
 }
 
@@ -150,24 +127,21 @@ fn hand_back<D: Drop, J: Drop, B: Drop>(
 pub fn play<R: Wait, K: Sink, D: CrashDisk + Drop, J: EffortJudge, B: Bell>(
     alloc: Global,
     rt: &R,
-    tale: Tale,
+    command: Command,
     script: Script,
     sink: &mut K,
     disks: &mut Vec<D>,
     judge: &mut Option<J>,
     bells: &mut Vec<B>,
-) -> Status
+) -> Played
     requires good { plan_fault script.plan ≡ None }
     requires legal { are_steps_of script.plan script.steps ≡ true }
-    requires given { AreGiven D.face (ears J.heard J.verdict B.rung B.limit) (devices disks.old.items sink.old judge.old bells.old.items) }
-    ensures plays { Plays D.face (ears J.heard J.verdict B.rung B.limit) K.taken tale script (devices disks.old.items sink.old judge.old bells.old.items) (devices disks.new.items sink.new judge.new bells.new.items) result }
-    ensures served { IsServed D.face disks.old.items disks.new.items script result }
-    ensures back { IsSome judge.new }
-    ensures failed { result ≡ Status.WriteFault → Rose (K.faults sink.old) (K.faults sink.new) }
+    requires given { AreGiven (senses D.face (ears J.heard J.verdict B.rung B.limit) K.taken K.faults) (devices disks.old.items sink.old judge.old bells.old.items) }
+    ensures plays { PlaysTo (senses D.face (ears J.heard J.verdict B.rung B.limit) K.taken K.faults) (deed_of command) script (devices disks.old.items sink.old judge.old bells.old.items) (devices disks.new.items sink.new judge.new bells.new.items) result }
     ensures count { K.faults sink.old ≤ K.faults sink.new }
 {
     let Ok(pool) = BlockPool::new(alloc) else {
-        return Status::NoMemory;
+        return Played::Unmade(WorldFault::Memory);
     };
     let Some(asked) = judge.take() else {
         unreachable!()
@@ -179,10 +153,10 @@ pub fn play<R: Wait, K: Sink, D: CrashDisk + Drop, J: EffortJudge, B: Bell>(
         Ok(world) => world,
         Err((parts, fault)) => {
             hand_back(parts, disks, judge, bells);
-            return stopped_by(fault);
+            return Played::Unmade(fault);
         }
     };
-    let status = play_in(alloc, rt, tale, &mut world, steps.as_slice(), sink);
+    let played = play_in(alloc, rt, command, &mut world, steps.as_slice(), sink);
     hand_back(world.into_parts(), disks, judge, bells);
-    status
+    played
 }

@@ -671,16 +671,24 @@ fn faults(rt: HostRuntime) -> Result<(), Fail> {
     Ok(())
 }
 
+/// So many bytes of one comment line without its end: a script that is too long, or a bad line.
+const LONG: [(usize, Status); 2] = [
+    (16_777_216, Status::BadScript { line: 1 }),
+    (16_777_217, Status::TooLong),
+];
+
 #[test]
-fn too_long(rt: HostRuntime) -> Result<(), Fail> {
+fn as_long_as_may_be(rt: HostRuntime) -> Result<(), Fail> {
     let alloc = rt.alloc();
-    let words = words_of(alloc, REPLAY)?;
-    let bytes = vec![in alloc; b'#'; 16_777_217]?;
-    let mut source = MemSource::new(alloc, bytes, [].to_vec(alloc)?);
-    let mut sink = MemSink::new(alloc, [].to_vec(alloc)?);
-    let mut disks = fresh_disks(alloc)?;
-    let status = run_plainly(alloc, &rt, &words, &mut source, &mut sink, &mut disks)?;
-    assert_eq!(rt; status, Status::TooLong);
-    assert!(rt; sink.bytes().is_empty());
+    for (count, answer) in LONG {
+        let words = words_of(alloc, REPLAY)?;
+        let bytes = vec![in alloc; b'#'; count]?;
+        let mut source = MemSource::new(alloc, bytes, [].to_vec(alloc)?);
+        let mut sink = MemSink::new(alloc, [].to_vec(alloc)?);
+        let mut disks = fresh_disks(alloc)?;
+        let status = run_plainly(alloc, &rt, &words, &mut source, &mut sink, &mut disks)?;
+        assert_eq!(rt; status, answer);
+        assert!(rt; sink.bytes().is_empty());
+    }
     Ok(())
 }

@@ -3,10 +3,10 @@ use Rattle.std.specs.Prelude.{IsErrOf}
 use Rattle.lks_base.specs.declared.reactions.Input.{Input}
 use Rattle.lks_base.specs.declared.reactions.Reaction.{Reaction}
 use Rattle.lks_base.specs.declared.records.Record.{Record}
-use Rattle.lks_disk.specs.Counts.{Rose}
+use Rattle.lks_disk.specs.Counts.{raised}
 use Rattle.lks_law.specs.Table.{react_on}
-use Rattle.lks_host.proofs.Cuts.{cut_lies, cut_read, kept_by_count, lost_by_count, little_longer, none_or_some, rose_between}
-use Rattle.lks_host.specs.Cutting.{IsCutShort}
+use Rattle.lks_host.proofs.Cuts.{cut_lies, cut_read, falls_cut, on_err, kept_by_count, lost_by_count, little_longer, none_or_some, burns_kept, raised_between}
+use Rattle.lks_host.specs.Cutting.{Falls, IsCutShort}
 use Rattle.lks_host.specs.Faults.{as_journal}
 use Rattle.lks_host.specs.Hosted.{StandsFor, LiesOn}
 use Rattle.lks_host.specs.declared.faults.HostFault.TheVariants.{Memory}
@@ -67,10 +67,10 @@ short_fuse g c =
     let few : c.args.calls < 4 = omega (arith, ((c.step-done.ensures.stepped.calls.called some).fuse.cut (is_cut g c)).1, c.fuse.ensures.fused.left) in
     subst (λ (k : Knowing). IsCutShort (answered k c.args.tick c.args.input.now) c.args.calls) c.fuse.ensures.peer (record { adds = some; few = few })
 
-burned : (g : Over) (c : In-Err-Cut g) → Rose (g.D.Disk.face.burns c.args.host.now.journal.disk) (g.D.Disk.face.burns c.step-done.new.self.journal.disk)
+burned : (g : Over) (c : In-Err-Cut g) → g.D.Disk.face.burns c.step-done.new.self.journal.disk ≡ raised (g.D.Disk.face.burns c.args.host.now.journal.disk)
 burned g c =
     let fuse = (c.step-done.ensures.stepped.calls.called (some_added g c)).fuse in
-    rose_between _ _ _ _ c.fuse.ensures.fused.burns (fuse.burn c.fuse.ensures.fused.whole (fuse.cut (is_cut g c)).2) refl
+    raised_between _ _ _ _ c.fuse.ensures.fused.burns (fuse.burn c.fuse.ensures.fused.whole (fuse.cut (is_cut g c)).2) refl
 
 -- Goals.
 
@@ -132,7 +132,7 @@ returns-then-found-before-clause-cuts g c = λ batches at.
       short_fuse g cut,
       kept.two,
       subst (λ (r : Reaction). StandsFor g.D.Disk.face c.recover-in-Err-Cut.new.self (with_batch batches r.records)) still kept.stands,
-      rose_between _ _ _ _ refl (burned g cut) (c.in_ok-found-in-Err-Cut.ensures.behaves.unset c.power_cut.ensures.lost.unfused ∙ c.power_cut.ensures.lost.burns),
+      raised_between _ _ _ _ refl (burned g cut) (c.in_ok-found-in-Err-Cut.ensures.behaves.unset c.power_cut.ensures.lost.unfused ∙ c.power_cut.ensures.lost.burns),
     )
 
 pub returns-then-found-before-clause-end : goal.returns-then-found-before-clause-end
@@ -156,7 +156,7 @@ returns-else-found-before-clause-cuts g c = λ batches at.
     let read = cut_read g.D.Disk.face c.recover-in-Err-Cut.new.self batches records c.args.calls c.in_ok-found-in-Err-Cut.found c.power_cut.new.self c.fuse.new.self.peer.own (same_own g cut) (some_added g cut) (lies_cut g cut batches at)
     c.in_ok-found-in-Err-Cut.ensures.recovers in
     let lost = lost_by_count g.D.Disk.face c.recover-in-Err-Cut.new.self batches records c.args.calls c.in_ok-found-in-Err-Cut.found c.count-before.result read (c.count-before.ensures ∙ at.count) (omega (arith, c.if-found-before.false)) in
-    (short_fuse g cut, lost.stands, rose_between _ _ _ _ refl (burned g cut) (c.in_ok-found-in-Err-Cut.ensures.behaves.unset c.power_cut.ensures.lost.unfused ∙ c.power_cut.ensures.lost.burns))
+    (short_fuse g cut, lost.stands, raised_between _ _ _ _ refl (burned g cut) (c.in_ok-found-in-Err-Cut.ensures.behaves.unset c.power_cut.ensures.lost.unfused ∙ c.power_cut.ensures.lost.burns))
 
 pub returns-else-found-before-clause-end : goal.returns-else-found-before-clause-end
 returns-else-found-before-clause-end g c =
@@ -169,3 +169,60 @@ returns-else-found-before-clause-end g c =
     c.in_ok-found-in-Err-Cut.ensures.recovers in
     let lost = lost_by_count g.D.Disk.face c.recover-in-Err-Cut.new.self batches records c.args.calls c.in_ok-found-in-Err-Cut.found c.count-before.result read (c.count-before.ensures ∙ stands.1.count) (omega (arith, c.if-found-before.false)) in
     omega (arith, lost.stands.disk.end, stood.disk.end, c.fuse.ensures.end)
+
+-- Of one that failed: whatever was done of it, a crash leaves the batches from before, or the new one too.
+
+pub returns-in-Err-Failed-clause-falls : goal.returns-in-Err-Failed-clause-falls
+returns-in-Err-Failed-clause-falls g c = λ batches at.
+    subst (λ (k : Knowing). Falls g.D.Disk.face batches (with_batch batches (answered k c.args.tick c.args.input.now).records) c.power_cut.new.self.journal.disk) c.fuse.ensures.peer
+    (falls_cut g.D.Disk.face c.fuse.new.self c.step-done.new.self c.power_cut.new.self.journal.disk c.power_cut.new.self.journal.disk batches (answered c.fuse.new.self.peer c.args.tick c.args.input.now).records (as_journal c.step-done.result)
+    (c.step-done.ensures.adds (tells g c.fuse.new.self.journal.disk) batches (c.fuse.ensures.stands batches at)) c.power_cut.ensures.lost (λ b may. may))
+
+pub returns-in-Err-Memory-clause-falls : goal.returns-in-Err-Memory-clause-falls
+returns-in-Err-Memory-clause-falls g c = λ batches at.
+    subst (λ (k : Knowing). Falls g.D.Disk.face batches (with_batch batches (answered k c.args.tick c.args.input.now).records) c.power_cut.new.self.journal.disk) c.fuse.ensures.peer
+    (falls_cut g.D.Disk.face c.fuse.new.self c.step-done.new.self c.power_cut.new.self.journal.disk c.power_cut.new.self.journal.disk batches (answered c.fuse.new.self.peer c.args.tick c.args.input.now).records (as_journal c.step-done.result)
+    (c.step-done.ensures.adds (tells g c.fuse.new.self.journal.disk) batches (c.fuse.ensures.stands batches at)) c.power_cut.ensures.lost (λ b may. may))
+
+pub returns-in_err-recover-in-Ok-clause-falls : goal.returns-in_err-recover-in-Ok-clause-falls
+returns-in_err-recover-in-Ok-clause-falls g c = λ batches at.
+    let lies = lies_done g (goal.at.returns-in_err-recover-in-Ok-clause-falls g c).In-Ok batches at in
+    on_err c.from_residual.result
+    (subst (λ (k : Knowing). Falls g.D.Disk.face batches (with_batch batches (answered k c.args.tick c.args.input.now).records) c.recover.new.self.journal.disk) c.fuse.ensures.peer
+    (falls_cut g.D.Disk.face c.fuse.new.self c.step-done.new.self c.power_cut.new.self.journal.disk c.recover.new.self.journal.disk batches (answered c.fuse.new.self.peer c.args.tick c.args.input.now).records (as_journal c.step-done.result)
+    (c.step-done.ensures.adds (tells g c.fuse.new.self.journal.disk) batches (c.fuse.ensures.stands batches at)) c.power_cut.ensures.lost (c.in_err-recover-in-Ok.ensures.recovers (with_batch batches c.in-Ok.reaction.records) lies).leaves))
+
+pub returns-in_err-found-in-Err-Cut-clause-falls : goal.returns-in_err-found-in-Err-Cut-clause-falls
+returns-in_err-found-in-Err-Cut-clause-falls g c = λ batches at.
+    let f = g.D.Disk.face in
+    let cut = (goal.at.returns-in_err-found-in-Err-Cut-clause-falls g c).In-Err-Cut in
+    let more = with_batch batches (answered c.fuse.new.self.peer c.args.tick c.args.input.now).records in
+    let disk = c.power_cut.new.self.journal.disk in
+    let less =
+    ⊎_elim (λ before. (c.in_err-found-in-Err-Cut.ensures.recovers batches (subst (λ (o : Station). LiesOn f o disk batches) (same_own g cut) before)).leaves)
+    (λ after. (c.in_err-found-in-Err-Cut.ensures.recovers more (subst (λ (o : Station). LiesOn f o disk more) (same_own g cut) after.1)).leaves)
+    (lies_cut g cut batches at) in
+    on_err c.from_residual-in_err-found-in-Err-Cut.result
+    (subst (λ (k : Knowing). Falls f batches (with_batch batches (answered k c.args.tick c.args.input.now).records) c.recover-in-Err-Cut.new.self.journal.disk) c.fuse.ensures.peer
+    (falls_cut g.D.Disk.face c.fuse.new.self c.step-done.new.self c.power_cut.new.self.journal.disk c.recover-in-Err-Cut.new.self.journal.disk batches (answered c.fuse.new.self.peer c.args.tick c.args.input.now).records (as_journal c.step-done.result)
+    (c.step-done.ensures.adds (tells g c.fuse.new.self.journal.disk) batches (c.fuse.ensures.stands batches at)) c.power_cut.ensures.lost less))
+
+pub returns-in-Err-Failed-clause-fuse : goal.returns-in-Err-Failed-clause-fuse
+returns-in-Err-Failed-clause-fuse g c = record {
+  allowed = search rules;
+  chosen = search rules;
+  burns = inl (
+      c.power_cut.ensures.lost.burns
+      ∙ burns_kept g.D.Disk.face c.fuse.new.self.journal c.step-done.new.self.journal (answered c.fuse.new.self.peer c.args.tick c.args.input.now).records (as_journal c.step-done.result) c.step-done.ensures.stepped.calls c.fuse.ensures.fused.whole (search rules)
+      ∙ c.fuse.ensures.fused.burns);
+}
+
+pub returns-in-Err-Memory-clause-fuse : goal.returns-in-Err-Memory-clause-fuse
+returns-in-Err-Memory-clause-fuse g c = record {
+  allowed = search rules;
+  chosen = search rules;
+  burns = inl (
+      c.power_cut.ensures.lost.burns
+      ∙ burns_kept g.D.Disk.face c.fuse.new.self.journal c.step-done.new.self.journal (answered c.fuse.new.self.peer c.args.tick c.args.input.now).records (as_journal c.step-done.result) c.step-done.ensures.stepped.calls c.fuse.ensures.fused.whole (search rules)
+      ∙ c.fuse.ensures.fused.burns);
+}

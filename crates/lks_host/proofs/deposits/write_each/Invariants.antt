@@ -13,6 +13,8 @@ invariant-loop-item g l = record {
   end : l.journal.end ≤ l.item-index * 8389645;
   faults : g.D.Disk.face.faults l.journal.disk ≡ g.D.Disk.face.faults l.fn.journal.disk;
   fused : g.D.Disk.face.fused l.journal.disk ≡ g.D.Disk.face.fused l.fn.journal.disk;
+  calls : g.D.Disk.face.calls l.journal.disk ≡ g.D.Disk.face.calls l.fn.journal.disk;
+  cuts : g.D.Disk.face.cuts l.journal.disk ≡ g.D.Disk.face.cuts l.fn.journal.disk;
   choice : g.D.Disk.face.choice l.journal.disk ≡ g.D.Disk.face.choice l.fn.journal.disk;
   burns : g.D.Disk.face.burns l.journal.disk ≡ g.D.Disk.face.burns l.fn.journal.disk;
 }

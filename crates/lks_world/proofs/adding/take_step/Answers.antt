@@ -3,6 +3,13 @@ use Rattle.lks_watch.specs.Watching.{ears}
 use Rattle.lks_world.proofs.Keeping.{room_left, extends_by, extends_same, can_step}
 use Rattle.lks_world.proofs.StateLaws.{became_step, more_events}
 use Rattle.lks_world.proofs.Watched.{watched_event}
+use Rattle.std.proofs.Common.{ap}
+use Rattle.std.specs.Prelude.{Ok}
+use Rattle.lks_world.proofs.Stopped.{err_then, stops_in}
+use Rattle.lks_world.specs.States.{events_of}
+use Rattle.lks_world.proofs.Fallen.{left_by}
+use Rattle.lks_world.proofs.PowerEnds.{seats_step, seats_still}
+use Rattle.lks_world.specs.States.{events_in}
 use Rattle.lks_world.proofs.adding.take_step.Goals as goal
 
 pub step-requires-clause-ready : goal.step-requires-clause-ready
@@ -25,3 +32,25 @@ pub returns-clause-watches : goal.returns-clause-watches
 returns-clause-watches g c = λ plan is first asks.
     watched_event g.D.Disk.face (ears g.J.EffortJudge.heard g.J.EffortJudge.verdict g.B.Bell.rung g.B.Bell.limit) plan c.args.state.now c.step.new.state (Step c.args.s) first c.args.watch.now c.step.new.watch is
     (more_events g.D.Disk.face c.args.state.now c.step.new.state (Step c.args.s) c.in_ok-step.ensures.history) asks c.in_ok-step.ensures.hears
+
+pub returns-in_err-step-clause-stops : goal.returns-in_err-step-clause-stops
+returns-in_err-step-clause-stops g c = λ plan is first asks.
+    err_then c.from_residual.result
+    (stops_in g.D.Disk.face (ears g.J.EffortJudge.heard g.J.EffortJudge.verdict g.B.Bell.rung g.B.Bell.limit) plan c.args.state.now _ c.args.s first c.args.watch.now c.step.new.watch is
+    (ap events_of c.in_err-step.ensures.history) asks c.in_err-step.ensures.hears)
+
+pub returns-in_err-step-clause-fallen : goal.returns-in_err-step-clause-fallen
+returns-in_err-step-clause-fallen g c = λ plan is.
+    err_then c.from_residual.result (left_by g.D.Disk.face plan c.args.state.now c.step.new.state is (ap events_of c.in_err-step.ensures.history) c.args.s c.in_err-step.ensures.fallen)
+
+pub returns-clause-power : goal.returns-clause-power
+returns-clause-power g c = λ plan.
+    let s = c.args.state.now in
+    let t = c.step.new.state in
+    seats_step g.D.Disk.face plan (events_in s) (events_in t) c.args.s s.seats.items t.seats.items (Ok (tt {0})) (more_events g.D.Disk.face s t (Step c.args.s) c.in_ok-step.ensures.history) c.in_ok-step.ensures.counted.1
+
+pub returns-in_err-step-clause-power : goal.returns-in_err-step-clause-power
+returns-in_err-step-clause-power g c = λ plan.
+    let s = c.args.state.now in
+    let t = c.step.new.state in
+    seats_still g.D.Disk.face plan (events_in s) (events_in t) s.seats.items t.seats.items c.from_residual.result (ap events_of c.in_err-step.ensures.history) c.in_err-step.ensures.counted.1

@@ -19,3 +19,8 @@ returns-in-Ok-clause-begun g c =
       room = c.in-Ok.ensures.end;
       unfused = c.in-Ok.ensures.behaves.fused ∙ c.requires.fresh.unfused;
     }
+
+pub returns-in-Err-clause-front : goal.returns-in-Err-clause-front
+returns-in-Err-clause-front g c = λ p there.
+    let laws = g.met.D.CrashDisk g.world.𝓛 g.world.𝓜 g.world.𝓡 ((λ s x. x), (λ x. x), (λ x. x), λ x. x) in
+    c.in-Err.ensures.front (laws.tells c.args.disk) c.requires.fresh.settled p there

@@ -30,3 +30,6 @@ returns-in-Err-clause-served g c = record {
   cause = λ id is. c.in-Err.ensures.cause id (ap Err (some_is is));
   idle = λ bad. let both : true ≡ false = sym bad ∙ c.if-peer.false in absurd cc;
 }
+
+pub returns-in-Err-clause-front : goal.returns-in-Err-clause-front
+returns-in-Err-clause-front g c = (c.if-peer.false, c.in-Err.ensures.front c.args.peer.now (c.requires.planned c.if-peer.false))

@@ -2,6 +2,8 @@ use Rattle.std.proofs.Common.{◌+◌, ◌++◌, ap, length, arith, take, drop}
 use Rattle.std.specs.Prelude.{reverse}
 use Rattle.std.proofs.lemmas.Result.{err_from_is_err_and}
 use Rattle.lks_world.proofs.BeginLaws.{made_start, made_more, peer_at_place, next_done, all_parts, served_then}
+use Rattle.lks_world.proofs.BegunUpTo.{begun_up_to}
+use Rattle.lks_world.proofs.Stopped.{err_then}
 use Rattle.lks_world.specs.Seats.{disks_at}
 use Rattle.lks_world.proofs.beginning.seat_each.Goals as goal
 
@@ -26,7 +28,7 @@ loop-p-preserved g c =
     record {
       made =
           made_more g.D.Disk.face c.args.pool.now c.args.plan.now c.args.disks.now.items c.loop-p.seats.items c.seat_next.new.seats.items c.loop-p.disks.items c.seat_next.new.disks.items p (take i peers) (drop (i + 1) peers) (take (i + 1) peers)
-          was.made done.seated done.fresh done.serves done.fuses (all_parts items peers same i p c.loop-p-test.true c.p-item.is) (next_done items peers same i p c.loop-p-test.true c.p-item.is);
+          was.made done.seated done.taken done.fresh done.serves done.fuses (all_parts items peers same i p c.loop-p-test.true c.p-item.is) (next_done items peers same i p c.loop-p-test.true c.p-item.is);
       count = omega (arith, was.count, done.rooms.more);
       enough = omega (arith, was.enough, done.rooms.less);
       room = omega (arith, was.room, done.rooms.seats_room);
@@ -57,3 +59,14 @@ returns-in_err-seat_next-clause-serves g c =
     rw (e.1, e.2)
     (served_then f peers (take i peers) (drop (i + 1) peers) p (reverse c.args.disks.now.items) middle after c.loop-p.invariant.made.serves
     (all_parts items peers same i p c.loop-p-test.true c.p-item.is) (c.in_err-seat_next.ensures.serves (take i peers) (drop (i + 1) peers) c.loop-p.invariant.made.placed))
+
+pub returns-in_err-seat_next-clause-stops : goal.returns-in_err-seat_next-clause-stops
+returns-in_err-seat_next-clause-stops g c =
+    let peers = c.args.plan.now.peers in
+    let items = c.as_slice-p-items.result.now in
+    let same = c.as_slice-p-items.ensures in
+    let i = c.loop-p.p-index in
+    let p = c.p-item.result in
+    err_then c.from_residual.result
+    (begun_up_to g.D.Disk.face c.args.pool.now c.args.plan.now c.args.disks.now.items c.loop-p.seats.items c.seat_next.new.seats.items c.loop-p.disks.items c.seat_next.new.disks.items p (take i peers) (drop (i + 1) peers)
+    c.loop-p.invariant.made (all_parts items peers same i p c.loop-p-test.true c.p-item.is) c.in_err-seat_next.ensures.stops)

@@ -1,4 +1,4 @@
-use Rattle.std.proofs.Common.{◌++◌, rules}
+use Rattle.std.proofs.Common.{◌++◌, refl, rules}
 use Rattle.std.specs.Prelude.{Some, None, reverse}
 use Rattle.lks_world.proofs.BeginLaws.{fresh_first, fresh_rest, seat_served, seat_fuses, on_seat, in_list}
 use Rattle.lks_world.specs.Seats.{disk_at, disks_at}
@@ -45,3 +45,18 @@ returns-in-Ok-clause-rooms g c = record { less = search rules; more = search rul
 
 pub returns-in-Err-clause-rooms : goal.returns-in-Err-clause-rooms
 returns-in-Err-clause-rooms g c = record { less = search rules; more = search rules; all = search rules; seats_room = search rules; disks_room = search rules }
+
+pub returns-in-Ok-clause-taken : goal.returns-in-Ok-clause-taken
+returns-in-Ok-clause-taken g c = record { disk = c.in-Some.disk; front = c.in-Some.ensures.items }
+
+pub returns-in-Err-clause-stops : goal.returns-in-Err-clause-stops
+returns-in-Err-clause-stops g c = record {
+  honest = c.in-Err.ensures.front.0;
+  disk = c.in-Some.disk;
+  now = c.in-Err.disk;
+  rest = c.pop.new.self.items;
+  there = c.in-Some.ensures.items;
+  stays = c.push_reserved-in-Err.ensures.items;
+  same = refl;
+  front = c.in-Err.ensures.front.1;
+}

@@ -1,4 +1,5 @@
 use Rattle.std.proofs.Common.{◌<◌, ◌-◌, ◌∙◌, ◌++◌, ◌∷◌, [], List, ap, subst, sym, length, arith}
+use Rattle.std.specs.Prelude.{Ok}
 use Rattle.lks_base.specs.declared.entries.Entry.{Entry}
 use Rattle.lks_base.specs.declared.events.Event.TheVariants.{Crash}
 use Rattle.lks_base.specs.declared.limits.TheConstants.{MOST_EVENTS}
@@ -9,6 +10,17 @@ use Rattle.lks_world.specs.Hosts.{HaveGoneOn}
 use Rattle.lks_world.specs.Seats.{hosts_of}
 use Rattle.lks_world.specs.States.{world_in}
 use Rattle.lks_world.specs.declared.seats.Seat.{Seat}
+use Rattle.lks_world.proofs.Fallen.{fallen_on, left_idle}
+use Rattle.lks_world.proofs.Stopped.{err_then}
+use Rattle.lks_world.specs.States.{events_of}
+use Rattle.lks_world.specs.Hosts.{HaveFallen, peers_of}
+use Rattle.std.proofs.Common.{inl, refl}
+use Rattle.lks_world.proofs.PowerEnds.{is_stopped, seats_event, seats_lost}
+use Rattle.lks_world.proofs.PowerLaws.{quiet_same}
+use Rattle.lks_world.proofs.Keeping.{kept_room}
+use Rattle.lks_world.specs.Powers.{IsQuiet}
+use Rattle.lks_world.specs.Seats.{Powered}
+use Rattle.lks_world.specs.States.{events_in}
 use Rattle.lks_world.proofs.cutting.crash.Goals as goal
 
 pub reopen-requires-clause-ready : goal.reopen-requires-clause-ready
@@ -37,3 +49,47 @@ returns-clause-becomes g c =
 
 pub returns-clause-extends : goal.returns-clause-extends
 returns-clause-extends g c = extends_kept g.D.Disk.face c.args.plan.now c.args.state.now c.crash.new.state (Crash c.args.peer) (returns-clause-becomes g c)
+
+pub returns-in_err-reopen-clause-fallen : goal.returns-in_err-reopen-clause-fallen
+returns-in_err-reopen-clause-fallen g c =
+    let s = c.args.state.now in
+    err_then c.from_residual.result (left_idle g.D.Disk.face c.args.plan.now s (record s { seats = c.reopen.new.seats }) c.requires.state refl c.in_err-reopen.ensures.fallen)
+
+pub returns-in_err-crash-clause-fallen : goal.returns-in_err-crash-clause-fallen
+returns-in_err-crash-clause-fallen g c =
+    let f = g.D.Disk.face in
+    let s = c.args.state.now in
+    err_then c.from_residual-in_err-crash.result
+    (left_idle f c.args.plan.now s c.crash.new.state c.requires.state (ap events_of c.in_err-crash.ensures.err)
+    (subst (λ (ss : List (Seat g.row.D.Denot)). HaveFallen f (hosts_of s.seats.items) (peers_of f (hosts_of s.seats.items)) (hosts_of ss)) (sym c.in_err-crash.ensures.seats)
+    (fallen_on f (hosts_of s.seats.items) (hosts_of c.reopen.new.seats.items) _ c.in_ok-reopen.ensures.on (inl c.in_ok-reopen.ensures.peers))))
+
+pub returns-in_err-reopen-clause-power : goal.returns-in_err-reopen-clause-power
+returns-in_err-reopen-clause-power g c =
+    let f = g.D.Disk.face in
+    let plan = c.args.plan.now in
+    let s = c.args.state.now in
+    seats_lost f plan (events_in s) (events_in s) c.args.peer s.seats.items c.reopen.new.seats.items c.from_residual.result (quiet_same plan (events_in s))
+    (room_left f s (omega (arith, c.room.ensures, c.if-room-eq0.false))) c.in_err-reopen.ensures.power (λ none. absurd (is_stopped _ c.from_residual.result c.from_residual.ensures.1 none))
+
+pub returns-in_err-crash-clause-power : goal.returns-in_err-crash-clause-power
+returns-in_err-crash-clause-power g c =
+    let f = g.D.Disk.face in
+    let plan = c.args.plan.now in
+    let s = c.args.state.now in
+    let t = c.crash.new.state in
+    seats_lost f plan (events_in s) (events_in t) c.args.peer s.seats.items t.seats.items c.from_residual-in_err-crash.result
+    (subst (IsQuiet plan (events_in s)) (sym (ap events_of c.in_err-crash.ensures.err)) (quiet_same plan (events_in s)))
+    (room_left f s (omega (arith, c.room.ensures, c.if-room-eq0.false)))
+    (subst (λ (ss : List (Seat g.row.D.Denot)). Powered f [] (c.args.peer ∷ []) s.seats.items ss) (sym c.in_err-crash.ensures.seats) c.in_ok-reopen.ensures.power)
+    (λ none. absurd (is_stopped _ c.from_residual-in_err-crash.result c.from_residual-in_err-crash.ensures.1 none))
+
+pub returns-clause-power : goal.returns-clause-power
+returns-clause-power g c =
+    let f = g.D.Disk.face in
+    let plan = c.args.plan.now in
+    let s = c.args.state.now in
+    let t = c.crash.new.state in
+    let room = room_left f s (omega (arith, c.room.ensures, c.if-room-eq0.false)) in
+    seats_event f plan (events_in s) (events_in t) (Crash c.args.peer) s.seats.items t.seats.items (Ok (tt {0})) ((returns-clause-becomes g c).events ∙ kept_room (events_in s) (Crash c.args.peer) room) room
+    (subst (λ (ss : List (Seat g.row.D.Denot)). Powered f [] (c.args.peer ∷ []) s.seats.items ss) (sym c.in_ok-crash.ensures.seats) c.in_ok-reopen.ensures.power)

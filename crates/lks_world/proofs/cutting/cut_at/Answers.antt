@@ -1,9 +1,13 @@
 use Rattle.lks_world.proofs.CutLaws.{if_some}
-use Rattle.lks_world.proofs.SeatEnds.{peers_end, seats_burn}
+use Rattle.lks_world.proofs.SeatEnds.{peers_end, seats_burn, seats_fell}
 use Rattle.lks_world.proofs.HostLaws.{ok_then}
 use Rattle.lks_world.proofs.SeatLaws.{ActsAt, acts_at, acts_there, acts_ranked, acts_on, counted_one}
 use Rattle.lks_world.proofs.cutting.cut_at.Given.{Over}
 use Rattle.lks_world.proofs.cutting.cut_at.Goals.{In-Host}
+use Rattle.lks_world.proofs.Fallen.{fell_each}
+use Rattle.lks_world.proofs.SeatLaws.{acts_fell}
+use Rattle.lks_world.proofs.Stopped.{err_map}
+use Rattle.lks_world.proofs.PowerEnds.{power_ends}
 use Rattle.lks_world.proofs.cutting.cut_at.Goals as goal
 
 seat_acts : (g : Over) (c : In-Host g) → ActsAt g.D.Disk.face c.args.id c.args.seats.now.items c.in-Some.place c.in-Host.host
@@ -59,4 +63,17 @@ returns-clause-burns g c =
     let seats = c.args.seats.now.items in
     let h = c.in-Host.host in
     let acts = seat_acts g (goal.at.returns-clause-burns g c).In-Host in
-    seats_burn f c.args.id seats c.in-Some.place h acts c.cut_as.new.host c.args.power.choice c.cut_as.result c.cut_as.ensures.burns
+    seats_burn f c.args.id seats c.in-Some.place h acts c.cut_as.new.host c.args.power.calls c.args.power.choice c.cut_as.result c.cut_as.ensures.burns
+
+pub returns-clause-fallen : goal.returns-clause-fallen
+returns-clause-fallen g c =
+    let f = g.D.Disk.face in
+    let seats = c.args.seats.now.items in
+    let h = c.in-Host.host in
+    let acts = seat_acts g (goal.at.returns-clause-fallen g c).In-Host in
+    seats_fell f c.args.id seats c.in-Some.place h acts c.cut_as.new.host c.args.tick c.args.deed.now c.cut_as.result (if_some c.args.deed.now (λ d told. told.1) c.requires.told) c.cut_as.ensures.falls
+
+pub returns-clause-power : goal.returns-clause-power
+returns-clause-power g c =
+    let acts = seat_acts g (goal.at.returns-clause-power g c).In-Host in
+    power_ends g.D.Disk.face c.args.id c.args.seats.now.items c.in-Some.place c.in-Host.host acts c.cut_as.new.host c.args.power.calls c.args.power.choice c.cut_as.result c.cut_as.ensures.power c.cut_as.ensures.burns

@@ -1,5 +1,5 @@
-use Rattle.std.proofs.Common.{◌≡◌, ◌∙◌, ap, sym, subst, ℕ, true, [], ◌∷◌, List}
-use Rattle.std.specs.Prelude.{IsSome, MatchOption, Option, None, Ok, Err, is_some}
+use Rattle.std.proofs.Common.{◌≡◌, ◌∙◌, ap, sym, subst, refl, ℕ, true, [], ◌∷◌, List}
+use Rattle.std.specs.Prelude.{IsSome, MatchOption, Option, Some, None, Ok, Err, is_some}
 use Rattle.std.proofs.lemmas.Result.{err_from_is_err_and}
 use Rattle.lks_base.specs.declared.events.Envelope.{Envelope}
 use Rattle.lks_base.specs.declared.events.Event.TheVariants as events
@@ -13,7 +13,7 @@ use Rattle.lks_world.proofs.Ending.{counted_as, counted_still, cuts_alone, cuts_
 use Rattle.lks_world.proofs.HostLaws.{ok_then}
 use Rattle.lks_world.proofs.Keeping.{extends_by, extends_then, room_kept, room_left}
 use Rattle.lks_world.proofs.Watched.{crash_quiet}
-use Rattle.lks_world.specs.Cuts.{taker_of}
+use Rattle.lks_world.specs.Cuts.{taker_of, Cuts}
 use Rattle.lks_world.specs.Endings.{HasEnded}
 use Rattle.lks_world.specs.Hosts.{peers_of, IsAbsent}
 use Rattle.lks_world.specs.Kept.{kept}
@@ -24,6 +24,17 @@ use Rattle.lks_world.specs.declared.seats.Seat.{Seat}
 use Rattle.lks_world.specs.declared.states.State.{State}
 use Rattle.lks_world.proofs.cutting.cut_off.Given.{Over}
 use Rattle.lks_world.proofs.cutting.cut_off.Goals.{After-taker-id, After-take_step, After-cut_there, After-add_crash}
+use Rattle.lks_world.proofs.Fallen.{left_still}
+use Rattle.lks_world.proofs.Stopped.{err_then, err_three, stopped_in, stops_there}
+use Rattle.lks_world.proofs.UpTo.{cut_begun, kept_front, none_begun}
+use Rattle.lks_world.specs.Follows.{IsUpTo}
+use Rattle.lks_world.specs.Watched.{StopsBy}
+use Rattle.lks_world.specs.States.{events_of}
+use Rattle.lks_world.proofs.PowerEnds.{is_stopped, seats_cut, seats_done, seats_lost, seats_may_lose}
+use Rattle.lks_world.proofs.PowerLaws.{quiet_step}
+use Rattle.lks_world.proofs.Keeping.{extends_same}
+use Rattle.lks_world.specs.Endings.{PowersEnd}
+use Rattle.lks_world.specs.Powers.{IsQuiet}
 use Rattle.lks_world.proofs.cutting.cut_off.Goals as goal
 
 taker_is : (g : Over) (c : After-taker-id g) → c.taker-id.result ≡ taker_of c.args.state.now.bag.items c.args.s
@@ -131,8 +142,8 @@ returns-in_ok-add_crash-clause-cuts g c =
     let room = c.requires.state.1 in
     let b = c.in_ok-add_crash.ensures.becomes plan end.0.state honest in (
       b.state,
-      cuts_whole f plan s p c.args.power.calls is m c.add_crash.new.state (room_left f s room) there end
-          (subst (λ (n : ℕ). Becomes f plan (kept (events_in m) (events.Crash n)) c.add_crash.new.state) id b),
+      cuts_whole f plan s p c.args.power.calls is m (events_in c.add_crash.new.state) (room_left f s room) there end
+          (subst (λ (n : ℕ). events_in c.add_crash.new.state ≡ kept (events_in m) (events.Crash n)) id b.events),
     )
 
 pub returns-in_ok-add_crash-clause-extends : goal.returns-in_ok-add_crash-clause-extends
@@ -185,3 +196,112 @@ returns-in_ok-add_crash-clause-watches g c = λ first asks.
     let honest = honest_taker g at.After-add_crash (somebody g at.After-cut_there) in
     watches_then plan (events_in s) (events_in m) (events_in t) (seen_by e first) x x (c.in_ok-cut_there.ensures.watches first asks)
     (subst (λ h. Watches plan (events_in m) h x x) (sym (c.in_ok-add_crash.ensures.becomes plan end.0.state honest).events) (crash_quiet plan (events_in m) x c.taker-id.result))
+
+-- What a fault stopped.
+
+begun : (g : Over) (c : After-taker-id g) → IsUpTo (Cuts c.args.plan.now (events_in c.args.state.now) c.args.power.calls c.args.s) (events_in c.args.state.now) (Some c.args.s)
+begun g c = cut_begun c.args.plan.now (events_in c.args.state.now) c.args.power.calls c.args.s (room_left g.D.Disk.face c.args.state.now c.requires.state.1)
+
+pub returns-then-is_none-clause-stops : goal.returns-then-is_none-clause-stops
+returns-then-is_none-clause-stops g c = λ first asks.
+    let plan = c.args.plan.now in
+    let s = c.args.state.now in
+    let t = c.take_step.new.state in
+    let up_to = begun g (goal.at.returns-then-is_none-clause-stops g c).After-taker-id in
+    let did = c.take_step.ensures in
+    err_three c.take_step.result
+    (λ same stops left. stopped_in g.D.Disk.face (ears g.J.EffortJudge.heard g.J.EffortJudge.verdict g.B.Bell.rung g.B.Bell.limit) plan _ (events_in s) s t c.args.s first c.take_step.new.watch up_to (ap events_of same) stops left)
+    did.err (did.stops plan c.requires.state.0 first asks) (did.fallen plan c.requires.state.0)
+
+pub returns-in_err-cut_there-clause-stops : goal.returns-in_err-cut_there-clause-stops
+returns-in_err-cut_there-clause-stops g c = λ first asks.
+    let s = c.args.state.now in
+    let did = c.in_err-cut_there.ensures in
+    err_then c.from_residual.result
+    (stopped_in g.D.Disk.face (ears g.J.EffortJudge.heard g.J.EffortJudge.verdict g.B.Bell.rung g.B.Bell.limit) c.args.plan.now _ (events_in s) s c.cut_there.new.state c.args.s first c.cut_there.new.watch
+    (begun g (goal.at.returns-in_err-cut_there-clause-stops g c).After-taker-id) (ap events_of did.err) (did.stops first asks) did.fallen)
+
+pub returns-in_err-add_crash-clause-stops : goal.returns-in_err-add_crash-clause-stops
+returns-in_err-add_crash-clause-stops g c = λ first asks.
+    let at = goal.at.returns-in_err-add_crash-clause-stops g c in
+    let f = g.D.Disk.face in
+    let e = (ears g.J.EffortJudge.heard g.J.EffortJudge.verdict g.B.Bell.rung g.B.Bell.limit) in
+    let plan = c.args.plan.now in
+    let s = c.args.state.now in
+    let p = c.args.s in
+    let m = c.cut_there.new.state in
+    let end = ended g at.After-add_crash in
+    let same = ap events_of c.in_err-add_crash.ensures.err in
+    let cuts = Cuts plan (events_in s) c.args.power.calls p in
+    let after = kept (events_in m) (events.Crash (taker_of s.bag.items p)) in
+    let is = cuts_whole f plan s p c.args.power.calls c.requires.state.0 m after (room_left f s c.requires.state.1) (somebody g at.After-cut_there) end refl in
+    err_then c.from_residual-in_err-add_crash.result
+    (record {
+      next = None;
+      up_to = subst (λ h. IsUpTo cuts h None) (sym same) (none_begun cuts (events_in m) after is (kept_front (events_in m) (events.Crash (taker_of s.bag.items p))));
+      stops =
+          subst (λ h. StopsBy e plan (events_in s) h None first c.cut_there.new.watch) (sym same)
+          (stops_there plan (events_in s) (events_in m) (seen_by e first) (seen_by e c.cut_there.new.watch) (c.in_ok-cut_there.ensures.watches first asks));
+      left = left_still f plan m c.add_crash.new.state end.0.state same None c.in_err-add_crash.ensures.seats;
+    })
+
+pub returns-then-is_none-clause-power : goal.returns-then-is_none-clause-power
+returns-then-is_none-clause-power g c = c.take_step.ensures.power c.args.plan.now
+
+pub returns-in_err-cut_there-clause-power : goal.returns-in_err-cut_there-clause-power
+returns-in_err-cut_there-clause-power g c =
+    let f = g.D.Disk.face in
+    let s = c.args.state.now in
+    let m = c.cut_there.new.state in
+    seats_may_lose f c.args.plan.now _ (events_in s) (events_in m) (taker_of s.bag.items c.args.s) s.seats.items m.seats.items c.from_residual.result (ap events_of c.in_err-cut_there.ensures.err) (room_left f s c.requires.state.1)
+    c.in_err-cut_there.ensures.power c.from_residual.ensures.1
+
+-- the power of the peer was cut after the step
+was_done : (g : Over) (c : After-add_crash g) → PowersEnd g.D.Disk.face (taker_of c.args.state.now.bag.items c.args.s) c.args.state.now.seats.items c.cut_there.new.state.seats.items true
+was_done g c = subst (PowersEnd g.D.Disk.face (taker_of c.args.state.now.bag.items c.args.s) c.args.state.now.seats.items c.cut_there.new.state.seats.items) c.if-branch.true c.in_ok-cut_there.ensures.power
+
+pub returns-in_err-add_crash-clause-power : goal.returns-in_err-add_crash-clause-power
+returns-in_err-add_crash-clause-power g c =
+    let at = goal.at.returns-in_err-add_crash-clause-power g c in
+    let f = g.D.Disk.face in
+    let plan = c.args.plan.now in
+    let s = c.args.state.now in
+    let t = c.add_crash.new.state in
+    let id = taker_of s.bag.items c.args.s in
+    let end = ended g at.After-add_crash in
+    seats_lost f plan (events_in s) (events_in t) id s.seats.items t.seats.items c.from_residual-in_err-add_crash.result
+    (subst (IsQuiet plan (events_in s)) (sym (ap events_of c.in_err-add_crash.ensures.err ∙ end.0.events)) (quiet_step plan (events_in s) c.args.s))
+    (room_left f s c.requires.state.1)
+    (subst (λ (ss : List (Seat g.row.D.Denot)). PowersEnd f id s.seats.items ss true) (sym c.in_err-add_crash.ensures.seats) (was_done g at.After-add_crash))
+    (λ none. absurd (is_stopped _ c.from_residual-in_err-add_crash.result c.from_residual-in_err-add_crash.ensures.1 none))
+
+pub returns-in_ok-add_crash-clause-power : goal.returns-in_ok-add_crash-clause-power
+returns-in_ok-add_crash-clause-power g c =
+    let at = goal.at.returns-in_ok-add_crash-clause-power g c in
+    let f = g.D.Disk.face in
+    let plan = c.args.plan.now in
+    let s = c.args.state.now in
+    let m = c.cut_there.new.state in
+    let t = c.add_crash.new.state in
+    let id = taker_of s.bag.items c.args.s in
+    let end = ended g at.After-add_crash in
+    let honest = honest_taker g at.After-add_crash (somebody g at.After-cut_there) in
+    let b = c.in_ok-add_crash.ensures.becomes plan end.0.state honest in
+    seats_done f plan (events_in s) (events_in m) (events_in t) c.args.s id s.seats.items t.seats.items end.0.events (b.events ∙ ap (λ (n : ℕ). kept (events_in m) (events.Crash n)) (taker_is g at.After-taker-id))
+    (room_left f s c.requires.state.1)
+    (subst (λ (ss : List (Seat g.row.D.Denot)). PowersEnd f id s.seats.items ss true) (sym c.in_ok-add_crash.ensures.seats) (was_done g at.After-add_crash))
+
+pub returns-else-branch-clause-power : goal.returns-else-branch-clause-power
+returns-else-branch-clause-power g c =
+    let f = g.D.Disk.face in
+    let plan = c.args.plan.now in
+    let s = c.args.state.now in
+    let p = c.args.s in
+    let m = c.cut_there.new.state in
+    let id = taker_of s.bag.items p in
+    let end = subst (HasEnded f plan c.args.power.calls s p m) c.if-branch.false c.in_ok-cut_there.ensures.ended in
+    seats_cut f plan (events_in s) (events_in m) p end.0 id s.seats.items m.seats.items end.1.events (room_left f s c.requires.state.1) (ap (λ w. taker_of w.bag p) c.requires.state.0.world)
+    (subst (PowersEnd f id s.seats.items m.seats.items) c.if-branch.false c.in_ok-cut_there.ensures.power)
+
+pub returns-in_err-cut_there-clause-extends : goal.returns-in_err-cut_there-clause-extends
+returns-in_err-cut_there-clause-extends g c = extends_same g.D.Disk.face c.args.plan.now c.args.state.now c.cut_there.new.state.history.items c.requires.state.0 c.in_err-cut_there.ensures.err

@@ -1,5 +1,5 @@
-use Rattle.std.proofs.Common.{◌≡◌, ◌∙◌, ◌++◌, ◌∷◌, [], length, ap, sym, subst, ℕ, Bool, List}
-use Rattle.std.specs.Prelude.{IfSome, Ok, Err, map}
+use Rattle.std.proofs.Common.{◌≡◌, ◌∙◌, ◌++◌, ◌∷◌, [], length, ap, sym, subst, ℕ, Bool, List, inl, inr}
+use Rattle.std.specs.Prelude.{IfSome, Some, Ok, Err, map}
 use Rattle.std.specs.List.{filter_map, range_with_len}
 use Rattle.std.proofs.lemmas.Result.{err_from_is_err_and}
 use Rattle.lks_alarm.specs.declared.alarms.Alarm.{Alarm}
@@ -7,7 +7,7 @@ use Rattle.lks_base.specs.declared.events.Envelope.{Envelope}
 use Rattle.lks_base.specs.declared.reactions.Outgoing.{Outgoing}
 use Rattle.lks_law.specs.Facts.{IsHeard}
 use Rattle.lks_law.specs.Entries.{carried, entry_for}
-use Rattle.lks_law.specs.World.{deed_of, actor_of, sent_by}
+use Rattle.lks_law.specs.World.{deed_of, actor_of, after_step, happens, peers_after, sent_by}
 use Rattle.lks_law.specs.Alarms.{alarm_noted}
 use Rattle.lks_watch.specs.Watching.{Rings, ears, seen_by}
 use Rattle.lks_world.proofs.CutLaws.{if_both, whose_deed}
@@ -18,11 +18,19 @@ use Rattle.lks_world.proofs.Watched.{events_noted, watched_ending}
 use Rattle.lks_world.specs.Endings.{BurnsUnless, HasEnded, PeersEnd, event_for, notes_for, sends_for}
 use Rattle.lks_world.specs.Hosts.{peers_of, HaveGoneOn}
 use Rattle.lks_world.specs.Seats.{hosts_of}
-use Rattle.lks_world.specs.States.{left_after}
+use Rattle.lks_world.specs.States.{left_after, world_in}
 use Rattle.lks_world.specs.declared.seats.Seat.{Seat}
 use Rattle.lks_world.specs.declared.faults.WorldFault.TheVariants.{Memory}
 use Rattle.lks_world.proofs.cutting.cut_there.Given.{Over}
 use Rattle.lks_world.proofs.cutting.cut_there.Goals.{After-taker-id, In_ok-deed, In_ok-note_step}
+use Rattle.std.proofs.Common.{refl}
+use Rattle.lks_world.proofs.Stopped.{err_then, stops_in}
+use Rattle.lks_world.specs.States.{events_of}
+use Rattle.lks_base.specs.declared.events.Event.TheVariants.{Step}
+use Rattle.lks_world.proofs.Fallen.{ended_either, fallen_on, left_by, left_still}
+use Rattle.lks_world.specs.Hosts.{HaveFallen}
+use Rattle.lks_world.proofs.PowerEnds.{may_lose, power_still}
+use Rattle.lks_world.specs.Endings.{MayLosePower, PowersEnd, is_whole}
 use Rattle.lks_world.proofs.cutting.cut_there.Goals as goal
 
 taker_is : (g : Over) (c : After-taker-id g) → c.taker-id.result ≡ taker_of c.args.state.now.bag.items c.args.s
@@ -115,9 +123,81 @@ pub returns-clause-burns : goal.returns-clause-burns
 returns-clause-burns g c =
     let f = g.D.Disk.face in
     let s = c.args.state.now in
+    let calls = c.args.power.calls in
     let choice = c.args.power.choice in
     let id = taker_is g (goal.at.returns-clause-burns g c).After-taker-id in
-    subst (λ (n : ℕ). BurnsUnless f choice n s.seats.items c.note_step.new.state.seats.items c.whole-whole.result) id
-    (subst (λ (ss : List (Seat g.row.D.Denot)). BurnsUnless f choice c.taker-id.result s.seats.items ss c.whole-whole.result) (sym c.in_ok-note_step.ensures.seats)
-    (subst (BurnsUnless f choice c.taker-id.result s.seats.items c.cut_at.new.seats.items) (sym c.whole-whole.ensures)
-    (burns_unless f choice c.taker-id.result s.seats.items c.cut_at.new.seats.items c.in_ok-ending.ending c.in_ok-ending.ensures.burns)))
+    subst (λ (n : ℕ). BurnsUnless f calls choice n s.seats.items c.note_step.new.state.seats.items c.whole-whole.result) id
+    (subst (λ (ss : List (Seat g.row.D.Denot)). BurnsUnless f calls choice c.taker-id.result s.seats.items ss c.whole-whole.result) (sym c.in_ok-note_step.ensures.seats)
+    (subst (BurnsUnless f calls choice c.taker-id.result s.seats.items c.cut_at.new.seats.items) (sym c.whole-whole.ensures)
+    (burns_unless f calls choice c.taker-id.result s.seats.items c.cut_at.new.seats.items c.in_ok-ending.ending c.in_ok-ending.ensures.burns)))
+
+pub returns-in_err-deed-clause-stops : goal.returns-in_err-deed-clause-stops
+returns-in_err-deed-clause-stops g c = λ first asks.
+    err_then c.from_residual.result
+    (stops_in g.D.Disk.face (ears g.J.EffortJudge.heard g.J.EffortJudge.verdict g.B.Bell.rung g.B.Bell.limit) c.args.plan.now c.args.state.now _ c.args.s first c.args.watch.now c.args.watch.now c.requires.state refl asks refl)
+
+pub returns-in_err-ending-clause-stops : goal.returns-in_err-ending-clause-stops
+returns-in_err-ending-clause-stops g c = λ first asks.
+    err_then c.from_residual-in_err-ending.result
+    (stops_in g.D.Disk.face (ears g.J.EffortJudge.heard g.J.EffortJudge.verdict g.B.Bell.rung g.B.Bell.limit) c.args.plan.now c.args.state.now _ c.args.s first c.args.watch.now c.args.watch.now c.requires.state refl asks refl)
+
+pub returns-in_err-note_step-clause-stops : goal.returns-in_err-note_step-clause-stops
+returns-in_err-note_step-clause-stops g c = λ first asks.
+    err_then c.from_residual-in_err-note_step.result
+    (stops_in g.D.Disk.face (ears g.J.EffortJudge.heard g.J.EffortJudge.verdict g.B.Bell.rung g.B.Bell.limit) c.args.plan.now c.args.state.now _ c.args.s first c.args.watch.now c.note_step.new.watch c.requires.state (ap events_of c.in_err-note_step.ensures.err) asks c.in_err-note_step.ensures.hears)
+
+pub returns-in_err-deed-clause-fallen : goal.returns-in_err-deed-clause-fallen
+returns-in_err-deed-clause-fallen g c =
+    let s = c.args.state.now in
+    err_then c.from_residual.result (left_still g.D.Disk.face c.args.plan.now s s c.requires.state refl (Some c.args.s) refl)
+
+pub returns-in_err-ending-clause-fallen : goal.returns-in_err-ending-clause-fallen
+unfolding happens after_step
+returns-in_err-ending-clause-fallen g c =
+    let f = g.D.Disk.face in
+    let s = c.args.state.now in
+    let deed = deed_is g (goal.at.returns-in_err-ending-clause-fallen g c).In_ok-deed in
+    err_then c.from_residual-in_err-ending.result
+    (left_by f c.args.plan.now s (record s { seats = c.cut_at.new.seats }) c.requires.state refl c.args.s
+    (subst (λ o. HaveFallen f (hosts_of s.seats.items) (peers_after s.tick (peers_of f (hosts_of s.seats.items)) o) (hosts_of c.cut_at.new.seats.items)) deed c.in_err-ending.ensures.fallen))
+
+pub returns-in_err-note_step-clause-fallen : goal.returns-in_err-note_step-clause-fallen
+unfolding happens after_step
+returns-in_err-note_step-clause-fallen g c =
+    let f = g.D.Disk.face in
+    let s = c.args.state.now in
+    let deed = deed_is g (goal.at.returns-in_err-note_step-clause-fallen g c).In_ok-deed in
+    err_then c.from_residual-in_err-note_step.result
+    (left_by f c.args.plan.now s c.note_step.new.state c.requires.state (ap events_of c.in_err-note_step.ensures.err) c.args.s
+    (subst (λ (ss : List (Seat g.row.D.Denot)). HaveFallen f (hosts_of s.seats.items) (happens (world_in f s) (Step c.args.s)).peers (hosts_of ss)) (sym c.in_err-note_step.ensures.seats)
+    (fallen_on f (hosts_of s.seats.items) (hosts_of c.cut_at.new.seats.items) _ c.in_ok-ending.ensures.on
+    (ended_either s.tick c.in_ok-deed.deed c.args.power.calls (peers_of f (hosts_of s.seats.items)) (peers_of f (hosts_of c.cut_at.new.seats.items)) _ c.in_ok-ending.ending c.in_ok-ending.ensures.ends (ap (peers_after s.tick (peers_of f (hosts_of s.seats.items))) (sym deed))))))
+
+pub returns-in_err-deed-clause-power : goal.returns-in_err-deed-clause-power
+returns-in_err-deed-clause-power g c =
+    let s = c.args.state.now in
+    may_lose g.D.Disk.face _ (λ is_done. is_done) (taker_of s.bag.items c.args.s) s.seats.items s.seats.items c.from_residual.result c.from_residual.ensures.1 (inl (power_still g.D.Disk.face s.seats.items s.seats.items refl))
+
+pub returns-in_err-ending-clause-power : goal.returns-in_err-ending-clause-power
+returns-in_err-ending-clause-power g c =
+    let s = c.args.state.now in
+    let id = taker_is g (goal.at.returns-in_err-ending-clause-power g c).After-taker-id in
+    may_lose g.D.Disk.face _ (λ is_done. is_done) (taker_of s.bag.items c.args.s) s.seats.items c.cut_at.new.seats.items c.from_residual-in_err-ending.result c.from_residual-in_err-ending.ensures.1
+    (subst (λ (n : ℕ). MayLosePower g.D.Disk.face n s.seats.items c.cut_at.new.seats.items) id c.in_err-ending.ensures.power)
+
+pub returns-in_err-note_step-clause-power : goal.returns-in_err-note_step-clause-power
+returns-in_err-note_step-clause-power g c =
+    let s = c.args.state.now in
+    let id = taker_is g (goal.at.returns-in_err-note_step-clause-power g c).After-taker-id in
+    may_lose g.D.Disk.face _ (λ is_done. is_done) (taker_of s.bag.items c.args.s) s.seats.items c.note_step.new.state.seats.items c.from_residual-in_err-note_step.result c.from_residual-in_err-note_step.ensures.1
+    (subst (λ (n : ℕ). MayLosePower g.D.Disk.face n s.seats.items c.note_step.new.state.seats.items) id
+    (subst (λ (ss : List (Seat g.row.D.Denot)). MayLosePower g.D.Disk.face c.taker-id.result s.seats.items ss) (sym c.in_err-note_step.ensures.seats) (inr (is_whole c.in_ok-ending.ending, c.in_ok-ending.ensures.power))))
+
+pub returns-clause-power : goal.returns-clause-power
+returns-clause-power g c =
+    let f = g.D.Disk.face in
+    let s = c.args.state.now in
+    let id = taker_is g (goal.at.returns-clause-power g c).After-taker-id in
+    subst (λ (n : ℕ). PowersEnd f n s.seats.items c.note_step.new.state.seats.items c.whole-whole.result) id
+    (subst (λ (ss : List (Seat g.row.D.Denot)). PowersEnd f c.taker-id.result s.seats.items ss c.whole-whole.result) (sym c.in_ok-note_step.ensures.seats)
+    (subst (PowersEnd f c.taker-id.result s.seats.items c.cut_at.new.seats.items) (sym c.whole-whole.ensures) c.in_ok-ending.ensures.power))

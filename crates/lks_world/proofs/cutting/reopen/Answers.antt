@@ -1,11 +1,19 @@
-use Rattle.std.proofs.Common.{◌≡◌, ◌∙◌, sym, []}
+use Rattle.std.proofs.Common.{◌≡◌, ◌∙◌, sym, subst, []}
+use Rattle.std.specs.Prelude.{None}
+use Rattle.lks_law.specs.World.{peer_at}
 use Rattle.lks_world.proofs.Ending.{nothing_added, with_nothing}
 use Rattle.lks_world.proofs.HostLaws.{ok_then, stayed}
 use Rattle.lks_world.proofs.SeatLaws.{ActsAt, acts_at, never_idle, acts_there, acts_ranked, acts_added, acts_on, counted_one}
-use Rattle.lks_world.specs.Hosts.{peer_in, peers_of}
+use Rattle.std.specs.Prelude.{OnErr, slice_set}
+use Rattle.lks_world.specs.Hosts.{HaveFallen, peer_in, peers_of}
+use Rattle.lks_world.specs.declared.seats.Seat.TheVariants as seat
 use Rattle.lks_world.specs.Seats.{hosts_of}
 use Rattle.lks_world.proofs.cutting.reopen.Given.{Over}
 use Rattle.lks_world.proofs.cutting.reopen.Goals.{In-Host}
+use Rattle.lks_world.proofs.Fallen.{fell_each}
+use Rattle.lks_world.proofs.SeatLaws.{acts_fell}
+use Rattle.lks_world.proofs.Stopped.{err_map}
+use Rattle.lks_world.proofs.PowerEnds.{power_absent, power_lost}
 use Rattle.lks_world.proofs.cutting.reopen.Goals as goal
 
 seat_acts : (g : Over) (c : In-Host g) → ActsAt g.D.Disk.face c.args.id c.args.seats.now.items c.in-Some.place c.in-Host.host
@@ -61,3 +69,22 @@ returns-clause-counted g c =
     let h = c.in-Host.host in
     let acts = seat_acts g (goal.at.returns-clause-counted g c).In-Host in
     counted_one f seats c.in-Some.place h c.restart_as.new.host c.restart_as.result (acts_there f c.args.id seats c.in-Some.place h acts) c.restart_as.ensures.acted
+
+pub returns-clause-fallen : goal.returns-clause-fallen
+returns-clause-fallen g c =
+    let f = g.D.Disk.face in
+    let seats = c.args.seats.now.items in
+    let h = c.in-Host.host in
+    let acts = seat_acts g (goal.at.returns-clause-fallen g c).In-Host in
+    let k = c.restart_as.new.host in
+    subst (λ ps. OnErr c.restart_as.result (HaveFallen f (hosts_of seats) ps (hosts_of (slice_set seats c.in-Some.place (seat.Host k))))) (nothing_added c.args.id (peers_of f (hosts_of seats)))
+    (err_map c.restart_as.result (acts_fell f c.args.id seats c.in-Some.place h acts [] k) (fell_each f c.restart_as.result h k (λ batches. batches) c.restart_as.ensures.falls))
+
+pub returns-in_default-clause-power : goal.returns-in_default-clause-power
+returns-in_default-clause-power g c =
+    power_absent g.D.Disk.face c.args.id c.args.seats.now.items (subst (λ ss. peer_at c.args.id (peers_of g.D.Disk.face (hosts_of ss)) ≡ None) c.deref.ensures.value c.in_default.ensures.none)
+
+pub returns-clause-power : goal.returns-clause-power
+returns-clause-power g c =
+    let acts = seat_acts g (goal.at.returns-clause-power g c).In-Host in
+    power_lost g.D.Disk.face c.args.id c.args.seats.now.items c.in-Some.place c.in-Host.host acts c.restart_as.new.host c.restart_as.ensures.burns c.restart_as.ensures.power.cuts

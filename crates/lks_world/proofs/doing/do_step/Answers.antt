@@ -1,4 +1,5 @@
 use Rattle.std.proofs.Common.{◌≡◌, ◌≤◌, ◌∙◌, sym, ap, subst, true, length, refl}
+use Rattle.std.specs.Prelude.{None, OnErr, Ok}
 use Rattle.lks_base.specs.Checking.{has_corrupt, has_peer}
 use Rattle.lks_base.specs.declared.events.Event.TheVariants as events
 use Rattle.lks_base.specs.declared.limits.TheConstants.{MOST_FORGED_BYTES}
@@ -7,10 +8,17 @@ use Rattle.lks_watch.specs.Watching.{Watches, ears, seen_by}
 use Rattle.lks_world.proofs.HostLaws.{ok_then}
 use Rattle.lks_world.proofs.OwnSteps.{step_may, ticks_within, forgery_may, crash_may, cut_legal}
 use Rattle.lks_world.proofs.Watched.{crash_quiet, lost_quiet, ok_both, quiet_kept, step_asks}
-use Rattle.lks_world.specs.Follows.{Performs}
+use Rattle.lks_world.specs.Follows.{IsUpTo, Performs}
 use Rattle.lks_world.specs.States.{events_in, world_in}
 use Rattle.lks_world.proofs.doing.do_step.Given.{Over}
 use Rattle.lks_world.proofs.doing.do_step.Goals.{In_ok-bytes-in-Forge}
+use Rattle.lks_world.proofs.Stopped.{err_then, err_three, stopped_still, stops_quiet}
+use Rattle.lks_world.proofs.UpTo.{not_begun}
+use Rattle.lks_world.specs.Stopping.{HasStopped}
+use Rattle.lks_world.specs.States.{events_of}
+use Rattle.lks_world.proofs.PowerEnds.{power_still, seats_quiet, seats_still}
+use Rattle.lks_world.proofs.PowerLaws.{quiet_kept as power_kept, quiet_lost}
+use Rattle.lks_world.specs.Powers.{IsQuiet}
 use Rattle.lks_world.proofs.doing.do_step.Goals as goal
 
 is_forged : (g : Over) (c : In_ok-bytes-in-Forge g) → c.args.step.now ≡ step.Forge c.in-Forge.from c.in-Forge.to c.in_ok-bytes-in-Forge.bytes
@@ -120,3 +128,160 @@ returns-in_ok-add_forgery-in-Forge-clause-performs g c =
       subst (λ s. Performs (e.verdict c.args.watch.now.judge) plan h s (events_in c.add_forgery.new.state)) (sym forged) is,
       subst (λ after. Watches plan h after x x) (sym is) (quiet_kept plan h x (events.Forge c.in-Forge.from c.in-Forge.to bytes) (λ w. (refl, refl))),
     )
+
+-- What a fault stopped.
+
+pub returns-in_err-add_ticks-in-Tick-clause-stops : goal.returns-in_err-add_ticks-in-Tick-clause-stops
+returns-in_err-add_ticks-in-Tick-clause-stops g c =
+    err_then c.from_residual.result
+    (stopped_still g.D.Disk.face (ears g.J.EffortJudge.heard g.J.EffortJudge.verdict g.B.Bell.rung g.B.Bell.limit) c.args.plan.now _ c.args.state.now c.add_ticks.new.state c.args.watch.now c.args.watch.now c.requires.state.0
+    (not_begun (g.J.EffortJudge.verdict c.args.watch.now.judge) c.args.plan.now (events_in c.args.state.now) c.args.step.now) c.in_err-add_ticks-in-Tick.ensures.seats (ap events_of c.in_err-add_ticks-in-Tick.ensures.err) refl)
+
+pub returns-in_err-lose_first-in-Lose-clause-stops : goal.returns-in_err-lose_first-in-Lose-clause-stops
+returns-in_err-lose_first-in-Lose-clause-stops g c =
+    err_then c.from_residual-in_err-lose_first-in-Lose.result
+    (stopped_still g.D.Disk.face (ears g.J.EffortJudge.heard g.J.EffortJudge.verdict g.B.Bell.rung g.B.Bell.limit) c.args.plan.now _ c.args.state.now c.lose_first.new.state c.args.watch.now c.args.watch.now c.requires.state.0
+    (not_begun (g.J.EffortJudge.verdict c.args.watch.now.judge) c.args.plan.now (events_in c.args.state.now) c.args.step.now) c.in_err-lose_first-in-Lose.ensures.seats (ap events_of c.in_err-lose_first-in-Lose.ensures.err) refl)
+
+pub returns-in_err-bytes-in-Forge-clause-stops : goal.returns-in_err-bytes-in-Forge-clause-stops
+returns-in_err-bytes-in-Forge-clause-stops g c =
+    err_then c.from_residual-in_err-bytes-in-Forge.result
+    (stopped_still g.D.Disk.face (ears g.J.EffortJudge.heard g.J.EffortJudge.verdict g.B.Bell.rung g.B.Bell.limit) c.args.plan.now _ c.args.state.now c.args.state.now c.args.watch.now c.args.watch.now c.requires.state.0
+    (not_begun (g.J.EffortJudge.verdict c.args.watch.now.judge) c.args.plan.now (events_in c.args.state.now) c.args.step.now) refl refl refl)
+
+pub returns-in_err-add_forgery-in-Forge-clause-stops : goal.returns-in_err-add_forgery-in-Forge-clause-stops
+returns-in_err-add_forgery-in-Forge-clause-stops g c =
+    err_then c.from_residual-in_err-add_forgery-in-Forge.result
+    (stopped_still g.D.Disk.face (ears g.J.EffortJudge.heard g.J.EffortJudge.verdict g.B.Bell.rung g.B.Bell.limit) c.args.plan.now _ c.args.state.now c.add_forgery.new.state c.args.watch.now c.args.watch.now c.requires.state.0
+    (not_begun (g.J.EffortJudge.verdict c.args.watch.now.judge) c.args.plan.now (events_in c.args.state.now) c.args.step.now) c.in_err-add_forgery-in-Forge.ensures.seats (ap events_of c.in_err-add_forgery-in-Forge.ensures.err) refl)
+
+pub returns-in_err-say-in-SayPoll-clause-stops : goal.returns-in_err-say-in-SayPoll-clause-stops
+returns-in_err-say-in-SayPoll-clause-stops g c =
+    err_then c.from_residual-in_err-say-in-SayPoll.result
+    (stopped_still g.D.Disk.face (ears g.J.EffortJudge.heard g.J.EffortJudge.verdict g.B.Bell.rung g.B.Bell.limit) c.args.plan.now _ c.args.state.now c.say.new.state c.args.watch.now c.args.watch.now c.requires.state.0
+    (not_begun (g.J.EffortJudge.verdict c.args.watch.now.judge) c.args.plan.now (events_in c.args.state.now) c.args.step.now) c.in_err-say-in-SayPoll.ensures.seats (ap events_of c.in_err-say-in-SayPoll.ensures.err) refl)
+
+pub returns-in-Peer-clause-stops : goal.returns-in-Peer-clause-stops
+returns-in-Peer-clause-stops g c =
+    subst (λ st. OnErr c.add_step.result (HasStopped g.D.Disk.face (ears g.J.EffortJudge.heard g.J.EffortJudge.verdict g.B.Bell.rung g.B.Bell.limit) c.args.plan.now (Performs (g.J.EffortJudge.verdict c.args.watch.now.judge) c.args.plan.now (events_in c.args.state.now) st) (events_in c.args.state.now) c.args.watch.now c.add_step.new.state c.add_step.new.watch)) (sym c.in-Peer.is)
+    (c.add_step.ensures.stops c.args.plan.now c.requires.state.0 (step_asks c.args.plan.now (world_in g.D.Disk.face c.args.state.now) c.args.step.now c.in-Peer.s c.in-Peer.is c.requires.legal))
+
+pub returns-in-Crash-clause-stops : goal.returns-in-Crash-clause-stops
+returns-in-Crash-clause-stops g c =
+    let f = g.D.Disk.face in
+    let e = (ears g.J.EffortJudge.heard g.J.EffortJudge.verdict g.B.Bell.rung g.B.Bell.limit) in
+    let plan = c.args.plan.now in
+    let s = c.args.state.now in
+    let x = c.args.watch.now in
+    let performs = Performs (e.verdict x.judge) plan (events_in s) c.args.step.now in
+    err_three c.crash.result
+    (λ same left again. record {
+      next = None;
+      up_to = subst (λ h. IsUpTo performs h None) (sym (ap events_of same)) (not_begun (e.verdict x.judge) plan (events_in s) c.args.step.now);
+      stops = stops_quiet f e plan s (events_in c.crash.new.state) x x (ap events_of same) refl;
+      left = left;
+    })
+    c.crash.ensures.err c.crash.ensures.fallen c.crash.ensures.fallen
+
+pub returns-in-Next-clause-stops : goal.returns-in-Next-clause-stops
+returns-in-Next-clause-stops g c =
+    subst (λ st. OnErr c.go_on.result (HasStopped g.D.Disk.face (ears g.J.EffortJudge.heard g.J.EffortJudge.verdict g.B.Bell.rung g.B.Bell.limit) c.args.plan.now (Performs (g.J.EffortJudge.verdict c.args.watch.now.judge) c.args.plan.now (events_in c.args.state.now) st) (events_in c.args.state.now) c.args.watch.now c.go_on.new.state c.go_on.new.watch)) (sym c.in-Next.is)
+    (c.go_on.ensures.stops c.args.plan.now c.requires.state.0 c.requires.state.1)
+
+pub returns-in-Again-clause-stops : goal.returns-in-Again-clause-stops
+returns-in-Again-clause-stops g c =
+    subst (λ st. OnErr c.deliver_again.result (HasStopped g.D.Disk.face (ears g.J.EffortJudge.heard g.J.EffortJudge.verdict g.B.Bell.rung g.B.Bell.limit) c.args.plan.now (Performs (g.J.EffortJudge.verdict c.args.watch.now.judge) c.args.plan.now (events_in c.args.state.now) st) (events_in c.args.state.now) c.args.watch.now c.deliver_again.new.state c.deliver_again.new.watch)) (sym c.in-Again.is)
+    (c.deliver_again.ensures.stops c.args.plan.now c.requires.state.0 c.requires.state.1)
+
+pub returns-in-Settle-clause-stops : goal.returns-in-Settle-clause-stops
+returns-in-Settle-clause-stops g c =
+    subst (λ st. OnErr c.go_on-in-Settle.result (HasStopped g.D.Disk.face (ears g.J.EffortJudge.heard g.J.EffortJudge.verdict g.B.Bell.rung g.B.Bell.limit) c.args.plan.now (Performs (g.J.EffortJudge.verdict c.args.watch.now.judge) c.args.plan.now (events_in c.args.state.now) st) (events_in c.args.state.now) c.args.watch.now c.go_on-in-Settle.new.state c.go_on-in-Settle.new.watch)) (sym c.in-Settle.is)
+    (c.go_on-in-Settle.ensures.stops c.args.plan.now c.requires.state.0 c.requires.state.1)
+
+pub returns-in-Finish-clause-stops : goal.returns-in-Finish-clause-stops
+returns-in-Finish-clause-stops g c =
+    subst (λ st. OnErr c.go_on-in-Finish.result (HasStopped g.D.Disk.face (ears g.J.EffortJudge.heard g.J.EffortJudge.verdict g.B.Bell.rung g.B.Bell.limit) c.args.plan.now (Performs (g.J.EffortJudge.verdict c.args.watch.now.judge) c.args.plan.now (events_in c.args.state.now) st) (events_in c.args.state.now) c.args.watch.now c.go_on-in-Finish.new.state c.go_on-in-Finish.new.watch)) (sym c.in-Finish.is)
+    (c.go_on-in-Finish.ensures.stops c.args.plan.now c.requires.state.0 c.requires.state.1)
+
+pub returns-in-Cut-clause-stops : goal.returns-in-Cut-clause-stops
+returns-in-Cut-clause-stops g c =
+    subst (λ st. OnErr c.cut.result (HasStopped g.D.Disk.face (ears g.J.EffortJudge.heard g.J.EffortJudge.verdict g.B.Bell.rung g.B.Bell.limit) c.args.plan.now (Performs (g.J.EffortJudge.verdict c.args.watch.now.judge) c.args.plan.now (events_in c.args.state.now) st) (events_in c.args.state.now) c.args.watch.now c.cut.new.state c.cut.new.watch)) (sym c.in-Cut.is)
+    (c.cut.ensures.stops)
+
+-- what no power fails in
+
+pub returns-in-Peer-clause-power : goal.returns-in-Peer-clause-power
+returns-in-Peer-clause-power g c = c.add_step.ensures.power c.args.plan.now
+
+pub returns-in-Next-clause-power : goal.returns-in-Next-clause-power
+returns-in-Next-clause-power g c = c.go_on.ensures.power c.args.plan.now
+
+pub returns-in-Again-clause-power : goal.returns-in-Again-clause-power
+returns-in-Again-clause-power g c = c.deliver_again.ensures.power c.args.plan.now
+
+pub returns-in-Settle-clause-power : goal.returns-in-Settle-clause-power
+returns-in-Settle-clause-power g c = c.go_on-in-Settle.ensures.power c.args.plan.now
+
+pub returns-in-Finish-clause-power : goal.returns-in-Finish-clause-power
+returns-in-Finish-clause-power g c = c.go_on-in-Finish.ensures.power c.args.plan.now
+
+pub returns-in_err-add_ticks-in-Tick-clause-power : goal.returns-in_err-add_ticks-in-Tick-clause-power
+returns-in_err-add_ticks-in-Tick-clause-power g c =
+    let f = g.D.Disk.face in
+    let s = c.args.state.now in
+    let t = c.add_ticks.new.state in
+    seats_still f c.args.plan.now (events_in s) (events_in t) s.seats.items t.seats.items c.from_residual.result (ap events_of c.in_err-add_ticks-in-Tick.ensures.err) (power_still f s.seats.items t.seats.items c.in_err-add_ticks-in-Tick.ensures.seats)
+
+pub returns-in_err-lose_first-in-Lose-clause-power : goal.returns-in_err-lose_first-in-Lose-clause-power
+returns-in_err-lose_first-in-Lose-clause-power g c =
+    let f = g.D.Disk.face in
+    let s = c.args.state.now in
+    let t = c.lose_first.new.state in
+    seats_still f c.args.plan.now (events_in s) (events_in t) s.seats.items t.seats.items c.from_residual-in_err-lose_first-in-Lose.result (ap events_of c.in_err-lose_first-in-Lose.ensures.err) (power_still f s.seats.items t.seats.items c.in_err-lose_first-in-Lose.ensures.seats)
+
+pub returns-in_err-say-in-SayPoll-clause-power : goal.returns-in_err-say-in-SayPoll-clause-power
+returns-in_err-say-in-SayPoll-clause-power g c =
+    let f = g.D.Disk.face in
+    let s = c.args.state.now in
+    let t = c.say.new.state in
+    seats_still f c.args.plan.now (events_in s) (events_in t) s.seats.items t.seats.items c.from_residual-in_err-say-in-SayPoll.result (ap events_of c.in_err-say-in-SayPoll.ensures.err) (power_still f s.seats.items t.seats.items c.in_err-say-in-SayPoll.ensures.seats)
+
+pub returns-in_ok-add_ticks-in-Tick-clause-power : goal.returns-in_ok-add_ticks-in-Tick-clause-power
+returns-in_ok-add_ticks-in-Tick-clause-power g c =
+    let f = g.D.Disk.face in
+    let plan = c.args.plan.now in
+    let s = c.args.state.now in
+    let t = c.add_ticks.new.state in
+    let is = (c.in_ok-add_ticks-in-Tick.ensures.becomes plan c.requires.state.0).events in
+    seats_quiet f plan (events_in s) (events_in t) s.seats.items t.seats.items (Ok (tt {0})) (subst (IsQuiet plan (events_in s)) (sym is) (power_kept plan (events_in s) (events.Tick c.in-Tick.by) (λ w. (refl, refl))))
+    (power_still f s.seats.items t.seats.items c.in_ok-add_ticks-in-Tick.ensures.seats)
+
+pub returns-in_ok-lose_first-in-Lose-clause-power : goal.returns-in_ok-lose_first-in-Lose-clause-power
+returns-in_ok-lose_first-in-Lose-clause-power g c =
+    let f = g.D.Disk.face in
+    let plan = c.args.plan.now in
+    let s = c.args.state.now in
+    let t = c.lose_first.new.state in
+    let is = (c.in_ok-lose_first-in-Lose.ensures.becomes plan c.requires.state.0).events in
+    seats_quiet f plan (events_in s) (events_in t) s.seats.items t.seats.items (Ok (tt {0})) (subst (IsQuiet plan (events_in s)) (sym is) (quiet_lost plan (events_in s)))
+    (power_still f s.seats.items t.seats.items c.in_ok-lose_first-in-Lose.ensures.seats)
+
+pub returns-in_ok-add_forgery-in-Forge-clause-power : goal.returns-in_ok-add_forgery-in-Forge-clause-power
+returns-in_ok-add_forgery-in-Forge-clause-power g c =
+    let f = g.D.Disk.face in
+    let plan = c.args.plan.now in
+    let s = c.args.state.now in
+    let t = c.add_forgery.new.state in
+    let may = may_forge g (goal.at.returns-in_ok-add_forgery-in-Forge-clause-power g c).In_ok-bytes-in-Forge in
+    let is = (c.in_ok-add_forgery-in-Forge.ensures.becomes plan c.requires.state.0 may.0 may.1 may.2).events in
+    seats_quiet f plan (events_in s) (events_in t) s.seats.items t.seats.items (Ok (tt {0}))
+    (subst (IsQuiet plan (events_in s)) (sym is) (power_kept plan (events_in s) (events.Forge c.in-Forge.from c.in-Forge.to c.in_ok-bytes-in-Forge.bytes) (λ w. (refl, refl))))
+    (power_still f s.seats.items t.seats.items c.in_ok-add_forgery-in-Forge.ensures.seats)
+
+pub returns-in_ok-say-in-SayPoll-clause-power : goal.returns-in_ok-say-in-SayPoll-clause-power
+returns-in_ok-say-in-SayPoll-clause-power g c =
+    let f = g.D.Disk.face in
+    let plan = c.args.plan.now in
+    let s = c.args.state.now in
+    let t = c.say.new.state in
+    seats_quiet f plan (events_in s) (events_in t) s.seats.items t.seats.items (Ok (tt {0})) c.in_ok-say-in-SayPoll.ensures.quiet (power_still f s.seats.items t.seats.items c.in_ok-say-in-SayPoll.ensures.seats)

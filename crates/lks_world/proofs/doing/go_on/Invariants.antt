@@ -6,7 +6,7 @@ use Rattle.lks_base.specs.declared.limits.TheConstants.{MOST_EVENTS}
 use Rattle.lks_law.specs.Questions.{questions}
 use Rattle.lks_watch.specs.Watching.{WatchesBy, ears}
 use Rattle.lks_world.specs.Follows.{next_event}
-use Rattle.lks_world.specs.Seats.{Counted}
+use Rattle.lks_world.specs.Seats.{Counted, SeatsPower}
 use Rattle.lks_world.specs.States.{IsStateOf, Extends, events_in, next_of}
 use Rattle.lks_world.proofs.doing.go_on.Given as goal
 
@@ -19,5 +19,6 @@ invariant-loop-turn g l = record {
   extends : (plan : Plan) → IsStateOf g.D.Disk.face plan l.fn.state → g.J.EffortJudge.heard l.fn.watch.judge ≡ questions plan (events_in l.fn.state)
       → Extends plan l.fn.state.history.items l.state.history.items;
   room : l.turn-end - l.turn ≤ MOST_EVENTS - length l.state.history.items;
+  power : (plan : Plan) → SeatsPower {T = Unit {0}} g.D.Disk.face plan (events_in l.fn.state) (events_in l.state) l.fn.state.seats.items l.state.seats.items (Ok tt);
   counted : Counted {T = Unit {0}} g.D.Disk.face l.fn.state.seats.items l.state.seats.items (Ok tt);
 }

@@ -7,6 +7,8 @@ use Rattle.lks_world.proofs.OwnSteps.{says}
 use Rattle.lks_world.proofs.Watched.{spoken_quiet}
 use Rattle.lks_world.specs.Follows.{spoken}
 use Rattle.lks_world.specs.States.{events_in}
+use Rattle.lks_world.proofs.PowerLaws.{quiet_spoken}
+use Rattle.lks_world.specs.Powers.{IsQuiet}
 use Rattle.lks_world.proofs.doing.say.Goals as goal
 
 pub returns-clause-state : goal.returns-clause-state
@@ -25,3 +27,10 @@ returns-clause-performs g c =
 
 pub returns-clause-extends : goal.returns-clause-extends
 returns-clause-extends g c = c.speak.ensures.extends c.args.plan.now c.requires.state (said_may c.args.plan.now c.args.step.now c.in_ok-said.said c.in_ok-said.ensures.said c.requires.legal)
+
+pub returns-clause-quiet : goal.returns-clause-quiet
+returns-clause-quiet g c =
+    let plan = c.args.plan.now in
+    let history = events_in c.args.state.now in
+    ok_then c.speak.result (λ b. subst (IsQuiet plan history) (sym b.events) (quiet_spoken plan history c.in_ok-said.said))
+    (c.speak.ensures.becomes plan c.requires.state (said_may plan c.args.step.now c.in_ok-said.said c.in_ok-said.ensures.said c.requires.legal))

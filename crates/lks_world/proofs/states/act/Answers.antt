@@ -1,12 +1,17 @@
 use Rattle.std.proofs.Common.{◌≡◌, sym, subst}
-use Rattle.std.specs.Prelude.{IfOk, OnOk, slice_set}
+use Rattle.std.specs.Prelude.{Some, IfOk, OnOk, OnErr, slice_set}
 use Rattle.lks_law.specs.Entries.{notes_at}
 use Rattle.lks_law.specs.World.{Deed, peer_at, reaction_at, with_records}
 use Rattle.lks_world.proofs.HostLaws.{ok_then, stayed}
 use Rattle.lks_world.proofs.SeatLaws.{acts_at, never_idle, acts_there, acts_ranked, acts_found, acts_added, acts_on, counted_one}
-use Rattle.lks_world.specs.Hosts.{peers_of}
+use Rattle.lks_law.specs.Batches.{with_batch}
+use Rattle.lks_world.specs.Hosts.{HaveFallen, peer_in, peers_of}
 use Rattle.lks_world.specs.Seats.{hosts_of}
 use Rattle.lks_world.specs.declared.seats.Seat.TheVariants as seat
+use Rattle.lks_world.proofs.Fallen.{fell_each}
+use Rattle.lks_world.proofs.SeatLaws.{acts_fell}
+use Rattle.lks_world.proofs.Stopped.{err_map}
+use Rattle.lks_world.proofs.PowerEnds.{power_kept}
 use Rattle.lks_world.proofs.states.act.Goals as goal
 
 pub returns-in_default-clause-on : goal.returns-in_default-clause-on
@@ -63,3 +68,24 @@ returns-clause-counted g c =
     let h = c.in-Host.host in
     let acts = acts_at g.D.Disk.face c.deed.inside.peer c.deref.result.now seats c.in-Some.place c.index_mut.result.now c.deref.ensures.value c.in-Some.ensures c.index_mut.ensures.value h c.in-Host.is in
     counted_one g.D.Disk.face seats c.in-Some.place h c.act_as.new.host c.act_as.result (acts_there g.D.Disk.face c.deed.inside.peer seats c.in-Some.place h acts) c.act_as.ensures.acted
+
+pub returns-clause-fallen : goal.returns-clause-fallen
+returns-clause-fallen g c =
+    let f = g.D.Disk.face in
+    let seats = c.args.seats.now.items in
+    let h = c.in-Host.host in
+    let acts = acts_at f c.deed.inside.peer c.deref.result.now seats c.in-Some.place c.index_mut.result.now c.deref.ensures.value c.in-Some.ensures c.index_mut.ensures.value h c.in-Host.is in
+    let k = c.act_as.new.host in
+    let place = c.in-Some.place in
+    let records = (reaction_at c.args.tick (Some (peer_in f h)) c.deed.inside.input).records in
+    subst (λ (v : Deed). OnErr c.act_as.result (HaveFallen f (hosts_of seats) (with_records v.peer (reaction_at c.args.tick (peer_at v.peer (peers_of f (hosts_of seats))) v.input).records (peers_of f (hosts_of seats))) (hosts_of (slice_set seats place (seat.Host k))))) c.deed.view_is
+    (subst (λ o. OnErr c.act_as.result (HaveFallen f (hosts_of seats) (with_records c.deed.inside.peer (reaction_at c.args.tick o c.deed.inside.input).records (peers_of f (hosts_of seats))) (hosts_of (slice_set seats place (seat.Host k))))) (sym (acts_found f c.deed.inside.peer seats place h acts))
+    (err_map c.act_as.result (acts_fell f c.deed.inside.peer seats place h acts records k) (fell_each f c.act_as.result h k (λ batches. with_batch batches records) c.act_as.ensures.falls)))
+
+pub returns-clause-power : goal.returns-clause-power
+returns-clause-power g c =
+    let f = g.D.Disk.face in
+    let seats = c.args.seats.now.items in
+    let h = c.in-Host.host in
+    let acts = acts_at f c.deed.inside.peer c.deref.result.now seats c.in-Some.place c.index_mut.result.now c.deref.ensures.value c.in-Some.ensures c.index_mut.ensures.value h c.in-Host.is in
+    power_kept f c.deed.inside.peer seats c.in-Some.place h acts c.act_as.new.host c.act_as.ensures.power

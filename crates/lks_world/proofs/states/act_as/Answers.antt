@@ -2,6 +2,7 @@ use Rattle.std.proofs.Common.{◌∙◌, ◌++◌, ap, sym, subst, List}
 use Rattle.std.specs.List.{filter_map}
 use Rattle.lks_base.specs.declared.reactions.Reaction.{Reaction}
 use Rattle.lks_base.specs.declared.records.Record.{Record}
+use Rattle.lks_host.specs.Cutting.{Falls}
 use Rattle.lks_host.specs.Hosted.{StandsFor}
 use Rattle.lks_host.specs.Journals.{journal_on}
 use Rattle.lks_host.specs.Stepping.{IsWritten}
@@ -10,6 +11,8 @@ use Rattle.lks_law.specs.Entries.{note_of, note_with}
 use Rattle.lks_law.specs.Turning.{has_inner_in}
 use Rattle.lks_world.proofs.Acting.{reacts, grown, more, noted}
 use Rattle.lks_world.specs.Hosts.{peer_in, with_added}
+use Rattle.lks_world.proofs.Fallen.{falls_whole}
+use Rattle.lks_world.proofs.Stopped.{err_then}
 use Rattle.lks_world.proofs.states.act_as.Goals as goal
 
 pub returns-clause-sends : goal.returns-clause-sends
@@ -62,3 +65,20 @@ returns-clause-on g c =
           (sym (more f h ready.batches ready.stands ready.written k c.in-Ok.reaction.records stepped.own (stands ready.batches ready.stands)))
           (stands batches stood);
     }
+
+pub returns-in-Err-clause-falls : goal.returns-in-Err-clause-falls
+returns-in-Err-clause-falls g c = λ batches stood.
+    let laws = g.met.D.CrashDisk g.world.𝓛 g.world.𝓜 g.world.𝓡 ((λ s x. x), (λ x. x), (λ x. x), λ x. x) in
+    let h = c.args.host.now in
+    let ready = c.requires.ready in
+    subst (λ (r : Reaction). Falls g.D.Disk.face batches (with_batch batches r.records) c.step.new.self.journal.disk) (reacts g.D.Disk.face h ready.batches ready.stands ready.written c.args.tick c.args.input.now)
+    (record { leaves = (c.in-Err.ensures.adds (laws.tells h.journal.disk) batches stood).crash })
+
+pub returns-in_err-notes-clause-falls : goal.returns-in_err-notes-clause-falls
+returns-in_err-notes-clause-falls g c = λ batches stood.
+    let laws = g.met.D.CrashDisk g.world.𝓛 g.world.𝓜 g.world.𝓡 ((λ s x. x), (λ x. x), (λ x. x), λ x. x) in
+    let h = c.args.host.now in
+    let ready = c.requires.ready in
+    err_then c.from_residual.result
+    (subst (λ (r : Reaction). Falls g.D.Disk.face batches (with_batch batches r.records) c.step.new.self.journal.disk) (c.in-Ok.ensures.stepped.reaction ∙ reacts g.D.Disk.face h ready.batches ready.stands ready.written c.args.tick c.args.input.now)
+    (falls_whole g.D.Disk.face c.step.new.self batches (with_batch batches c.in-Ok.reaction.records) (c.in-Ok.ensures.stands (laws.tells h.journal.disk) batches stood)))

@@ -1,14 +1,17 @@
-use Rattle.std.proofs.Common.{◌≡◌, ◌+◌, ◌∷◌, drop, arith, ◌∙◌, sym, subst}
+use Rattle.std.proofs.Common.{inl, inr, ◌≡◌, ◌+◌, ◌∷◌, drop, arith, ◌∙◌, sym, subst}
 use Rattle.std.specs.Prelude.{Some, None}
 use Rattle.std.proofs.lemmas.Grind.{common_steps}
 use Rattle.std.proofs.lemmas.Result.{err_from_is_err_and}
 use Rattle.lks_base.specs.declared.plans.Plan.{Plan}
 use Rattle.lks_world.proofs.ServingLaws.{serves_then}
+use Rattle.lks_world.proofs.Stopped.{err_then, stops_then}
+use Rattle.lks_world.specs.Held.{HaveBatchesOrNext}
+use Rattle.lks_world.specs.Watched.{Stops}
 use Rattle.lks_law.specs.Questions.{Verdicts}
 use Rattle.lks_watch.proofs.Going.{watches_then}
 use Rattle.lks_watch.specs.Watching.{Watches, ears, watching}
 use Rattle.lks_world.specs.Counts.{ServesHonest}
-use Rattle.lks_world.specs.Follows.{Follows, Performs}
+use Rattle.lks_world.specs.Follows.{Follows, FollowsUpTo, IsUpTo, Performs}
 use Rattle.lks_world.specs.Worlds.{Seen}
 use Rattle.lockss.proofs.playing.perform_all.Goals as goal
 
@@ -33,6 +36,15 @@ loop-step-preserved g c = record {
       (subst (λ (p : Plan). Performs (g.J.EffortJudge.verdict c.loop-step.world.judge) p c.loop-step.world.history c.step-item.result c.perform.new.self.history) c.loop-step.invariant.plan c.in_ok-perform.ensures.performs.performs) in
       c.loop-step.invariant.follows after
       (subst (λ ss. Follows verdict c.args.world.now.plan c.loop-step.world.history ss after) (sym first) (c.perform.new.self.history, performs, rest));
+  up_to = λ after next rest.
+      let verdict = g.J.EffortJudge.verdict c.args.world.now.judge in
+      let left = drop c.loop-step.step-index c.args.steps.now in
+      let first : left ≡ c.step-item.result ∷ drop (c.loop-step.step-index + 1) c.args.steps.now = grind (arith, common_steps) in
+      let performs =
+      subst (λ (v : Verdicts). Performs v c.args.world.now.plan c.loop-step.world.history c.step-item.result c.perform.new.self.history) c.loop-step.invariant.watches.verdict
+      (subst (λ (p : Plan). Performs (g.J.EffortJudge.verdict c.loop-step.world.judge) p c.loop-step.world.history c.step-item.result c.perform.new.self.history) c.loop-step.invariant.plan c.in_ok-perform.ensures.performs.performs) in
+      c.loop-step.invariant.up_to after next
+      (subst (λ ss. FollowsUpTo verdict c.args.world.now.plan c.loop-step.world.history ss after next) (sym first) (inr (c.perform.new.self.history, performs, rest)));
   watches =
       let e = ears g.J.EffortJudge.heard g.J.EffortJudge.verdict g.B.Bell.rung g.B.Bell.limit in
       let plan = c.args.world.now.plan in
@@ -43,3 +55,27 @@ loop-step-preserved g c = record {
       serves_then g.D.Disk.face c.args.world.now.plan.peers c.args.world.now.disks c.loop-step.world.disks c.perform.new.self.disks None c.loop-step.invariant.serves
       (subst (λ (p : Plan). ServesHonest g.D.Disk.face p.peers c.loop-step.world.disks c.perform.new.self.disks None) c.loop-step.invariant.plan c.in_ok-perform.ensures.disks);
 }
+
+pub returns-in_err-perform-clause-off : goal.returns-in_err-perform-clause-off
+returns-in_err-perform-clause-off g c =
+    let e = ears g.J.EffortJudge.heard g.J.EffortJudge.verdict g.B.Bell.rung g.B.Bell.limit in
+    let plan = c.args.world.now.plan in
+    let seen_of = λ (w : Seen g.row.D.Denot g.row.J.Denot g.row.B.Denot). watching e w.judge w.bells in
+    let verdict = g.J.EffortJudge.verdict c.args.world.now.judge in
+    let was = c.loop-step.world in
+    let after = c.perform.new.self.history in
+    let had = c.in_err-perform.ensures.stops in
+    let next = had.next in
+    let first : drop c.loop-step.step-index c.args.steps.now ≡ c.step-item.result ∷ drop (c.loop-step.step-index + 1) c.args.steps.now = grind (arith, common_steps) in
+    let up_to =
+    subst (λ (v : Verdicts). IsUpTo (Performs v plan was.history c.step-item.result) after next) c.loop-step.invariant.watches.verdict
+    (subst (λ (p : Plan). IsUpTo (Performs (g.J.EffortJudge.verdict was.judge) p was.history c.step-item.result) after next) c.loop-step.invariant.plan had.up_to) in
+    err_then c.from_residual.result
+    (record {
+      next = next;
+      follows = c.loop-step.invariant.up_to after next (subst (λ ss. FollowsUpTo verdict plan was.history ss after next) (sym first) (inl up_to));
+      stops =
+          stops_then plan c.args.world.now.history was.history after next (seen_of c.args.world.now) (seen_of was) (seen_of c.perform.new.self) c.loop-step.invariant.watches
+          (subst (λ (p : Plan). Stops p was.history after next (seen_of was) (seen_of c.perform.new.self)) c.loop-step.invariant.plan had.stops);
+      left = subst (λ (p : Plan). HaveBatchesOrNext g.D.Disk.face p after next c.perform.new.self.disks) c.loop-step.invariant.plan had.left;
+    })

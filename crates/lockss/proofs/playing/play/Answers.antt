@@ -1,10 +1,11 @@
-use Rattle.std.proofs.Common.{◌∙◌, ap, sym, subst, arith, length}
+use Rattle.std.proofs.Common.{◌≡◌, ◌∙◌, ap, sym, subst, arith, length}
 use Rattle.std.specs.Prelude.{Some}
 use Rattle.lks_base.proofs.PlanBounds.{few_peers}
 use Rattle.lks_watch.specs.Watching.{ears}
-use Rattle.lks_world.specs.Held.{AreFresh}
-use Rattle.lockss.proofs.Played.{played_as, served_then}
-use Rattle.lockss.specs.Playing.{devices}
+use Rattle.lks_world.specs.Counts.{ServesHonest}
+use Rattle.lks_world.specs.Held.{AreFresh, HaveBegunUpTo}
+use Rattle.lockss.proofs.Played.{none_made, played_as}
+use Rattle.lockss.specs.Handed.{devices, senses}
 use Rattle.lockss.proofs.playing.play.Goals as goal
 
 pub new-requires-4-clause-enough : goal.new-requires-4-clause-enough
@@ -18,15 +19,36 @@ new-requires-4-clause-fresh g c = λ κs lives. subst (AreFresh g.D.Disk.face) (
 
 pub returns-clause-plays : goal.returns-clause-plays
 returns-clause-plays g c =
-    let e = ears g.J.EffortJudge.heard g.J.EffortJudge.verdict g.B.Bell.rung g.B.Bell.limit in
+    let e = senses g.D.Disk.face (ears g.J.EffortJudge.heard g.J.EffortJudge.verdict g.B.Bell.rung g.B.Bell.limit) g.K.Sink.taken g.K.Sink.faults in
     let before = devices c.args.disks.now.items c.args.sink.now c.args.judge.now c.args.bells.now.items in
-    let after = devices c.hand_back-2.new.disks.items c.play_in-status.new.sink c.hand_back-2.new.judge c.hand_back-2.new.bells.items in
-    played_as g.D.Disk.face e g.K.Sink.taken c.args.tale c.args.script before after c.in-Ok-new.world c.play_in-status.new.world c.as_slice.result.now c.in-Some.asked c.replace-hung.result.items
-    c.requires.good c.requires.given (sym c.take.ensures.value ∙ c.in-Some.is) (ap (λ v. v.items) c.replace-hung.ensures.value) c.in-Ok-new.ensures.begins c.as_slice.ensures c.play_in-status.ensures.plan
-    (c.hand_back-2.ensures.disks ∙ c.into_parts.ensures.disks) (c.hand_back-2.ensures.judge ∙ ap Some c.into_parts.ensures.watched.0) (c.hand_back-2.ensures.bells ∙ c.into_parts.ensures.watched.1) c.into_parts.ensures.holds
-    c.play_in-status.result c.play_in-status.ensures.plays
+    let after = devices c.hand_back-2.new.disks.items c.play_in-played.new.sink c.hand_back-2.new.judge c.hand_back-2.new.bells.items in
+    played_as e c.args.command c.args.script before after c.in-Ok-new.world c.play_in-played.new.world c.as_slice.result.now c.in-Some.asked c.replace-hung.result.items c.replace-handed.result.items
+    c.requires.good c.requires.given (sym c.take.ensures.value ∙ c.in-Some.is) (ap (λ v. v.items) c.replace-hung.ensures.value) (ap (λ v. v.items) c.replace-handed.ensures.value) c.in-Ok-new.ensures.begins c.as_slice.ensures c.play_in-played.ensures.plan
+    (c.hand_back-2.ensures.disks ∙ c.into_parts.ensures.disks) (c.hand_back-2.ensures.judge ∙ ap Some c.into_parts.ensures.watched.0) (c.hand_back-2.ensures.bells ∙ c.into_parts.ensures.watched.1)
+    c.in-Ok-new.ensures.disks c.into_parts.ensures.happened c.into_parts.ensures.holds c.play_in-played.result c.play_in-played.ensures.plays
 
-pub returns-clause-served : goal.returns-clause-served
-returns-clause-served g c =
-    served_then g.D.Disk.face c.args.script c.replace-handed.result.items c.args.disks.now.items c.hand_back-2.new.disks.items c.in-Ok-new.world c.play_in-status.new.world c.play_in-status.result
-    c.in-Ok-new.ensures.begins.plan (ap (λ v. v.items) c.replace-handed.ensures.value) (c.hand_back-2.ensures.disks ∙ c.into_parts.ensures.disks) c.in-Ok-new.ensures.disks c.play_in-status.ensures.serves
+pub returns-in_default-clause-plays : goal.returns-in_default-clause-plays
+returns-in_default-clause-plays g c =
+    none_made (senses g.D.Disk.face (ears g.J.EffortJudge.heard g.J.EffortJudge.verdict g.B.Bell.rung g.B.Bell.limit) g.K.Sink.taken g.K.Sink.faults) c.args.command c.args.script
+    (devices c.args.disks.now.items c.args.sink.now c.args.judge.now c.args.bells.now.items) c.requires.good c.requires.given
+
+pub returns-in-Err-clause-plays : goal.returns-in-Err-clause-plays
+returns-in-Err-clause-plays g c =
+    let f = g.D.Disk.face in
+    let plan = c.args.script.plan in
+    let disks = c.args.disks.now.items in
+    let parts = c.in-Err.parts.disks.items in
+    let refused = c.in-Err.ensures.refused in
+    let handed = ap (λ v. v.items) c.replace-handed.ensures.value in
+    let judge : c.hand_back.new.judge ≡ c.args.judge.now = c.hand_back.ensures.judge ∙ ap Some refused.2 ∙ sym (sym c.take.ensures.value ∙ c.in-Some.is) in
+    let bells : c.hand_back.new.bells.items ≡ c.args.bells.now.items = c.hand_back.ensures.bells ∙ refused.3 ∙ ap (λ v. v.items) c.replace-hung.ensures.value in
+    record {
+      good = c.requires.good;
+      served =
+          subst (λ ds. ServesHonest f plan.peers disks ds (Some c.in-Err.fault)) (sym c.hand_back.ensures.disks)
+          (subst (λ ds. ServesHonest f plan.peers ds parts (Some c.in-Err.fault)) handed c.in-Err.ensures.disks);
+      begun =
+          subst (HaveBegunUpTo f plan disks) (sym c.hand_back.ensures.disks)
+          (subst (λ ds. HaveBegunUpTo f plan ds parts) handed c.in-Err.ensures.made);
+      same = λ i. devices c.hand_back.new.disks.items c.args.sink.now (judge i) (bells i);
+    }

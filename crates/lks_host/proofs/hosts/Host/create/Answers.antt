@@ -1,6 +1,7 @@
 use Rattle.std.proofs.Common.{◌∙◌, ap, refl, sym}
 use Rattle.std.specs.Prelude.{Some}
 use Rattle.lks_host.proofs.Beginning.{begun_fitting, of_begun, option_at}
+use Rattle.lks_host.proofs.Fronts.{front_begun}
 use Rattle.lks_host.proofs.Standing.{stands_begun}
 use Rattle.lks_host.specs.declared.faults.HostFault.TheVariants.{Memory}
 use Rattle.lks_law.specs.World.{standing_of}
@@ -22,3 +23,9 @@ returns-clause-stands g c = λ told p there.
     (option_at (λ q. (standing_of plan q).journal) _ p begun.1.items there list)
     (begun_fitting plan c.args.id p (standing_of plan p).journal c.requires.good there refl p there)
     holds.count holds.disk holds.read)
+
+pub returns-clause-front : goal.returns-clause-front
+returns-clause-front g c = λ told settled p there.
+    let plan = c.args.plan.now in
+    front_begun g.D.Disk.face c.args.disk Memory (λ begun. begun.1.items) (standing_of plan p).journal _ c.begin_peer.result c.found.result settled c.found.ensures.unmade c.begin_peer.ensures.list
+    (λ begun list. option_at (λ q. (standing_of plan q).journal) _ p begun.1.items there list) (c.found.ensures.front told settled)

@@ -1,14 +1,20 @@
 use Rattle.std.proofs.Common.{◌∙◌, ◌++◌, ap, arith, length, subst}
-use Rattle.std.specs.Prelude.{Some, None, IfSome, reverse}
+use Rattle.std.specs.Prelude.{Some, None, Ok, Err, reverse}
 use Rattle.std.proofs.lemmas.List.{length-map}
 use Rattle.lks_world.proofs.CutLaws.{if_some}
 use Rattle.lks_world.proofs.FuseLaws.{same_fuses}
 use Rattle.lks_world.proofs.SeatLaws.{fuses_joined}
-use Rattle.lks_world.specs.Counts.{BurnsInStep, ServesHonest}
+use Rattle.lks_world.specs.Counts.{ServesHonest}
 use Rattle.lks_world.specs.Cuts.{step_cut}
 use Rattle.lks_world.specs.States.{events_in}
 use Rattle.lks_world.specs.Seats.{disks_at, id_at}
 use Rattle.lks_world.specs.Worlds.{Seen}
+use Rattle.lks_world.proofs.SeatLaws.{disks_left}
+use Rattle.lks_watch.specs.Watching.{ears}
+use Rattle.lks_world.specs.Stopping.{StopsIn}
+use Rattle.lks_world.proofs.PowerEnds.{honest_power}
+use Rattle.lks_world.specs.Worlds.{SpendsPower, seen_in}
+use Rattle.lks_world.specs.declared.worlds.World.TheInside.{Inside}
 use Rattle.lks_world.proofs.worlds.World.perform.Goals as goal
 
 pub returns-in-Ok-clause-disks : goal.returns-in-Ok-clause-disks
@@ -22,15 +28,6 @@ returns-in-Err-clause-disks g c =
     let a = c.self.inside in
     subst (λ (v : Seen g.row.D.Denot g.row.J.Denot g.row.B.Denot). ServesHonest g.D.Disk.face v.plan.peers v.disks (disks_at c.do_step.new.state.seats.items ++ reverse a.rest.items) (Some c.in-Err.fault)) c.self.view_is
     (c.in-Err.ensures.counted.serves a.plan.peers (reverse a.rest.items) c.self.invariant.seats)
-
-pub returns-in-Ok-clause-burns : goal.returns-in-Ok-clause-burns
-returns-in-Ok-clause-burns g c = λ calls choice given is.
-    let f = g.D.Disk.face in
-    let a = c.self.inside in
-    let disks = disks_at c.do_step.new.state.seats.items ++ reverse a.rest.items in
-    subst (λ (v : Seen g.row.D.Denot g.row.J.Denot g.row.B.Denot). IfSome (step_cut (g.J.EffortJudge.verdict v.judge) v.plan v.history given) (BurnsInStep f v.plan v.history calls choice v.disks disks)) c.self.view_is
-    (if_some (step_cut (g.J.EffortJudge.verdict a.watch.judge) a.plan (events_in a.state) given) (λ s burns short room. burns short room a.plan.peers (reverse a.rest.items) c.self.invariant.seats)
-    (c.in-Ok.ensures.burns calls choice given is))
 
 pub invariant_of-self : goal.invariant_of-self
 invariant_of-self g c =
@@ -69,3 +66,44 @@ invariant_of-self-in-Err g c =
       unfused = same_fuses f (disks_at before ++ reverse a.rest.items) (disks_at after ++ reverse a.rest.items) (fuses_joined f (disks_at before) (disks_at after) (reverse a.rest.items) did.counted.fuses) kept.unfused;
       room = omega (arith, kept.room, ap length did.counted.ids, length-map before id_at, length-map after id_at);
     }
+
+pub returns-in-Err-clause-stops : goal.returns-in-Err-clause-stops
+returns-in-Err-clause-stops g c =
+    let f = g.D.Disk.face in
+    let e = (ears g.J.EffortJudge.heard g.J.EffortJudge.verdict g.B.Bell.rung g.B.Bell.limit) in
+    let a = c.self.inside in
+    let t = c.do_step.new.state in
+    let w = c.do_step.new.watch in
+    let disks = disks_at t.seats.items ++ reverse a.rest.items in
+    let had = c.in-Err.ensures.stops in
+    let new : Seen g.row.D.Denot g.row.J.Denot g.row.B.Denot = record { plan = a.plan; history = events_in t; stopped = Some c.in-Err.fault; disks = disks; judge = w.judge; bells = w.desk } in
+    let left = disks_left f a.plan had.next t (reverse a.rest.items) had.left (c.in-Err.ensures.counted.ids ∙ c.self.invariant.seats) in
+    subst (λ (v : Seen g.row.D.Denot g.row.J.Denot g.row.B.Denot). StopsIn f e c.args.step.now v new) c.self.view_is (record { next = had.next; up_to = had.up_to; stops = had.stops; left = left })
+
+pub returns-in-Ok-clause-power : goal.returns-in-Ok-clause-power
+returns-in-Ok-clause-power g c =
+    let f = g.D.Disk.face in
+    let a = c.self.inside in
+    let t = c.do_step.new.state in
+    let b : Inside g.row.D.Denot g.row.J.Denot g.row.B.Denot = record { alloc = a.alloc; plan = a.plan; state = t; watch = c.do_step.new.watch; rest = a.rest; stopped = a.stopped } in
+    let did = c.in-Ok.ensures in
+    subst (λ (v : Seen g.row.D.Denot g.row.J.Denot g.row.B.Denot). SpendsPower f g.J.EffortJudge.verdict c.args.step.now v (seen_in b) (Ok (tt {0}))) c.self.view_is
+    (record {
+      counted = honest_power f a.plan (events_in a.state) (events_in t) None a.plan.peers a.state.seats.items t.seats.items (reverse a.rest.items) c.self.invariant.seats did.counted.ids did.power;
+      burned = λ calls choice given is.
+          if_some (step_cut (g.J.EffortJudge.verdict a.watch.judge) a.plan (events_in a.state) given) (λ s burns short room. burns short room a.plan.peers (reverse a.rest.items) c.self.invariant.seats)
+          (did.burns calls choice given is);
+    })
+
+pub returns-in-Err-clause-power : goal.returns-in-Err-clause-power
+returns-in-Err-clause-power g c =
+    let f = g.D.Disk.face in
+    let a = c.self.inside in
+    let t = c.do_step.new.state in
+    let b : Inside g.row.D.Denot g.row.J.Denot g.row.B.Denot = record { alloc = a.alloc; plan = a.plan; state = t; watch = c.do_step.new.watch; rest = a.rest; stopped = Some c.in-Err.fault } in
+    let did = c.in-Err.ensures in
+    subst (λ (v : Seen g.row.D.Denot g.row.J.Denot g.row.B.Denot). SpendsPower {T = Unit {0}} f g.J.EffortJudge.verdict c.args.step.now v (seen_in b) (Err c.in-Err.fault)) c.self.view_is
+    (record {
+      counted = honest_power f a.plan (events_in a.state) (events_in t) (Some c.in-Err.fault) a.plan.peers a.state.seats.items t.seats.items (reverse a.rest.items) c.self.invariant.seats did.counted.ids did.power;
+      burned = λ calls choice given is. tt;
+    })
