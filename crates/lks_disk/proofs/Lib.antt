@@ -1,5 +1,6 @@
 mod Counting
 mod Garbled
 mod Images
+mod Passing
 pub mod Runs
 pub mod TornWrites

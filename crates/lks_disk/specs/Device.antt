@@ -1,5 +1,5 @@
 -- What the calls of a disk do to its bytes, and what a crash may do between two syncs.
-use Rattle.std.specs.Prelude.{◌≡◌, ◌⊎◌, ℕ, Bool, true, false, ◌+◌, ◌-◌, ◌≤◌, max, min, List, ◌++◌, length, take, drop, Result, Ok, Err, OnOk, IsErrOf}
+use Rattle.std.specs.Prelude.{◌≡◌, ◌⊎◌, ℕ, zero, suc, Bool, true, false, ◌+◌, ◌-◌, ◌≤◌, max, min, List, ◌++◌, length, take, drop, Result, Ok, Err, OnOk, IsErrOf}
 use Rattle.lks_disk.specs.Counts.{Rose, raised}
 use Rattle.lks_disk.specs.declared.disks.DiskFail.{DiskFail}
 use Rattle.lks_disk.specs.declared.disks.DiskFail.TheVariants.{Failed, Cut, Memory}
@@ -99,6 +99,11 @@ pub record Fused {T : Type 0} (old new : FuseTold) (result : Result T DiskFail) 
   pub no_burn : new.burned ≡ old.burned → new.burns ≡ old.burns
   pub unburned : OnOk result (new.burns ≡ old.burns)
   pub unset : old.set ≡ false → new.burns ≡ old.burns
+
+-- so many writes and syncs one after another, each of which was answered `Ok`
+abbrev pub Passed : ℕ → FuseTold → FuseTold → Type 0
+Passed zero old new = new ≡ old
+Passed (suc n) old new = (mid : FuseTold) × Fused {T = Unit {0}} old mid (Ok tt) × Passed n mid new
 
 -- a call that is no write and no sync leaves the fuse, and is cut off exactly where it has burned
 pub record SameFuse {T : Type 0} (old new : FuseTold) (result : Result T DiskFail) : Type 0 where

@@ -9,8 +9,10 @@ mod calls;
 mod contents;
 mod controls;
 mod disks;
+mod laws;
 mod memory;
 mod ranges;
 
 pub use disks::{CrashDisk, Disk, DiskFail};
+pub use laws::a_fuse_burns_behind_its_calls;
 pub use memory::MemDisk;

@@ -1,4 +1,5 @@
 pub mod Batches
+pub mod Behind
 pub mod Between
 pub mod Breaking
 pub mod Colliding
@@ -34,6 +35,7 @@ pub mod RunningPolls
 pub mod Samples
 pub mod Taken
 pub mod Scans
+pub mod Sorting
 pub mod Standing
 pub mod Starts
 pub mod StateRows

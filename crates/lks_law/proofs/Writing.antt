@@ -368,7 +368,7 @@ held_are au (copy ∷ copies) = first (eqb copy.au au.id) (held_are au copies)
     first true rest = rest
     first false rest = rest
 
-deposits_are : (aus : List AuPlan) (copies : List Holding) → list_all is_deposit (deposits aus copies) ≡ true
+pub deposits_are : (aus : List AuPlan) (copies : List Holding) → list_all is_deposit (deposits aus copies) ≡ true
 unfolding deposits
 deposits_are [] copies = refl
 deposits_are (au ∷ aus) copies =

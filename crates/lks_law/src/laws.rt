@@ -16,11 +16,12 @@ ghost use Rattle.lks_base.specs.declared.reactions.Input.{Input};
 ghost use Rattle.lks_base.specs.declared.records.Record.{Record};
 ghost use Rattle.lks_law.specs.Alarms.{alarms_by, alarms};
 ghost use Rattle.lks_law.specs.Batches.{together, journal_at, batches_at};
+ghost use Rattle.lks_law.specs.Behind.{latest, StandsBehind, StandBehind, AreHeardBehind};
 ghost use Rattle.lks_law.specs.Broken.{with_lax_numbers, with_one_vote, with_one_voter, with_later_votes, with_strange_vote, with_strange_bytes, with_no_envelope};
 ghost use Rattle.lks_law.specs.Circles.{Samples};
 ghost use Rattle.lks_law.specs.Due.{next_to_finish, ready_at, turns_at};
 ghost use Rattle.lks_law.specs.Entries.{entries, is_inner};
-ghost use Rattle.lks_law.specs.Facts.{IsHeard, IsJournalOf, HaveJournals, HasPolls};
+ghost use Rattle.lks_law.specs.Facts.{IsHeard, AddsFor, IsJournalOf, HaveJournals, HasPolls};
 ghost use Rattle.lks_law.specs.Fitting.{Fits, AreFitting, IsSound, has_room, most_numbered};
 ghost use Rattle.lks_law.specs.Histories.{MayHappen, IsHistory};
 ghost use Rattle.lks_law.specs.Journal.{Opening, opening_of, openings, opened_numbers, is_running};
@@ -169,4 +170,15 @@ pub fn every_journal_fits()
 pub fn every_journal_is_written()
     ensures made { (own : Station) (aus : List AuPlan) (copies : List Holding) (tick : ℕ) (journal : List Record) → IsJournalOf own (deposits aus copies) tick journal → AreWritten [] journal }
     ensures kept { (plan : Plan) (history : List Event) (place : ℕ) (s : Standing) → slice_get (world plan history).peers place ≡ Some s → AreWritten [] s.journal }
+{}
+
+/// What the rules add for anything, at a tick that isn't below those of the journal, stands behind the journal: the input that
+/// it names adds the same at the tick that it names. So each journal is its deposits and batches that stand behind one another,
+/// and whatever is such, with messages in their limits, is a journal.
+pub fn whatever_is_added_stands()
+    ensures added { (own : Station) (journal : List Record) (tick : ℕ) (i : Input) (added : List Record) → latest journal ≤ tick → AddsFor own journal (record { tick = tick; input = i }) added → added ≢ [] → StandsBehind own journal added }
+    ensures sorted { (own : Station) (aus : List AuPlan) (copies : List Holding) (tick : ℕ) (journal : List Record) → IsJournalOf own (deposits aus copies) tick journal
+        → (batches : List (List Record)) × (journal ≡ deposits aus copies ++ together batches) × StandBehind own (deposits aus copies) batches }
+    ensures journal { (own : Station) (begun : List Record) (batches : List (List Record)) → StandBehind own begun batches → AreHeardBehind begun batches
+        → IsJournalOf own begun (latest (begun ++ together batches)) (begun ++ together batches) }
 {}

@@ -15,5 +15,5 @@ pub use laws::{
     every_poll_keeps_its_state, every_replacement_has_evidence, every_replacement_restores,
     every_state_stands_for_its_journal, every_tally_has_its_quorum,
     every_turn_is_of_a_running_poll, rules_can_be_broken, whatever_is_added_fits,
-    whatever_is_due_may_happen,
+    whatever_is_added_stands, whatever_is_due_may_happen,
 };

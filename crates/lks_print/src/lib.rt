@@ -8,4 +8,5 @@ mod scripts;
 mod steps;
 
 pub use laws::{every_drill_is_said, every_script_read_is_said, every_step_reads_back};
+pub use plans::put_plan;
 pub use scripts::print_script;

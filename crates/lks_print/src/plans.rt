@@ -195,9 +195,9 @@ fn put_all_belongings(
     Ok(())
 }
 
-/// The lines before the first step.
+/// The lines of a plan, which stand before the first step. Without memory some of them may stand behind `out`.
 #[tactic(auto, unfolding(crate::specs::Scripts::plan_text, crate::specs::Steps::line_of))]
-pub(crate) fn put_plan(alloc: Global, out: &mut Vec<u8>, plan: &Plan) -> Result<(), AllocError>
+pub fn put_plan(alloc: Global, out: &mut Vec<u8>, plan: &Plan) -> Result<(), AllocError>
     ensures { OnOk result (out.new.items ≡ out.old.items ++ plan_text plan.now) }
 {
     put_text(out, b"lockss 1\n")?;

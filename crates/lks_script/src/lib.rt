@@ -10,6 +10,6 @@ mod step_rules;
 mod steps;
 
 pub use faults::ScriptFault;
-pub use reading::read_script;
+pub use reading::{bad_line, first_line, is_idle, read_script};
 pub use step_lines::read_step;
 pub use steps::{CutStep, MOST_CUT_CALLS, MOST_POWER_FAILURES, Script, Step};

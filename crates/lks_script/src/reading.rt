@@ -21,7 +21,7 @@ fn line_end(bytes: &[u8]) -> Option<usize>
 
 /// The first line without its line feed, and the bytes behind that.
 #[tactic(auto, using(crate::proofs::Lines::cut_at, crate::proofs::Lines::uncut))]
-fn first_line(bytes: &[u8]) -> Option<(&[u8], &[u8])>
+pub fn first_line(bytes: &[u8]) -> Option<(&[u8], &[u8])>
     ensures some { IfSome result (λ r. (parts 10 bytes.now ≡ r.0.now ∷ parts 10 r.1.now)) }
     ensures less { IfSome result (λ r. length r.1.now < length bytes.now) }
     ensures none { IfNone result (parts 10 bytes.now ≡ bytes.now ∷ []) }
@@ -41,7 +41,7 @@ fn ascii(text: &[u8]) -> bool
 
 /// An empty line, or a comment in ASCII.
 #[tactic(auto, unfolding(crate::specs::Grammar::means_nothing))]
-fn is_idle(line: &[u8]) -> bool
+pub fn is_idle(line: &[u8]) -> bool
     ensures { result ≡ means_nothing line.now }
 {
     match line {
@@ -61,8 +61,9 @@ fn extend(alloc: Global, draft: Draft, line: &[u8]) -> Result<Draft, Stop>
     read_line(alloc, draft, &words)
 }
 
+/// A bad line of this number, or of the last one that has a place.
 #[tactic(auto, unfolding(crate::specs::Grammar::line_number))]
-fn bad_line(line: u64) -> ScriptFault
+pub fn bad_line(line: u64) -> ScriptFault
     ensures { result ≡ ScriptFault.BadLine (line_number line) }
 {
     ScriptFault::BadLine {

@@ -26,6 +26,7 @@ use Rattle.lks_world.specs.Begun.{HasBegun, HaveBegun, HasBegunAs, IsSeated, IsS
 use Rattle.lks_world.specs.Counts.{ServesHonest}
 use Rattle.lks_world.specs.Held.{IsFresh, AreFresh}
 use Rattle.lks_world.specs.Hosts.{peer_in, peers_of, blamed}
+use Rattle.lks_world.specs.Powers.{power_of}
 use Rattle.lks_world.specs.Seats.{host_at, hosts_of, disk_at, disks_at, id_at, ids_at, id_for, AreSeats}
 use Rattle.lks_world.specs.declared.faults.WorldFault.{WorldFault}
 use Rattle.lks_world.specs.declared.faults.WorldFault.TheVariants.{Disk}
@@ -73,9 +74,9 @@ begins f pool plan (Some p) host made stands =
 
 -- One seat more.
 
-same_fuses : {D : Type 0} (f : Face D) (seats : List (Seat D)) (d e : D) (rest : List D) → f.fused e ≡ f.fused d → map f.fused (disks_at seats ++ e ∷ rest) ≡ map f.fused (disks_at seats ++ d ∷ rest)
-same_fuses f seats d e rest same =
-    map-append f.fused (disks_at seats) (e ∷ rest) ∙ ap (λ b. map f.fused (disks_at seats) ++ b ∷ map f.fused rest) same ∙ sym (map-append f.fused (disks_at seats) (d ∷ rest))
+same_power : {D : Type 0} (f : Face D) (seats : List (Seat D)) (d e : D) (rest : List D) → power_of f e ≡ power_of f d → map (power_of f) (disks_at seats ++ e ∷ rest) ≡ map (power_of f) (disks_at seats ++ d ∷ rest)
+same_power f seats d e rest same =
+    map-append (power_of f) (disks_at seats) (e ∷ rest) ∙ ap (λ p. map (power_of f) (disks_at seats) ++ p ∷ map (power_of f) rest) same ∙ sym (map-append (power_of f) (disks_at seats) (d ∷ rest))
 
 -- a disk was taken from the list, and another one stands in its place: on a seat, or back in the list
 module _ {D : Type 0} (f : Face D) (p : PeerPlan) (seats : List (Seat D)) (disks left : List D) (d e : D) (fault : Option WorldFault) (is : disks ≡ left ++ d ∷ []) (served : IsServed f p d e fault) where
@@ -86,10 +87,11 @@ module _ {D : Type 0} (f : Face D) (p : PeerPlan) (seats : List (Seat D)) (disks
       (subst (λ ds. ServesHonest f (ps ++ p ∷ qs) (disks_at seats ++ d ∷ reverse left) ds fault) (sym now)
       (serves_next f ps qs p seats d e (reverse left) fault are served))
 
-  pub seat_fuses : (after : List D) → after ≡ disks_at seats ++ e ∷ reverse left → map f.fused after ≡ map f.fused (disks_at seats ++ reverse disks)
-  seat_fuses after now =
-      ap (map f.fused) now ∙ same_fuses f seats d e (reverse left) served.fuse
-      ∙ ap (λ ds. map f.fused (disks_at seats ++ ds)) (sym (last_first disks left d is))
+
+pub seat_power : {D : Type 0} (f : Face D) (seats : List (Seat D)) (disks left : List D) (d e : D) → disks ≡ left ++ d ∷ [] → power_of f e ≡ power_of f d → (after : List D) → after ≡ disks_at seats ++ e ∷ reverse left
+    → map (power_of f) after ≡ map (power_of f) (disks_at seats ++ reverse disks)
+seat_power f seats disks left d e is same after now =
+    ap (map (power_of f)) now ∙ same_power f seats d e (reverse left) same ∙ ap (λ ds. map (power_of f) (disks_at seats ++ ds)) (sym (last_first disks left d is))
 
 pub on_seat : {D : Type 0} (seats after : List (Seat D)) (s : Seat D) (left : List D) → after ≡ seats ++ s ∷ [] → disks_at after ++ reverse left ≡ disks_at seats ++ disk_at s ∷ reverse left
 on_seat {D = D} seats after s left more = ap (λ (ss : List (Seat D)). disks_at ss ++ reverse left) more ∙ ap (λ ds. ds ++ reverse left) (map-append disk_at seats (s ∷ [])) ∙ append_assoc (disks_at seats) (disk_at s ∷ []) (reverse left)
@@ -107,13 +109,13 @@ pub record AreMade {D : Type 0} (f : Face D) (pool : List ℕ) (plan : Plan) (fi
   pub fresh : AreFresh f (reverse disks)
   pub taken : (xs : List D) × (length xs ≡ length seats) × (reverse first ≡ xs ++ reverse disks)
   pub serves : ServesHonest f plan.peers (reverse first) (disks_at seats ++ reverse disks) None
-  pub fuses : map f.fused (disks_at seats ++ reverse disks) ≡ map f.fused (reverse first)
+  pub power : map (power_of f) (disks_at seats ++ reverse disks) ≡ map (power_of f) (reverse first)
 
 module _ {D : Type 0} (f : Face D) (pool : List ℕ) (plan : Plan) where
   pub made_start : (disks : List D) (seats : List (Seat D)) → seats ≡ [] → AreFresh f (reverse disks) → AreMade f pool plan disks seats disks []
   made_start disks seats none fresh =
       subst (λ (ss : List (Seat D)). AreMade f pool plan disks ss disks []) (sym none)
-      (record { placed = refl; peers = refl; begun = λ place h at. absurd cc; fresh = fresh; taken = ([], refl, refl); serves = serves_none f plan.peers (reverse disks) None (λ id is. absurd cc); fuses = refl })
+      (record { placed = refl; peers = refl; begun = λ place h at. absurd cc; fresh = fresh; taken = ([], refl, refl); serves = serves_none f plan.peers (reverse disks) None (λ id is. absurd cc); power = refl })
 
   -- what one seat more is to the list of them
   record IsNext (p : PeerPlan) (s : Seat D) : Type 0 where
@@ -141,9 +143,9 @@ module _ {D : Type 0} (f : Face D) (pool : List ℕ) (plan : Plan) where
   pub made_more : (first : List D) (seats seats_after : List (Seat D)) (disks disks_after : List D) (p : PeerPlan) (done left after : List PeerPlan) → AreMade f pool plan first seats disks done
       → IsSeated f pool plan p seats seats_after → IsTaken disks disks_after → AreFresh f (reverse disks_after)
       → ((ps qs : List PeerPlan) → AreSeats ps seats → ServesHonest f (ps ++ p ∷ qs) (disks_at seats ++ reverse disks) (disks_at seats_after ++ reverse disks_after) None)
-      → map f.fused (disks_at seats_after ++ reverse disks_after) ≡ map f.fused (disks_at seats ++ reverse disks)
+      → map (power_of f) (disks_at seats_after ++ reverse disks_after) ≡ map (power_of f) (disks_at seats ++ reverse disks)
       → plan.peers ≡ done ++ p ∷ left → after ≡ done ++ p ∷ [] → AreMade f pool plan first seats_after disks_after after
-  made_more first seats seats_after disks disks_after p done left after made seated took fresh serves fuses all next =
+  made_more first seats seats_after disks disks_after p done left after made seated took fresh serves power all next =
       let s = seated.made in
       let is = comes_next p s seated.begun in
       let hosts : hosts_of seats_after ≡ hosts_of seats ++ hosts_of (s ∷ []) = ap hosts_of seated.more ∙ filter_map-append host_at seats (s ∷ []) in
@@ -163,7 +165,7 @@ module _ {D : Type 0} (f : Face D) (pool : List ℕ) (plan : Plan) where
         serves =
             serves_then f plan.peers (reverse first) (disks_at seats ++ reverse disks) (disks_at seats_after ++ reverse disks_after) None made.serves
             (subst (λ ps. ServesHonest f ps (disks_at seats ++ reverse disks) (disks_at seats_after ++ reverse disks_after) None) (sym all) (serves done left made.placed));
-        fuses = fuses ∙ made.fuses;
+        power = power ∙ made.power;
       })
 
 -- the peer at a place is the one that its number finds

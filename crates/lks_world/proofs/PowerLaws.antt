@@ -7,15 +7,18 @@ use Rattle.lks_base.specs.declared.events.Event.{Event}
 use Rattle.lks_base.specs.declared.events.Event.TheVariants as events
 use Rattle.lks_base.specs.declared.events.PeerStep.{PeerStep}
 use Rattle.lks_base.specs.declared.limits.TheConstants.{MOST_EVENTS}
+use Rattle.lks_base.specs.declared.plans.PeerPlan.{PeerPlan}
 use Rattle.lks_base.specs.declared.plans.Plan.{Plan}
 use Rattle.lks_disk.specs.Face.{Face}
 use Rattle.lks_law.specs.Due.{next_to_lose}
 use Rattle.lks_law.specs.World.{World, world, start, happens, happen_all}
 use Rattle.lks_message.specs.Spelling.{spelling}
 use Rattle.lks_saying.specs.Sayings.{Saying}
+use Rattle.lks_world.specs.Counts.{honest_ids}
+use Rattle.lks_world.specs.Disks.{honest_disks}
 use Rattle.lks_world.specs.Follows.{lost, spoken}
 use Rattle.lks_world.specs.Kept.{kept}
-use Rattle.lks_world.specs.Powers.{burns_by, cuts_by, burns_from, cuts_from, burns_in, cuts_in, HavePower, IsQuiet, raised_at, raised_each}
+use Rattle.lks_world.specs.Powers.{burns_by, cuts_by, burns_from, cuts_from, burns_in, cuts_in, HavePower, IsQuiet, Power, power_of, raised_at, raised_each}
 use Rattle.lks_world.specs.declared.faults.WorldFault.{WorldFault}
 
 -- Counts that rise.
@@ -197,3 +200,33 @@ module _ {D : Type 0} (f : Face D) (plan : Plan) (ids : List ℕ) where
             later = omega (arith, first.later, next.later);
             full = first.full;
           }
+
+-- What is told of the power of all disks is told of those of honest peers.
+
+honest_mapped : {D E : Type 0} (g : D → E) (peers : List PeerPlan) (disks : List D) → map g (honest_disks peers disks) ≡ honest_disks peers (map g disks)
+honest_mapped g [] disks = refl
+honest_mapped g (p ∷ ps) [] = refl
+honest_mapped {D = D} {E = E} g (p ∷ ps) (d ∷ ds) = by_peer p.corrupt (honest_mapped g ps ds)
+  where
+    by_peer : (b : Bool) → map g (honest_disks ps ds) ≡ honest_disks ps (map g ds) → map g (cond b (honest_disks ps ds) (d ∷ honest_disks ps ds)) ≡ cond b (honest_disks ps (map g ds)) (g d ∷ honest_disks ps (map g ds))
+    by_peer true rest = rest
+    by_peer false rest = ap (λ es. g d ∷ es) rest
+
+told_by_power : {D T : Type 0} (f : Face D) (g : D → T) (h : Power → T) → ((d : D) → g d ≡ h (power_of f d)) → (disks : List D) → map g disks ≡ map h (map (power_of f) disks)
+told_by_power f g h same [] = refl
+told_by_power f g h same (d ∷ ds) = λ i. same d i ∷ told_by_power f g h same ds i
+
+honest_told : {D T : Type 0} (f : Face D) (peers : List PeerPlan) (g : D → T) (h : Power → T) → ((d : D) → g d ≡ h (power_of f d)) → (disks now : List D) → map (power_of f) now ≡ map (power_of f) disks
+    → map g (honest_disks peers now) ≡ map g (honest_disks peers disks)
+honest_told {D = D} f peers g h told disks now same =
+    as_told now ∙ ap (λ ps. map h (honest_disks peers ps)) same ∙ sym (as_told disks)
+  where
+    as_told : (ds : List D) → map g (honest_disks peers ds) ≡ map h (honest_disks peers (map (power_of f) ds))
+    as_told ds = told_by_power f g h told (honest_disks peers ds) ∙ ap (map h) (honest_mapped (power_of f) peers ds)
+
+-- no power failed where all disks tell what they told
+pub power_none : {D : Type 0} (f : Face D) (plan : Plan) (disks now : List D) → map (power_of f) now ≡ map (power_of f) disks
+    → HavePower f plan [] [] None (honest_ids plan.peers) (honest_disks plan.peers disks) (honest_disks plan.peers now)
+power_none f plan disks now same =
+    power_quiet f plan (honest_ids plan.peers) [] [] (honest_disks plan.peers disks) (honest_disks plan.peers now) None (quiet_same plan [])
+    (honest_told f plan.peers f.burns (λ p. p.burns) (λ d. refl) disks now same) (honest_told f plan.peers f.cuts (λ p. p.cuts) (λ d. refl) disks now same)

@@ -1,5 +1,5 @@
 -- How often the power of peers fails in a history, and how often their disks say that it did.
-use Rattle.std.specs.Prelude.{◌≡◌, ◌≤◌, ◌⊎◌, ◌==◌, ℕ, if◌then◌else◌, Option, None, List, [], ◌∷◌, ◌++◌, length, map}
+use Rattle.std.specs.Prelude.{◌≡◌, ◌≤◌, ◌⊎◌, ◌==◌, ℕ, Bool, if◌then◌else◌, Option, None, List, [], ◌∷◌, ◌++◌, length, map}
 use Rattle.lks_base.specs.declared.events.Event.{Event}
 use Rattle.lks_base.specs.declared.events.Event.TheVariants.{Step, Cut, Tick, Lose, Forge, Crash}
 use Rattle.lks_base.specs.declared.limits.TheConstants.{MOST_EVENTS}
@@ -49,6 +49,15 @@ pub record IsQuiet (plan : Plan) (before after : List Event) : Type 0 where
   pub burns : burns_in plan after ≡ burns_in plan before
   pub cuts : cuts_in plan after ≡ cuts_in plan before
   pub later : length before ≤ length after
+
+-- what a disk tells of its power: whether a fuse is set, how often one burned, and how often the power was cut
+pub record Power : Type 0 where
+  pub fused : Bool
+  pub burns : ℕ
+  pub cuts : ℕ
+
+abbrev pub power_of : {D : Type 0} → Face D → D → Power
+power_of f disk = record { fused = f.fused disk; burns = f.burns disk; cuts = f.cuts disk }
 
 -- the counts of the peers of these numbers, once the count of one peer rose
 abbrev pub raised_at : ℕ → List ℕ → List ℕ → List ℕ

@@ -69,9 +69,14 @@ pub record PerformsIn {D J B : Type 0} (e : Ears J B) (s : Step) (old new : Seen
   pub performs : Performs (e.verdict old.judge) old.plan old.history s new.history
   pub watches : Watches old.plan old.history new.history (watching e old.judge old.bells) (watching e new.judge new.bells)
 
+-- the honest peers' disks counted the fuses that burned and the cuts of the power, while a world became this one
+abbrev pub CountsPower : {D J B : Type 0} → Face D → Seen D J B → Seen D J B → Option WorldFault → Type 0
+CountsPower f old new fault =
+    HavePower f old.plan old.history new.history fault (honest_ids old.plan.peers) (honest_disks old.plan.peers old.disks) (honest_disks old.plan.peers new.disks)
+
 -- What a step costs the honest peers of power: their disks counted the fuses that burned and the cuts of the power in the new
 -- events. Where it is a line that cuts a step off, the fuse was one of the line's calls and choice.
 pub record SpendsPower {D J B T : Type 0} (f : Face D) (verdict : J → Verdicts) (s : Step) (old new : Seen D J B) (result : Result T WorldFault) : Type 0 where
-  pub counted : HavePower f old.plan old.history new.history (fault_in result) (honest_ids old.plan.peers) (honest_disks old.plan.peers old.disks) (honest_disks old.plan.peers new.disks)
+  pub counted : CountsPower f old new (fault_in result)
   pub burned : (calls choice : ℕ) (given : CutStep) → s ≡ step.Cut calls choice given
       → OnOk result (IfSome (step_cut (verdict old.judge) old.plan old.history given) (BurnsInStep f old.plan old.history calls choice old.disks new.disks))

@@ -11,6 +11,7 @@ ghost use Rattle.lks_world.specs.Begun.{CanBegin, CanSeat, HasBegun, HasBegunAs,
 ghost use Rattle.lks_world.specs.Counts.{fault_in, ServesHonest};
 ghost use Rattle.lks_world.specs.Held.{IsFresh, AreFresh, HaveBegunUpTo};
 ghost use Rattle.lks_world.specs.Hosts.{peer_in, peers_of};
+ghost use Rattle.lks_world.specs.Powers.{power_of};
 ghost use Rattle.lks_world.specs.Seats.{AreSeats, disks_at, hosts_of};
 ghost use Rattle.lks_world.specs.States.{IsStateOf};
 
@@ -39,7 +40,7 @@ fn create_host<R: Wait, D: CrashDisk>(
     ensures peer { IfOk result (λ host. option_map (standing_of plan.now) (honest_peer id plan.now) ≡ Some (peer_in D.face host)) }
     ensures begun { IfOk result (λ host. HasBegun D.face pool.now host) }
     ensures front { (p : Planned) → honest_peer id plan.now ≡ Some p → OnErr result (HasFront D.face (map alone (standing_of plan.now p).journal) (disk_hosted result)) }
-    ensures fuse { D.face.fused (disk_hosted result) ≡ D.face.fused disk }
+    ensures power { power_of D.face (disk_hosted result) ≡ power_of D.face disk }
     ensures later { D.face.faults disk ≤ D.face.faults (disk_hosted result) }
     ensures cause { (k : ℕ) → IsErrOf (answer_of result) (WorldFault.Disk k) → (id ≡ k) × Rose (D.face.faults disk) (D.face.faults (disk_hosted result)) }
 {
@@ -64,6 +65,7 @@ fn make_seat<R: Wait, D: CrashDisk>(
     ensures begun { IfOk result (HasBegunAs D.face pool.now plan.now peer.now) }
     ensures front { IfErr result (λ e. (peer.now.corrupt ≡ false) × HasFront D.face (map alone (standing_of plan.now peer.now).journal) e.0) }
     ensures served { IsServed D.face peer.now disk (disk_seated result) (fault_seated result) }
+    ensures power { power_of D.face (disk_seated result) ≡ power_of D.face disk }
 {
     if peer.corrupt {
         return Ok(Seat::Idle(disk));
@@ -91,7 +93,7 @@ fn seat_next<R: Wait, D: CrashDisk + Drop>(
     ensures fresh { OnOk result (AreFresh D.face (reverse disks.new.items)) }
     ensures serves { (before after : List Planned) → AreSeats before seats.old.items →
         ServesHonest D.face (before ++ peer.now ∷ after) (disks_at seats.old.items ++ reverse disks.old.items) (disks_at seats.new.items ++ reverse disks.new.items) (fault_in result) }
-    ensures fuses { map D.face.fused (disks_at seats.new.items ++ reverse disks.new.items) ≡ map D.face.fused (disks_at seats.old.items ++ reverse disks.old.items) }
+    ensures power { map (power_of D.face) (disks_at seats.new.items ++ reverse disks.new.items) ≡ map (power_of D.face) (disks_at seats.old.items ++ reverse disks.old.items) }
     ensures rooms { HaveRoom disks.old disks.new seats.old seats.new result }
 {
     let Some(disk) = disks.pop() else {
@@ -125,7 +127,7 @@ fn seat_each<R: Wait, D: CrashDisk + Drop>(
     ensures begun { OnOk result (HaveBegun D.face pool.now (hosts_of seats.new.items)) }
     ensures stops { OnErr result (HaveBegunUpTo D.face plan.now (reverse disks.old.items) (disks_at seats.new.items ++ reverse disks.new.items)) }
     ensures serves { ServesHonest D.face plan.now.peers (reverse disks.old.items) (disks_at seats.new.items ++ reverse disks.new.items) (fault_in result) }
-    ensures fuses { map D.face.fused (disks_at seats.new.items ++ reverse disks.new.items) ≡ map D.face.fused (reverse disks.old.items) }
+    ensures power { map (power_of D.face) (disks_at seats.new.items ++ reverse disks.new.items) ≡ map (power_of D.face) (reverse disks.old.items) }
     ensures len { vec_len disks.new + vec_len seats.new ≤ vec_capacity disks.new }
 {
     for p in plan.peers.as_slice() {
@@ -149,7 +151,7 @@ pub fn begin<'a, R: Wait, D: CrashDisk + Drop>(
     ensures seats { IfOk result (λ state. AreSeats plan.now.peers state.seats.items) }
     ensures stops { OnErr result (HaveBegunUpTo D.face plan.now (reverse disks.old.items) (disks_after result disks.new.items)) }
     ensures serves { ServesHonest D.face plan.now.peers (reverse disks.old.items) (disks_after result disks.new.items) (fault_in result) }
-    ensures fuses { map D.face.fused (disks_after result disks.new.items) ≡ map D.face.fused (reverse disks.old.items) }
+    ensures power { map (power_of D.face) (disks_after result disks.new.items) ≡ map (power_of D.face) (reverse disks.old.items) }
     ensures room { IfOk result (λ state. vec_len disks.new + length state.seats.items ≤ vec_capacity disks.new) }
 {
     let mut seats = Vec::with_capacity(alloc, plan.peers.as_slice().len())?;

@@ -1,6 +1,6 @@
 //! A world as its callers see it: a plan, and the history of the events that it kept.
 
-ghost use Rattle.std.specs.Prelude.{◌≡◌, ◌≤◌, ◌++◌, [], ℕ, true, None, Some, IfOk, IfErr, IfSome, OnOk, OnErr, List, length};
+ghost use Rattle.std.specs.Prelude.{◌≡◌, ◌≤◌, ◌++◌, [], ℕ, true, None, Some, IfOk, IfErr, IfSome, OnOk, OnErr, List, length, map};
 ghost use Rattle.lks_base.specs.Checking.{plan_fault};
 ghost use Rattle.lks_base.specs.declared.events.Event.{Event};
 ghost use Rattle.lks_law.specs.Entries.{entries};
@@ -12,6 +12,7 @@ ghost use Rattle.lks_watch.specs.Watching.{ears, watching};
 ghost use Rattle.lks_world.specs.Counts.{fault_in, BurnsInStep, ServesHonest};
 ghost use Rattle.lks_world.specs.Cuts.{step_cut};
 ghost use Rattle.lks_world.specs.Held.{AreFresh, AreUnfused, HaveBatches, HaveBegunUpTo};
+ghost use Rattle.lks_world.specs.Powers.{power_of};
 ghost use Rattle.lks_world.specs.Stopping.{StopsIn};
 ghost use Rattle.lks_world.specs.Worlds.{Begins, PerformsIn, SpendsPower};
 ghost use Rattle.lks_world.specs.Watched.{Stops};
@@ -88,6 +89,7 @@ impl<'a, D: CrashDisk + Drop, J: EffortJudge, B: Bell> World<'a, D, J, B> {
         ensures refused { IfErr result (λ e. (e.0.history.items ≡ []) × AreUnfused D.face e.0.disks.items × (e.0.judge ≡ judge) × (e.0.bells.items ≡ bells.items)) }
         ensures disks { ServesHonest D.face plan.peers disks.items (disks_made result) (fault_made result) }
         ensures made { OnErr result (HaveBegunUpTo D.face plan disks.items (disks_made result)) }
+        ensures power { map (power_of D.face) (disks_made result) ≡ map (power_of D.face) disks.items }
     {
         turn_round(&mut disks);
         match begin(alloc, rt, pool, &plan, &mut disks) {

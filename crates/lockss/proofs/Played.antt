@@ -16,7 +16,10 @@ use Rattle.lks_script.specs.declared.steps.Script.{Script}
 use Rattle.lks_script.specs.declared.steps.Step.{Step}
 use Rattle.lks_watch.specs.Watching.{Ears}
 use Rattle.lks_world.proofs.ServingLaws.{serves_none, serves_then}
-use Rattle.lks_world.specs.Counts.{ServesHonest}
+use Rattle.lks_world.proofs.PowerLaws.{power_none, power_then}
+use Rattle.lks_world.specs.Counts.{ServesHonest, honest_ids}
+use Rattle.lks_world.specs.Disks.{honest_disks}
+use Rattle.lks_world.specs.Powers.{HavePower, power_of}
 use Rattle.lks_world.specs.Follows.{Follows, FollowsUpTo}
 use Rattle.lks_world.proofs.BegunUpTo.{none_up_to}
 use Rattle.lks_world.specs.Held.{HaveBatches, HaveBatchesOrNext}
@@ -25,7 +28,7 @@ use Rattle.lks_law.proofs.Happening.{no_events}
 use Rattle.lks_law.specs.World.{world}
 use Rattle.lks_world.specs.Watched.{asked_next}
 use Rattle.std.proofs.lemmas.List.{append-nil}
-use Rattle.lks_world.specs.Worlds.{Begins, Seen}
+use Rattle.lks_world.specs.Worlds.{Begins, CountsPower, Seen}
 use Rattle.lks_base.specs.declared.events.Event.{Event}
 use Rattle.lks_base.specs.declared.events.PeerStep.{PeerStep}
 use Rattle.lks_command.specs.declared.commands.Command.{Command}
@@ -68,7 +71,7 @@ silent_left rung limit (b ∷ bs) silent =
 module _ {D K J B : Type 0} (e : Senses D K J B) (command : Command) (s : Script) (before after : Devices D K J B) (first now : Seen D J B) (steps : List Step) (asked : J) (hung : List B) (handed : List D)
     (good : plan_fault s.plan ≡ None) (given : AreGiven e before) (asked_is : before.judge ≡ Some asked) (hung_is : hung ≡ before.bells) (handed_is : handed ≡ before.disks) (begins : Begins s.plan asked hung first) (same : steps ≡ s.steps)
     (kept : now.plan ≡ first.plan) (disks_back : after.disks ≡ now.disks) (judge_back : after.judge ≡ Some now.judge) (bells_back : after.bells ≡ now.bells)
-    (made : ServesHonest e.face s.plan.peers handed first.disks None) (occurred : IsHistory now.plan now.history)
+    (made : ServesHonest e.face s.plan.peers handed first.disks None) (calm : map (power_of e.face) first.disks ≡ map (power_of e.face) handed) (occurred : IsHistory now.plan now.history)
     (holds : now.stopped ≡ None → HaveBatches e.face now.plan now.history now.disks) where
   asked_first : e.ears.heard first.judge ≡ questions first.plan first.history
   asked_first =
@@ -92,14 +95,25 @@ module _ {D K J B : Type 0} (e : Senses D K J B) (command : Command) (s : Script
       (serves_then e.face s.plan.peers handed first.disks now.disks fault made
       (subst (λ (p : Plan). ServesHonest e.face p.peers first.disks now.disks fault) begins.plan played)))
 
+  -- no power failed while it was made
+  power_of_all : (fault : Option WorldFault) → CountsPower e.face first now fault → HavePower e.face s.plan [] now.history fault (honest_ids s.plan.peers) (honest_disks s.plan.peers before.disks) (honest_disks s.plan.peers after.disks)
+  power_of_all fault counts =
+      let played =
+      subst (λ h. HavePower e.face s.plan h now.history fault (honest_ids s.plan.peers) (honest_disks s.plan.peers first.disks) (honest_disks s.plan.peers now.disks)) begins.history
+      (subst (λ (p : Plan). HavePower e.face p first.history now.history fault (honest_ids p.peers) (honest_disks p.peers first.disks) (honest_disks p.peers now.disks)) begins.plan counts) in
+      subst (λ ds. HavePower e.face s.plan [] now.history fault (honest_ids s.plan.peers) (honest_disks s.plan.peers ds) (honest_disks s.plan.peers after.disks)) handed_is
+      (subst (λ ds. HavePower e.face s.plan [] now.history fault (honest_ids s.plan.peers) (honest_disks s.plan.peers handed) (honest_disks s.plan.peers ds)) (sym disks_back)
+      (power_then e.face s.plan (honest_ids s.plan.peers) [] [] now.history (honest_disks s.plan.peers handed) (honest_disks s.plan.peers first.disks) (honest_disks s.plan.peers now.disks) fault (power_none e.face s.plan handed first.disks calm) played))
+
   -- what is kept at the end, or at a fault
   abbrev kept_with : (fault : Option WorldFault) (next : Option PeerStep) → e.ears.verdict now.judge ≡ e.ears.verdict first.judge → e.ears.heard now.judge ≡ questions first.plan now.history ++ asked_next (world first.plan now.history) next
-      → seen e.ears.rung e.ears.limit now.bells ≡ left_of (alarms first.plan now.history) (map e.ears.limit before.bells) → ServesHonest e.face first.plan.peers first.disks now.disks fault → Kept e (deed_of command) s before after fault next now.history
-  kept_with fault next same heard rung serves = record {
+      → seen e.ears.rung e.ears.limit now.bells ≡ left_of (alarms first.plan now.history) (map e.ears.limit before.bells) → ServesHonest e.face first.plan.peers first.disks now.disks fault → CountsPower e.face first now fault → Kept e (deed_of command) s before after fault next now.history
+  kept_with fault next same heard rung serves counts = record {
     good = good;
     happened = happened;
     safe = is_safe s.plan now.history good happened;
     served = served_then fault serves;
+    power = power_of_all fault counts;
     first = first.judge;
     last = now.judge;
     given = asked_is ∙ ap Some (sym begins.judge);
@@ -113,7 +127,7 @@ module _ {D K J B : Type 0} (e : Senses D K J B) (command : Command) (s : Script
   played_whole told played = record {
     done = now.history;
     history = now.history;
-    kept = kept_with None None played.watches.verdict (played.watches.heard asked_first ∙ sym (append-nil (questions first.plan now.history))) (played.watches.bells (map e.ears.limit before.bells) rung_first) played.serves;
+    kept = kept_with None None played.watches.verdict (played.watches.heard asked_first ∙ sym (append-nil (questions first.plan now.history))) (played.watches.bells (map e.ears.limit before.bells) rung_first) played.serves played.power;
     follows =
         subst (λ v. Follows v s.plan [] s.steps now.history) (sym played.watches.verdict)
         (subst (λ ss. Follows (e.ears.verdict first.judge) s.plan [] ss now.history) same
@@ -132,7 +146,7 @@ module _ {D K J B : Type 0} (e : Senses D K J B) (command : Command) (s : Script
       record {
         next = next;
         history = now.history;
-        kept = kept_with (Some fault) next off.stops.verdict (off.stops.heard asked_first) (off.stops.bells (map e.ears.limit before.bells) rung_first) stopped.serves;
+        kept = kept_with (Some fault) next off.stops.verdict (off.stops.heard asked_first) (off.stops.bells (map e.ears.limit before.bells) rung_first) stopped.serves stopped.power;
         follows =
             subst (λ v. FollowsUpTo v s.plan [] s.steps now.history next) (sym off.stops.verdict)
             (subst (λ ss. FollowsUpTo (e.ears.verdict first.judge) s.plan [] ss now.history next) same
@@ -157,6 +171,7 @@ none_made e command s given good has = record {
   good = good;
   served = serves_none e.face s.plan.peers given.disks (Some Memory) (λ id is. absurd cc);
   begun = none_up_to e.face s.plan given.disks has.fresh;
+  power = refl;
   same = refl;
 }
 

@@ -17,7 +17,7 @@ use Rattle.lks_world.specs.Counts.{ServesHonest}
 use Rattle.lks_world.specs.Follows.{Follows, FollowsUpTo}
 use Rattle.lks_world.specs.Held.{HaveBatchesOrNext}
 use Rattle.lks_world.specs.Watched.{Stops}
-use Rattle.lks_world.specs.Worlds.{Seen}
+use Rattle.lks_world.specs.Worlds.{Seen, CountsPower}
 use Rattle.lks_world.specs.declared.faults.WorldFault.{WorldFault}
 use Rattle.lockss.specs.Handed.{Senses}
 use Rattle.lockss.specs.Deeds.{deed_of}
@@ -36,6 +36,7 @@ pub record IsPlayed {D K J B : Type 0} (e : Senses D K J B) (command : Command) 
   pub watches : Watches first.plan first.history now.history (watching e.ears first.judge first.bells) (watching e.ears now.judge now.bells)
   pub running : now.stopped ≡ None
   pub serves : ServesHonest e.face first.plan.peers first.disks now.disks None
+  pub power : CountsPower e.face first now None
   pub told : Tells e ((deed_of command).told first.plan now.history) (has_any (alarms first.plan now.history)) before after answer
 
 -- Steps that were done up to a fault in one of them.
@@ -49,6 +50,7 @@ pub record IsLeftOff {D J B : Type 0} (f : Face D) (e : Ears J B) (steps : List 
 pub record IsStopped {D K J B : Type 0} (e : Senses D K J B) (steps : List Step) (first now : Seen D J B) (before after : K) (fault : WorldFault) : Type 0 where
   pub off : IsLeftOff e.face e.ears steps first now
   pub serves : ServesHonest e.face first.plan.peers first.disks now.disks (Some fault)
+  pub power : CountsPower e.face first now (Some fault)
   pub silent : after ≡ before
 
 -- how far the steps were played in a world that was made

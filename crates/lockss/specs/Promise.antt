@@ -18,9 +18,11 @@ use Rattle.lks_outside.specs.declared.sources.ReadStop.TheVariants as reading
 use Rattle.lks_report.specs.Alarms.{has_any}
 use Rattle.lks_script.specs.declared.faults.ScriptFault.TheVariants.{BadLine}
 use Rattle.lks_script.specs.declared.steps.Script.{Script}
-use Rattle.lks_world.specs.Counts.{ServesHonest}
+use Rattle.lks_world.specs.Counts.{ServesHonest, honest_ids}
+use Rattle.lks_world.specs.Disks.{honest_disks}
 use Rattle.lks_world.specs.Follows.{Follows, FollowsUpTo}
 use Rattle.lks_world.specs.Held.{HaveBatches, HaveBatchesOrNext, HaveBegunUpTo}
+use Rattle.lks_world.specs.Powers.{HavePower, power_of}
 use Rattle.lks_world.specs.Watched.{asked_next}
 use Rattle.lks_world.specs.declared.faults.WorldFault.{WorldFault}
 use Rattle.lockss.specs.Codes.{status_of}
@@ -61,13 +63,14 @@ Tells e text alarmed sink after (Err stop) =
 
 module _ {D K J B : Type 0} (e : Senses D K J B) (c : Deed) (s : Script) (before after : Devices D K J B) where
   -- The plan breaks no rule, and what happened is a history of it and safe. A disk that isn't an honest peer's is as it was; one that
-  -- is blamed has failed. The judge is the same, and heard what the history asks, and what the step asks that was begun, if one was.
+  -- is blamed has failed. Each honest peer's counted the fuses that burned there and the cuts of its power. The judge is the same, and heard what the history asks, and what the step asks that was begun, if one was.
   -- Of the bells, those are back in their order that want more alarms than the history has, and each rang for exactly these.
   pub record Kept (fault : Option WorldFault) (next : Option PeerStep) (history : List Event) : Type 0 where
     pub good : plan_fault s.plan ≡ None
     pub happened : IsHistory s.plan history
     pub safe : Safe s.plan history
     pub served : ServesHonest e.face s.plan.peers before.disks after.disks fault
+    pub power : HavePower e.face s.plan [] history fault (honest_ids s.plan.peers) (honest_disks s.plan.peers before.disks) (honest_disks s.plan.peers after.disks)
     pub first : J
     pub last : J
     pub given : before.judge ≡ Some first
@@ -98,11 +101,12 @@ module _ {D K J B : Type 0} (e : Senses D K J B) (c : Deed) (s : Script) (before
     pub silent : after.sink ≡ before.sink
 
   -- Or nothing happened, since the plan's peers didn't all begin. Of the honest ones' disks, those before one hold its deposits, of
-  -- that one a crash leaves a front of them or at most a byte, and the later ones, and all else, are as they were.
+  -- that one a crash leaves a front of them or at most a byte, and the later ones, and all else, are as they were. No power failed.
   pub record NeverBegins (fault : WorldFault) : Type 0 where
     pub good : plan_fault s.plan ≡ None
     pub served : ServesHonest e.face s.plan.peers before.disks after.disks (Some fault)
     pub begun : HaveBegunUpTo e.face s.plan before.disks after.disks
+    pub power : map (power_of e.face) after.disks ≡ map (power_of e.face) before.disks
     pub same : after ≡ record before { disks = after.disks }
 
   abbrev pub PlaysTo : Played → Type 0

@@ -10,6 +10,7 @@ ghost use Rattle.lks_script.specs.StepRules.{are_steps_of};
 ghost use Rattle.lks_watch.specs.Watching.{ears, watching, Watches};
 ghost use Rattle.lks_world.specs.Counts.{fault_in, ServesHonest};
 ghost use Rattle.lks_world.specs.Follows.{Follows};
+ghost use Rattle.lks_world.specs.Worlds.{CountsPower};
 ghost use Rattle.lockss.specs.Handed.{devices, senses, AreGiven};
 ghost use Rattle.lockss.specs.Playing.{text_for, IsLeftOff, PlaysIn};
 ghost use Rattle.lockss.specs.Deeds.{deed_of};
@@ -43,6 +44,7 @@ fn perform_all<R: Wait, D: CrashDisk + Drop, J: EffortJudge, B: Bell>(
     ensures off { OnErr result (IsLeftOff D.face (ears J.heard J.verdict B.rung B.limit) steps.now world.old world.new) }
     ensures stopped { world.new.stopped ≡ fault_in result }
     ensures serves { ServesHonest D.face world.old.plan.peers world.old.disks world.new.disks (fault_in result) }
+    ensures power { CountsPower D.face world.old world.new (fault_in result) }
 {
     for step in steps {
         world.perform(rt, step)?;

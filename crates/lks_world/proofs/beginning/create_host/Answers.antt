@@ -24,3 +24,15 @@ pub returns-in-Err-clause-front : goal.returns-in-Err-clause-front
 returns-in-Err-clause-front g c = λ p there.
     let laws = g.met.D.CrashDisk g.world.𝓛 g.world.𝓜 g.world.𝓡 ((λ s x. x), (λ x. x), (λ x. x), λ x. x) in
     c.in-Err.ensures.front (laws.tells c.args.disk) c.requires.fresh.settled p there
+
+pub returns-in-Ok-clause-power : goal.returns-in-Ok-clause-power
+returns-in-Ok-clause-power g c =
+    let was = c.in-Ok.ensures.behaves in
+    let burns = was.unset c.requires.fresh.unfused in
+    λ i. record { fused = was.fused i; burns = burns i; cuts = was.powered i }
+
+pub returns-in-Err-clause-power : goal.returns-in-Err-clause-power
+returns-in-Err-clause-power g c =
+    let was = c.in-Err.ensures.behaves in
+    let burns = was.unset c.requires.fresh.unfused in
+    λ i. record { fused = was.fused i; burns = burns i; cuts = was.powered i }

@@ -2,6 +2,7 @@ use Rattle.std.proofs.Common.{◌≡◌, ◌∙◌, ap, refl, sym, subst, true, 
 use Rattle.std.specs.Prelude.{Err, IsSome, option_map}
 use Rattle.lks_law.specs.World.{standing_of}
 use Rattle.lks_world.proofs.CountLaws.{some_is}
+use Rattle.lks_world.specs.Powers.{Power}
 use Rattle.lks_world.proofs.beginning.make_seat.Goals as goal
 
 pub create_host-requires-clause-honest : goal.create_host-requires-clause-honest
@@ -17,7 +18,7 @@ returns-in-Ok-clause-begun g c =
 
 pub returns-in-Ok-clause-served : goal.returns-in-Ok-clause-served
 returns-in-Ok-clause-served g c = record {
-  fuse = c.in-Ok.ensures.fuse;
+  fuse = ap (λ (p : Power). p.fused) c.in-Ok.ensures.power;
   later = c.in-Ok.ensures.later;
   cause = λ id is. absurd cc;
   idle = λ bad. let both : true ≡ false = sym bad ∙ c.if-peer.false in absurd cc;
@@ -25,7 +26,7 @@ returns-in-Ok-clause-served g c = record {
 
 pub returns-in-Err-clause-served : goal.returns-in-Err-clause-served
 returns-in-Err-clause-served g c = record {
-  fuse = c.in-Err.ensures.fuse;
+  fuse = ap (λ (p : Power). p.fused) c.in-Err.ensures.power;
   later = c.in-Err.ensures.later;
   cause = λ id is. c.in-Err.ensures.cause id (ap Err (some_is is));
   idle = λ bad. let both : true ≡ false = sym bad ∙ c.if-peer.false in absurd cc;

@@ -28,7 +28,7 @@ loop-p-preserved g c =
     record {
       made =
           made_more g.D.Disk.face c.args.pool.now c.args.plan.now c.args.disks.now.items c.loop-p.seats.items c.seat_next.new.seats.items c.loop-p.disks.items c.seat_next.new.disks.items p (take i peers) (drop (i + 1) peers) (take (i + 1) peers)
-          was.made done.seated done.taken done.fresh done.serves done.fuses (all_parts items peers same i p c.loop-p-test.true c.p-item.is) (next_done items peers same i p c.loop-p-test.true c.p-item.is);
+          was.made done.seated done.taken done.fresh done.serves done.power (all_parts items peers same i p c.loop-p-test.true c.p-item.is) (next_done items peers same i p c.loop-p-test.true c.p-item.is);
       count = omega (arith, was.count, done.rooms.more);
       enough = omega (arith, was.enough, done.rooms.less);
       room = omega (arith, was.room, done.rooms.seats_room);

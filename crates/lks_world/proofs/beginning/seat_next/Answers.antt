@@ -1,6 +1,6 @@
 use Rattle.std.proofs.Common.{◌++◌, refl, rules}
 use Rattle.std.specs.Prelude.{Some, None, reverse}
-use Rattle.lks_world.proofs.BeginLaws.{fresh_first, fresh_rest, seat_served, seat_fuses, on_seat, in_list}
+use Rattle.lks_world.proofs.BeginLaws.{fresh_first, fresh_rest, seat_served, seat_power, on_seat, in_list}
 use Rattle.lks_world.specs.Seats.{disk_at, disks_at}
 use Rattle.lks_world.proofs.beginning.seat_next.Goals as goal
 
@@ -20,10 +20,10 @@ returns-in-Ok-clause-serves g c = λ before after are.
     seat_served g.D.Disk.face c.args.peer.now c.args.seats.now.items c.args.disks.now.items left c.in-Some.disk (disk_at c.in-Ok.seat) None c.in-Some.ensures.items c.in-Ok.ensures.served
     (disks_at c.push_reserved.new.self.items ++ reverse left) (on_seat c.args.seats.now.items c.push_reserved.new.self.items c.in-Ok.seat left c.push_reserved.ensures.items) before after are
 
-pub returns-in-Ok-clause-fuses : goal.returns-in-Ok-clause-fuses
-returns-in-Ok-clause-fuses g c =
+pub returns-in-Ok-clause-power : goal.returns-in-Ok-clause-power
+returns-in-Ok-clause-power g c =
     let left = c.pop.new.self.items in
-    seat_fuses g.D.Disk.face c.args.peer.now c.args.seats.now.items c.args.disks.now.items left c.in-Some.disk (disk_at c.in-Ok.seat) None c.in-Some.ensures.items c.in-Ok.ensures.served
+    seat_power g.D.Disk.face c.args.seats.now.items c.args.disks.now.items left c.in-Some.disk (disk_at c.in-Ok.seat) c.in-Some.ensures.items c.in-Ok.ensures.power
     (disks_at c.push_reserved.new.self.items ++ reverse left) (on_seat c.args.seats.now.items c.push_reserved.new.self.items c.in-Ok.seat left c.push_reserved.ensures.items)
 
 pub returns-in-Err-clause-serves : goal.returns-in-Err-clause-serves
@@ -33,11 +33,11 @@ returns-in-Err-clause-serves g c = λ before after are.
     seat_served g.D.Disk.face c.args.peer.now c.args.seats.now.items c.args.disks.now.items left c.in-Some.disk c.in-Err.disk (Some c.in-Err.fault) c.in-Some.ensures.items c.in-Err.ensures.served
     (disks_at c.args.seats.now.items ++ reverse back) (in_list c.args.seats.now.items left back c.in-Err.disk c.push_reserved-in-Err.ensures.items) before after are
 
-pub returns-in-Err-clause-fuses : goal.returns-in-Err-clause-fuses
-returns-in-Err-clause-fuses g c =
+pub returns-in-Err-clause-power : goal.returns-in-Err-clause-power
+returns-in-Err-clause-power g c =
     let left = c.pop.new.self.items in
     let back = c.push_reserved-in-Err.new.self.items in
-    seat_fuses g.D.Disk.face c.args.peer.now c.args.seats.now.items c.args.disks.now.items left c.in-Some.disk c.in-Err.disk (Some c.in-Err.fault) c.in-Some.ensures.items c.in-Err.ensures.served
+    seat_power g.D.Disk.face c.args.seats.now.items c.args.disks.now.items left c.in-Some.disk c.in-Err.disk c.in-Some.ensures.items c.in-Err.ensures.power
     (disks_at c.args.seats.now.items ++ reverse back) (in_list c.args.seats.now.items left back c.in-Err.disk c.push_reserved-in-Err.ensures.items)
 
 pub returns-in-Ok-clause-rooms : goal.returns-in-Ok-clause-rooms

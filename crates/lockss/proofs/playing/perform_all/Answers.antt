@@ -1,17 +1,20 @@
-use Rattle.std.proofs.Common.{inl, inr, ◌≡◌, ◌+◌, ◌∷◌, drop, arith, ◌∙◌, sym, subst}
+use Rattle.std.proofs.Common.{refl, inl, inr, ◌≡◌, ◌+◌, ◌∷◌, drop, arith, ◌∙◌, sym, subst}
 use Rattle.std.specs.Prelude.{Some, None}
 use Rattle.std.proofs.lemmas.Grind.{common_steps}
 use Rattle.std.proofs.lemmas.Result.{err_from_is_err_and}
 use Rattle.lks_base.specs.declared.plans.Plan.{Plan}
-use Rattle.lks_world.proofs.ServingLaws.{serves_then}
+use Rattle.lks_world.proofs.PowerLaws.{power_quiet, power_then, quiet_same}
+use Rattle.lks_world.proofs.ServingLaws.{serves_none, serves_then}
 use Rattle.lks_world.proofs.Stopped.{err_then, stops_then}
 use Rattle.lks_world.specs.Held.{HaveBatchesOrNext}
 use Rattle.lks_world.specs.Watched.{Stops}
 use Rattle.lks_law.specs.Questions.{Verdicts}
-use Rattle.lks_watch.proofs.Going.{watches_then}
+use Rattle.lks_watch.proofs.Going.{watches_same, watches_then}
 use Rattle.lks_watch.specs.Watching.{Watches, ears, watching}
-use Rattle.lks_world.specs.Counts.{ServesHonest}
+use Rattle.lks_world.specs.Counts.{honest_ids, ServesHonest}
+use Rattle.lks_world.specs.Disks.{honest_disks}
 use Rattle.lks_world.specs.Follows.{Follows, FollowsUpTo, IsUpTo, Performs}
+use Rattle.lks_world.specs.Powers.{HavePower}
 use Rattle.lks_world.specs.Worlds.{Seen}
 use Rattle.lockss.proofs.playing.perform_all.Goals as goal
 
@@ -21,6 +24,22 @@ returns-in_err-perform-clause-serves g c =
     rw (e.1, e.2)
     (serves_then g.D.Disk.face c.args.world.now.plan.peers c.args.world.now.disks c.loop-step.world.disks c.perform.new.self.disks (Some c.in_err-perform.field-0.0) c.loop-step.invariant.serves
     (subst (λ (p : Plan). ServesHonest g.D.Disk.face p.peers c.loop-step.world.disks c.perform.new.self.disks (Some c.in_err-perform.field-0.0)) c.loop-step.invariant.plan c.in_err-perform.ensures.disks))
+
+pub loop-step-init : goal.loop-step-init
+loop-step-init g c =
+    let f = g.D.Disk.face in
+    let w = c.args.world.now in
+    let disks = honest_disks w.plan.peers w.disks in
+    record {
+      plan = refl;
+      running = c.requires.running;
+      legal = c.requires.legal;
+      follows = λ after rest. rest;
+      up_to = λ after next rest. rest;
+      watches = watches_same w.plan w.history (watching (ears g.J.EffortJudge.heard g.J.EffortJudge.verdict g.B.Bell.rung g.B.Bell.limit) w.judge w.bells);
+      serves = serves_none f w.plan.peers w.disks None (λ id is. absurd cc);
+      power = power_quiet f w.plan (honest_ids w.plan.peers) w.history w.history disks disks None (quiet_same w.plan w.history) refl refl;
+    }
 
 pub loop-step-preserved : goal.loop-step-preserved
 loop-step-preserved g c = record {
@@ -54,7 +73,26 @@ loop-step-preserved g c = record {
   serves =
       serves_then g.D.Disk.face c.args.world.now.plan.peers c.args.world.now.disks c.loop-step.world.disks c.perform.new.self.disks None c.loop-step.invariant.serves
       (subst (λ (p : Plan). ServesHonest g.D.Disk.face p.peers c.loop-step.world.disks c.perform.new.self.disks None) c.loop-step.invariant.plan c.in_ok-perform.ensures.disks);
+  power =
+      let f = g.D.Disk.face in
+      let plan = c.args.world.now.plan in
+      let mid = c.loop-step.world in
+      let now = c.perform.new.self in
+      power_then f plan (honest_ids plan.peers) c.args.world.now.history mid.history now.history (honest_disks plan.peers c.args.world.now.disks) (honest_disks plan.peers mid.disks) (honest_disks plan.peers now.disks) None c.loop-step.invariant.power
+      (subst (λ (p : Plan). HavePower f p mid.history now.history None (honest_ids p.peers) (honest_disks p.peers mid.disks) (honest_disks p.peers now.disks)) c.loop-step.invariant.plan c.in_ok-perform.ensures.power.counted);
 }
+
+pub returns-in_err-perform-clause-power : goal.returns-in_err-perform-clause-power
+returns-in_err-perform-clause-power g c =
+    let f = g.D.Disk.face in
+    let plan = c.args.world.now.plan in
+    let mid = c.loop-step.world in
+    let now = c.perform.new.self in
+    let fault = Some c.in_err-perform.field-0.0 in
+    let e = err_from_is_err_and c.from_residual.result c.from_residual.ensures.1 in
+    rw (e.1, e.2)
+    (power_then f plan (honest_ids plan.peers) c.args.world.now.history mid.history now.history (honest_disks plan.peers c.args.world.now.disks) (honest_disks plan.peers mid.disks) (honest_disks plan.peers now.disks) fault c.loop-step.invariant.power
+    (subst (λ (p : Plan). HavePower f p mid.history now.history fault (honest_ids p.peers) (honest_disks p.peers mid.disks) (honest_disks p.peers now.disks)) c.loop-step.invariant.plan c.in_err-perform.ensures.power.counted))
 
 pub returns-in_err-perform-clause-off : goal.returns-in_err-perform-clause-off
 returns-in_err-perform-clause-off g c =

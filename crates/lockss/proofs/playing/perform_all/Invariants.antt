@@ -6,6 +6,7 @@ use Rattle.lks_script.specs.StepRules.{are_steps_of}
 use Rattle.lks_watch.specs.Watching.{Watches, ears, watching}
 use Rattle.lks_world.specs.Counts.{ServesHonest}
 use Rattle.lks_world.specs.Follows.{Follows, FollowsUpTo}
+use Rattle.lks_world.specs.Worlds.{CountsPower}
 use Rattle.lockss.proofs.playing.perform_all.Given as goal
 
 abbrev pub invariant-loop-step : goal.invariant-loop-step
@@ -18,4 +19,5 @@ invariant-loop-step g l = record {
       → FollowsUpTo (g.J.EffortJudge.verdict l.fn.world.judge) l.fn.world.plan l.fn.world.history l.steps after next;
   watches : Watches l.fn.world.plan l.fn.world.history l.world.history (watching (ears g.J.EffortJudge.heard g.J.EffortJudge.verdict g.B.Bell.rung g.B.Bell.limit) l.fn.world.judge l.fn.world.bells) (watching (ears g.J.EffortJudge.heard g.J.EffortJudge.verdict g.B.Bell.rung g.B.Bell.limit) l.world.judge l.world.bells);
   serves : ServesHonest g.D.Disk.face l.fn.world.plan.peers l.fn.world.disks l.world.disks None;
+  power : CountsPower g.D.Disk.face l.fn.world l.world None;
 }

@@ -1,9 +1,10 @@
 use Rattle.std.proofs.Common.{◌≡◌, ◌∙◌, ap, sym, subst, arith, length}
-use Rattle.std.specs.Prelude.{Some}
+use Rattle.std.specs.Prelude.{Some, map}
 use Rattle.lks_base.proofs.PlanBounds.{few_peers}
 use Rattle.lks_watch.specs.Watching.{ears}
 use Rattle.lks_world.specs.Counts.{ServesHonest}
 use Rattle.lks_world.specs.Held.{AreFresh, HaveBegunUpTo}
+use Rattle.lks_world.specs.Powers.{power_of}
 use Rattle.lockss.proofs.Played.{none_made, played_as}
 use Rattle.lockss.specs.Handed.{devices, senses}
 use Rattle.lockss.proofs.playing.play.Goals as goal
@@ -25,7 +26,7 @@ returns-clause-plays g c =
     played_as e c.args.command c.args.script before after c.in-Ok-new.world c.play_in-played.new.world c.as_slice.result.now c.in-Some.asked c.replace-hung.result.items c.replace-handed.result.items
     c.requires.good c.requires.given (sym c.take.ensures.value ∙ c.in-Some.is) (ap (λ v. v.items) c.replace-hung.ensures.value) (ap (λ v. v.items) c.replace-handed.ensures.value) c.in-Ok-new.ensures.begins c.as_slice.ensures c.play_in-played.ensures.plan
     (c.hand_back-2.ensures.disks ∙ c.into_parts.ensures.disks) (c.hand_back-2.ensures.judge ∙ ap Some c.into_parts.ensures.watched.0) (c.hand_back-2.ensures.bells ∙ c.into_parts.ensures.watched.1)
-    c.in-Ok-new.ensures.disks c.into_parts.ensures.happened c.into_parts.ensures.holds c.play_in-played.result c.play_in-played.ensures.plays
+    c.in-Ok-new.ensures.disks c.in-Ok-new.ensures.power c.into_parts.ensures.happened c.into_parts.ensures.holds c.play_in-played.result c.play_in-played.ensures.plays
 
 pub returns-in_default-clause-plays : goal.returns-in_default-clause-plays
 returns-in_default-clause-plays g c =
@@ -50,5 +51,6 @@ returns-in-Err-clause-plays g c =
       begun =
           subst (HaveBegunUpTo f plan disks) (sym c.hand_back.ensures.disks)
           (subst (λ ds. HaveBegunUpTo f plan ds parts) handed c.in-Err.ensures.made);
+      power = ap (map (power_of f)) c.hand_back.ensures.disks ∙ c.in-Err.ensures.power ∙ ap (map (power_of f)) handed;
       same = λ i. devices c.hand_back.new.disks.items c.args.sink.now (judge i) (bells i);
     }

@@ -1,11 +1,12 @@
 use Rattle.std.proofs.Common.{rules, ◌∙◌, ◌++◌, ap, sym, subst, refl}
 use Rattle.std.specs.Prelude.{Some, None, reverse, map}
 use Rattle.std.proofs.lemmas.List.{reverse-reverse}
-use Rattle.lks_world.proofs.FuseLaws.{same_fuses, fresh_unfused}
+use Rattle.lks_world.proofs.FuseLaws.{same_fuses, fuses_told, fresh_unfused}
 use Rattle.lks_watch.specs.declared.watches.Watch.{Watch}
 use Rattle.lks_world.proofs.Watched.{asked_first}
 use Rattle.lks_world.specs.Counts.{ServesHonest}
 use Rattle.lks_world.specs.Held.{AreFresh}
+use Rattle.lks_world.specs.Powers.{power_of}
 use Rattle.lks_world.specs.Seats.{disks_at}
 use Rattle.lks_world.specs.States.{events_of}
 use Rattle.lks_world.proofs.worlds.World.new.Goals as goal
@@ -30,7 +31,9 @@ invariant_of-result g c =
       state = λ running. made.state;
       heard = λ running. ap (λ (w : Watch g.row.J.Denot g.row.B.Denot). g.J.EffortJudge.heard w.judge) c.new.ensures ∙ c.requires.unasked ∙ asked_first c.args.plan (ap events_of made.nothing);
       seats = made.seats;
-      unfused = same_fuses f disks (disks_at c.in-Ok.state.seats.items ++ reverse c.begin.new.disks.items) (made.fuses ∙ ap (map f.fused) back) (fresh_unfused f disks c.requires.fresh);
+      unfused =
+          let now = disks_at c.in-Ok.state.seats.items ++ reverse c.begin.new.disks.items in
+          same_fuses f disks now (fuses_told f disks now (made.power ∙ ap (map (power_of f)) back)) (fresh_unfused f disks c.requires.fresh);
       room = made.room;
     }
 
@@ -53,7 +56,18 @@ returns-clause-refused g c =
     let back = ap reverse c.turn_round.ensures.items ∙ reverse-reverse disks in
     let given = c.turn_round-in-Err.ensures.items in (
       search rules,
-      same_fuses f disks _ (ap (map f.fused) given ∙ c.in-Err.ensures.fuses ∙ ap (map f.fused) back) (fresh_unfused f disks c.requires.fresh),
+      same_fuses f disks _ (fuses_told f disks _ (ap (map (power_of f)) given ∙ c.in-Err.ensures.power ∙ ap (map (power_of f)) back)) (fresh_unfused f disks c.requires.fresh),
       refl,
       refl,
     )
+
+pub returns-in-Ok-clause-power : goal.returns-in-Ok-clause-power
+returns-in-Ok-clause-power g c =
+    let back = ap reverse c.turn_round.ensures.items ∙ reverse-reverse c.args.disks.items in
+    c.in-Ok.ensures.power ∙ ap (map (power_of g.D.Disk.face)) back
+
+pub returns-clause-power : goal.returns-clause-power
+returns-clause-power g c =
+    let back = ap reverse c.turn_round.ensures.items ∙ reverse-reverse c.args.disks.items in
+    let given = c.turn_round-in-Err.ensures.items in
+    ap (map (power_of g.D.Disk.face)) given ∙ c.in-Err.ensures.power ∙ ap (map (power_of g.D.Disk.face)) back

@@ -1,0 +1,11 @@
+pub mod Cuts
+pub mod Fields
+pub mod Records
+pub mod Spelled
+pub mod Kept
+pub mod Journals
+pub mod Apart
+pub mod Printed
+pub mod Honest
+pub mod Worlds
+pub mod Parted

@@ -1,0 +1,4 @@
+pub mod Framed
+pub mod Sets
+pub mod Texts
+pub mod Worlds
