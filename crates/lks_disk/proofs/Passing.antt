@@ -1,5 +1,5 @@
 -- Each call that passes is one of those that the fuse lets pass.
-use Rattle.std.proofs.Common.{◌≡◌, ◌+◌, ◌∙◌, ap, sym, ℕ, zero, suc, true, refl, arith}
+use Rattle.std.proofs.Common.{◌≡◌, ◌+◌, ◌∙◌, ap, ℕ, zero, suc, true, refl, arith}
 use Rattle.std.specs.Prelude.{Err}
 use Rattle.lks_disk.specs.Device.{FuseTold, Fused, Passed}
 use Rattle.lks_disk.specs.declared.disks.DiskFail.TheVariants.{Cut}

@@ -2,7 +2,6 @@ pub mod Behaving
 pub mod Bodies
 pub mod Cutting
 pub mod Faults
-pub mod Fits
 pub mod Hosted
 pub mod Journals
 pub mod Recovering

@@ -6,7 +6,7 @@ use Rattle.lks_base.specs.declared.records.Record.{Record}
 use Rattle.lks_host.specs.Behaving.{Behaves, CallsFor}
 use Rattle.lks_host.specs.Bodies.{ReadBack}
 use Rattle.lks_host.specs.Faults.{as_journal, is_refused}
-use Rattle.lks_host.specs.Fits.{FitsBatch}
+use Rattle.lks_sort.specs.Fits.{FitsBatch}
 use Rattle.lks_host.specs.Hosted.{StandsFor}
 use Rattle.lks_law.specs.Fitting.{AreFitting}
 use Rattle.lks_law.specs.Polls.{Station}

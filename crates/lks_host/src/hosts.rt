@@ -19,7 +19,7 @@ ghost use Rattle.lks_law.specs.Turning.{ready_on, turns_on, has_inner_in};
 ghost use Rattle.lks_law.specs.World.{standing_of, honest_peer};
 ghost use Rattle.lks_peer.specs.Knows.{knowing_of};
 
-use crate::deposits::{begin_peer, write_each};
+use crate::deposits::write_each;
 use crate::faults::HostFault;
 use crate::outcomes::Recovered;
 use crate::reading::read_journal;
@@ -29,6 +29,7 @@ use lks_blocks::BlockPool;
 use lks_disk::{CrashDisk, Disk};
 use lks_journal::Journal;
 use lks_peer::Peer;
+use lks_sort::begin_peer;
 use std::alloc::Global;
 use std::sync::Wait;
 
@@ -55,7 +56,7 @@ pub struct Host<D: Disk> {
 }
 
 impl<D: Disk> Host<D> {
-    ghost use Rattle.lks_host.specs.Fits.{AreFirst};
+    ghost use Rattle.lks_sort.specs.Fits.{AreFirst};
     ghost use Rattle.lks_host.specs.declared.faults.HostFault.TheVariants.{Memory};
     ghost use Rattle.lks_disk.specs.Device.{Only};
     ghost use Rattle.lks_host.specs.Hosted.{HasFront, Holds, StandsFor, answer_of, disk_hosted};

@@ -1,7 +1,12 @@
-//! Trials of a peer's part in polls of others (`lks_sessions`), and of the checker of journals (`lks_evidence`).
+//! Trials of a peer's part in polls of others (`lks_sessions`), of a peer restored from its journal (`lks_peer`), of what comes
+//! to a peer (`lks_inbox`), and of the checker of journals (`lks_evidence`).
 #![tactic(auto)]
 
 #[cfg(test)]
 mod evidence;
+#[cfg(test)]
+mod inbox;
+#[cfg(test)]
+mod restore;
 #[cfg(test)]
 mod sessions;

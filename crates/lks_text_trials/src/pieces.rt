@@ -14,6 +14,14 @@ pub const AU: &str = "au 1 2\n";
 pub const PEERS: &str =
     "peer 1 honest 01 01\npeer 2 corrupt 02 01\npeer 3 corrupt 03 01\npeer 4 corrupt 04 01\n";
 
+/// The peers as they are printed.
+pub const PRINTED_PEERS: &str = "\
+peer 1 honest 0100000000000000000000000000000000000000000000000000000000000000 01
+peer 2 corrupt 0200000000000000000000000000000000000000000000000000000000000000 01
+peer 3 corrupt 0300000000000000000000000000000000000000000000000000000000000000 01
+peer 4 corrupt 0400000000000000000000000000000000000000000000000000000000000000 01
+";
+
 pub const LISTS: &str = "refs 1 2 3 4\ncopy 1 1 41,42\n";
 
 pub fn joined(alloc: Global, pieces: &[&str]) -> Result<Vec<u8>, Fail> {

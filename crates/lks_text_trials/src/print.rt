@@ -1,17 +1,10 @@
 //! Scripts read and printed, and read again.
 
-use crate::pieces::{AU, LISTS, PEERS, RULES, TITLE, joined, script_in};
+use crate::pieces::{AU, LISTS, PEERS, PRINTED_PEERS, RULES, TITLE, joined, script_in};
 use lks_print::print_script;
 use std::alloc::Global;
 use std::process::Abort;
 use std::test::*;
-
-const PRINTED_PEERS: &str = "\
-peer 1 honest 0100000000000000000000000000000000000000000000000000000000000000 01
-peer 2 corrupt 0200000000000000000000000000000000000000000000000000000000000000 01
-peer 3 corrupt 0300000000000000000000000000000000000000000000000000000000000000 01
-peer 4 corrupt 0400000000000000000000000000000000000000000000000000000000000000 01
-";
 
 const PLAIN_STEPS: &str = "\
 open 1 1

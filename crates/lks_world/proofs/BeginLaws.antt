@@ -87,7 +87,6 @@ module _ {D : Type 0} (f : Face D) (p : PeerPlan) (seats : List (Seat D)) (disks
       (subst (λ ds. ServesHonest f (ps ++ p ∷ qs) (disks_at seats ++ d ∷ reverse left) ds fault) (sym now)
       (serves_next f ps qs p seats d e (reverse left) fault are served))
 
-
 pub seat_power : {D : Type 0} (f : Face D) (seats : List (Seat D)) (disks left : List D) (d e : D) → disks ≡ left ++ d ∷ [] → power_of f e ≡ power_of f d → (after : List D) → after ≡ disks_at seats ++ e ∷ reverse left
     → map (power_of f) after ≡ map (power_of f) (disks_at seats ++ reverse disks)
 seat_power f seats disks left d e is same after now =

@@ -63,11 +63,11 @@ module _ {D : Type 0} (f : Face D) where
             let stands = went.on.stands batches stood in
             ⊎_elim
             (λ same.
-                let still : journal_on f k.journal.disk ≡ journal_on f h.journal.disk = sym (journal_of after place k at) ∙ ap (journal_in place) same ∙ journal_of before place h went.there in
-                falls_none k batches _ (subst (StandsFor f k) (ap (λ js. with_batch batches (drop (length (journal_on f h.journal.disk)) js)) still ∙ nothing_more f batches (journal_on f h.journal.disk)) stands))
+            let still : journal_on f k.journal.disk ≡ journal_on f h.journal.disk = sym (journal_of after place k at) ∙ ap (journal_in place) same ∙ journal_of before place h went.there in
+            falls_none k batches _ (subst (StandsFor f k) (ap (λ js. with_batch batches (drop (length (journal_on f h.journal.disk)) js)) still ∙ nothing_more f batches (journal_on f h.journal.disk)) stands))
             (λ there.
-                let grown : journal_on f k.journal.disk ≡ journal_in place peers = sym (journal_of after place k at) ∙ ap (journal_in place) there in
-                falls_whole k batches _ (subst (λ js. StandsFor f k (with_batch batches (drop (length (journal_on f h.journal.disk)) js))) grown stands))
+            let grown : journal_on f k.journal.disk ≡ journal_in place peers = sym (journal_of after place k at) ∙ ap (journal_in place) there in
+            falls_whole k batches _ (subst (λ js. StandsFor f k (with_batch batches (drop (length (journal_on f h.journal.disk)) js))) grown stands))
             either;
       }
 
@@ -96,9 +96,9 @@ module _ {D : Type 0} (f : Face D) where
         let h = events_in s in
         let batches = batches_at place plan h in
         let next : with_batch batches (drop (length (journal_on f fell.host.journal.disk)) (journal_in place (happens (world_in f s) (Step p)).peers)) ≡ batches_at place plan (h ++ Step p ∷ []) =
-            ap (λ js. with_batch batches (drop (length js) (journal_in place (happens (world_in f s) (Step p)).peers))) (sym (journal_there f (world_in f s) (hosts_of s.seats.items) place fell.host refl fell.there))
-            ∙ ap (λ w. with_batch batches (added_at place w (happens w (Step p)))) is.world
-            ∙ sym (batches_more place plan h (Step p)) in
+        ap (λ js. with_batch batches (drop (length js) (journal_in place (happens (world_in f s) (Step p)).peers))) (sym (journal_there f (world_in f s) (hosts_of s.seats.items) place fell.host refl fell.there))
+        ∙ ap (λ w. with_batch batches (added_at place w (happens w (Step p)))) is.world
+        ∙ sym (batches_more place plan h (Step p)) in
         subst (λ es. Falls f (batches_at place plan es) (batches_at place plan (es ++ Step p ∷ [])) k.journal.disk) (sym same)
         (subst (λ bs. Falls f batches bs k.journal.disk) next (fell.falls batches (is.hosts place fell.host fell.there).stands))
 
@@ -109,7 +109,7 @@ module _ {D : Type 0} (f : Face D) where
         let batches = batches_at place plan (events_in s) in
         let js = journal_on f fell.host.journal.disk in
         let none : with_batch batches (drop (length js) (journal_in place (peers_of f (hosts_of s.seats.items)))) ≡ batches =
-            ap (λ now. with_batch batches (drop (length js) now)) (journal_of (hosts_of s.seats.items) place fell.host fell.there) ∙ nothing_more f batches js in
+        ap (λ now. with_batch batches (drop (length js) now)) (journal_of (hosts_of s.seats.items) place fell.host fell.there) ∙ nothing_more f batches js in
         subst (λ es. Falls f (batches_at place plan es) (batches_at place plan es) k.journal.disk) (sym same)
         (subst (λ bs. Falls f batches bs k.journal.disk) none (fell.falls batches (is.hosts place fell.host fell.there).stands))
 

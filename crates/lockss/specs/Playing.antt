@@ -1,16 +1,11 @@
 -- How the steps of a script are done in a world, and told.
 use Rattle.std.specs.Prelude.{◌≡◌, ℕ, Bool, List, Option, Some, None, Result}
-use Rattle.lks_base.specs.declared.entries.Entry.{Entry}
 use Rattle.lks_base.specs.declared.events.PeerStep.{PeerStep}
-use Rattle.lks_base.specs.declared.plans.Plan.{Plan}
 use Rattle.lks_command.specs.declared.commands.Command.{Command}
-use Rattle.lks_command.specs.declared.commands.Command.TheVariants.{Replay, Drill}
 use Rattle.lks_disk.specs.Face.{Face}
 use Rattle.lks_law.specs.Alarms.{alarms}
 use Rattle.lks_outside.specs.declared.sinks.WriteStop.{WriteStop}
 use Rattle.lks_report.specs.Alarms.{has_any}
-use Rattle.lks_report.specs.Summary.{summary_text}
-use Rattle.lks_report.specs.Text.{text_of}
 use Rattle.lks_script.specs.declared.steps.Step.{Step}
 use Rattle.lks_watch.specs.Watching.{Ears, Watches, watching}
 use Rattle.lks_world.specs.Counts.{ServesHonest}
@@ -24,11 +19,6 @@ use Rattle.lockss.specs.Deeds.{deed_of}
 use Rattle.lockss.specs.Promise.{Tells}
 use Rattle.lockss.specs.declared.ends.Played.{Played}
 use Rattle.lockss.specs.declared.ends.Played.TheVariants.{Stopped, Told, Unmade}
-
--- what a command tells of the entries of a history
-abbrev pub text_for : Command → Plan → List Entry → List ℕ
-text_for Replay plan told = text_of plan told
-text_for (Drill seed) plan told = summary_text seed told
 
 -- A world in which all steps were done, and of which all was told or less.
 pub record IsPlayed {D K J B : Type 0} (e : Senses D K J B) (command : Command) (steps : List Step) (first now : Seen D J B) (before after : K) (answer : Result Bool WriteStop) : Type 0 where

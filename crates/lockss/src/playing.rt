@@ -2,7 +2,9 @@
 
 ghost use Rattle.std.specs.Prelude.{◌≡◌, ◌≤◌, ◌++◌, ℕ, List, true, Some, None, OnOk, OnErr, IsErrOf};
 ghost use Rattle.lks_base.specs.Checking.{plan_fault};
+ghost use Rattle.lks_base.specs.declared.events.Event.{Event};
 ghost use Rattle.lks_law.specs.Alarms.{alarms};
+ghost use Rattle.lks_law.specs.Entries.{entries};
 ghost use Rattle.lks_outside.specs.Counts.{Rose};
 ghost use Rattle.lks_outside.specs.Streams.{AddsFront};
 ghost use Rattle.lks_report.specs.Alarms.{has_any};
@@ -12,7 +14,7 @@ ghost use Rattle.lks_world.specs.Counts.{fault_in, ServesHonest};
 ghost use Rattle.lks_world.specs.Follows.{Follows};
 ghost use Rattle.lks_world.specs.Worlds.{CountsPower};
 ghost use Rattle.lockss.specs.Handed.{devices, senses, AreGiven};
-ghost use Rattle.lockss.specs.Playing.{text_for, IsLeftOff, PlaysIn};
+ghost use Rattle.lockss.specs.Playing.{IsLeftOff, PlaysIn};
 ghost use Rattle.lockss.specs.Deeds.{deed_of};
 ghost use Rattle.lockss.specs.Promise.{PlaysTo, Tells};
 
@@ -59,8 +61,10 @@ fn write<K: Sink>(
     history: &[Entry],
     sink: &mut K,
 ) -> Result<(), WriteStop>
-    ensures whole { (bytes : List ℕ) → K.taken sink.old ≡ Some bytes → OnOk result (K.taken sink.new ≡ Some (bytes ++ text_for command plan.now history.now)) }
-    ensures part { (bytes : List ℕ) → K.taken sink.old ≡ Some bytes → OnErr result (AddsFront bytes (text_for command plan.now history.now) (K.taken sink.new)) }
+    ensures whole { (events : List Event) → history.now ≡ entries plan.now events → (bytes : List ℕ) → K.taken sink.old ≡ Some bytes →
+        OnOk result (K.taken sink.new ≡ Some (bytes ++ (deed_of command).told plan.now events)) }
+    ensures part { (events : List Event) → history.now ≡ entries plan.now events → (bytes : List ℕ) → K.taken sink.old ≡ Some bytes →
+        OnErr result (AddsFront bytes ((deed_of command).told plan.now events) (K.taken sink.new)) }
     ensures failed { IsErrOf result WriteStop.Failed → Rose (K.faults sink.old) (K.faults sink.new) }
     ensures count { K.faults sink.old ≤ K.faults sink.new }
 {

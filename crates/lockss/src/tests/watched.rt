@@ -1,7 +1,7 @@
 //! Judges and bells that are handed in.
 
 ghost use Rattle.std.specs.Prelude.{◌≡◌, [], All, IfOk};
-ghost use Rattle.lockss.specs.Playing.{IsSilent};
+ghost use Rattle.lockss.specs.Handed.{IsSilent};
 
 use super::lists::{OVERDUE, OVERDUE_REPORT};
 use super::*;

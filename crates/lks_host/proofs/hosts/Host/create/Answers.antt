@@ -1,11 +1,12 @@
 use Rattle.std.proofs.Common.{◌∙◌, ap, refl, sym}
 use Rattle.std.specs.Prelude.{Some}
-use Rattle.lks_host.proofs.Beginning.{begun_fitting, of_begun, option_at}
+use Rattle.lks_host.proofs.Beginning.{of_begun, option_at}
 use Rattle.lks_host.proofs.Fronts.{front_begun}
 use Rattle.lks_host.proofs.Standing.{stands_begun}
 use Rattle.lks_host.specs.declared.faults.HostFault.TheVariants.{Memory}
 use Rattle.lks_law.specs.World.{standing_of}
 use Rattle.lks_peer.specs.Knows.{knowing_of}
+use Rattle.lks_sort.proofs.Beginning.{begun_fitting}
 use Rattle.lks_host.proofs.hosts.Host.create.Goals as goal
 
 pub returns-clause-peer : goal.returns-clause-peer

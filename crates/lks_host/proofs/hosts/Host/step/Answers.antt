@@ -2,10 +2,10 @@ use Rattle.std.proofs.Common.{◌≡◌, List, ap, subst, sym, arith}
 use Rattle.std.specs.Prelude.{Err}
 use Rattle.lks_base.specs.declared.reactions.Reaction.{Reaction}
 use Rattle.lks_base.specs.declared.records.Record.{Record}
-use Rattle.lks_host.proofs.Fitting.{reaction_fits}
+use Rattle.lks_sort.proofs.Fitting.{reaction_fits}
 use Rattle.lks_host.proofs.Standing.{stands_after, read_more}
 use Rattle.lks_host.specs.Bodies.{bodies_of, ReadBack}
-use Rattle.lks_host.specs.Fits.{FitsBatch}
+use Rattle.lks_sort.specs.Fits.{FitsBatch}
 use Rattle.lks_host.specs.Hosted.{count_after}
 use Rattle.lks_host.specs.Stepping.{IsWritten}
 use Rattle.lks_host.specs.declared.faults.HostFault.TheVariants.{Memory}

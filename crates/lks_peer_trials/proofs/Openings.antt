@@ -1,0 +1,33 @@
+-- The journal fits record by record, with its numbers or without.
+use Rattle.std.proofs.Common.{◌≡◌, sym, ap, subst, refl, ℕ, Option, Some, None, option_map, List, arith}
+use Rattle.lks_base.specs.declared.names.Limits.{Limits}
+use Rattle.lks_base.specs.declared.plans.PeerPlan.{PeerPlan}
+use Rattle.lks_base.specs.declared.plans.Plan.{Plan}
+use Rattle.lks_base.specs.declared.records.Record.{Record}
+use Rattle.lks_law.specs.Fitting.{AreFitting}
+use Rattle.lks_law.specs.Polls.{Station}
+use Rattle.lks_law.specs.State.{blank, after}
+use Rattle.lks_law.specs.World.{station_of}
+use Rattle.lks_peer.specs.Knows.{Knowing, knowing_of}
+use Rattle.lks_peer_trials.proofs.Pairs.{pair_pins}
+use Rattle.lks_peer_trials.specs.Opened.{journal_of}
+use Rattle.lks_peer_trials.specs.Pair.{pair}
+
+opened_fits : (own : Station) (nonce : List ℕ) (limits : Option Limits) (repairs : Option ℕ) → AreFitting own (blank own) (journal_of nonce limits repairs)
+unfolding after
+opened_fits own nonce limits repairs =
+    let well = pair_pins pair refl in
+    ((well.0, refl, well.1), ((refl, omega arith, omega arith), (refl, (tt, tt))))
+
+pub journal_fits : (plan : Plan) (p : PeerPlan) (list : List Record) (nonce : List ℕ) (limits : Option Limits) (repairs : Option ℕ) → list ≡ journal_of nonce limits repairs
+    → AreFitting (station_of plan p) (blank (station_of plan p)) list
+journal_fits plan p list nonce limits repairs is =
+    subst (λ (l : List Record). AreFitting (station_of plan p) (blank (station_of plan p)) l) (sym is) (opened_fits (station_of plan p) nonce limits repairs)
+
+-- a peer that is restored has its blocks in this pool
+pub pool_of : (plan : Plan) (pool : List ℕ) (o : Option PeerPlan) (list : List Record) (peer : Knowing)
+    → option_map (λ (p : PeerPlan). knowing_of pool (record { own = station_of plan p; journal = list })) o ≡ Some peer → peer.pool ≡ pool
+pool_of plan pool None list peer is = absurd cc
+pool_of plan pool (Some p) list peer is =
+    let there : knowing_of pool (record { own = station_of plan p; journal = list }) ≡ peer = cc in
+    sym (ap (λ (k : Knowing). k.pool) there)

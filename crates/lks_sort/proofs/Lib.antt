@@ -1,0 +1,9 @@
+pub mod Beginning
+pub mod Exact
+pub mod Few
+pub mod Fitting
+pub mod Lacking
+pub mod Listing
+pub mod Starting
+pub mod Taking
+pub mod Calls
