@@ -1,5 +1,5 @@
 //! Trials of a peer's part in polls of others (`lks_sessions`), of a peer restored from its journal (`lks_peer`), of what comes
-//! to a peer (`lks_inbox`), and of the checker of journals (`lks_evidence`).
+//! to a peer (`lks_inbox`), of whose journal it is (`lks_sort`), and of the checker of journals (`lks_evidence`).
 #![tactic(auto)]
 
 #[cfg(test)]
@@ -10,3 +10,5 @@ mod inbox;
 mod restore;
 #[cfg(test)]
 mod sessions;
+#[cfg(test)]
+mod sort;
