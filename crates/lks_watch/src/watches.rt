@@ -1,17 +1,14 @@
 //! A judge and bells.
 
-ghost use Rattle.std.specs.Prelude.{◌≡◌, ◌<◌, length};
+ghost use Rattle.std.specs.Prelude.{◌≡◌};
 ghost use Rattle.std.specs.List.{filter_map};
-ghost use Rattle.std.specs.Option.{option_to_list};
-ghost use Rattle.lks_base.specs.declared.limits.TheConstants.{MOST_EVENTS};
-ghost use Rattle.lks_law.specs.Questions.{judged};
 ghost use Rattle.lks_law.specs.Alarms.{alarm_noted};
-ghost use Rattle.lks_watch.specs.Watching.{ears, seen_by, Asks, Rings};
+ghost use Rattle.lks_watch.specs.Watching.{ears, seen_by, Rings};
 
 use crate::alarms::alarm;
 use lks_alarm::{AlarmDesk, Bell};
-use lks_base::{Judged, Note, PeerId};
-use lks_effort::{EffortJudge, Question};
+use lks_base::{Note, PeerId};
+use lks_effort::EffortJudge;
 
 /// The judge of a world and the desk where its bells hang.
 #[derive(Drop)]
@@ -36,24 +33,6 @@ impl<J: EffortJudge, B: Bell> Watch<J, B> {
     {
         let Watch { judge, desk } = self;
         (judge, desk.into_bells())
-    }
-
-    /// Asks the judge what is to be asked, if anything is.
-    pub fn judge(&mut self, question: Option<Question>) -> Judged
-        requires { length (J.heard self.old.judge) < MOST_EVENTS }
-        ensures judged { result ≡ judged (J.verdict self.old.judge) (J.heard self.old.judge) question }
-        ensures asks { Asks (option_to_list question) (seen_by (ears J.heard J.verdict B.rung B.limit) self.old) (seen_by (ears J.heard J.verdict B.rung B.limit) self.new) }
-    {
-        match question {
-            Some(question) => {
-                if self.judge.judge(question) {
-                    Judged::Accepted
-                } else {
-                    Judged::Refused
-                }
-            }
-            None => Judged::NotAsked,
-        }
     }
 
     /// Raises each alarm of which these notes tell, in order.

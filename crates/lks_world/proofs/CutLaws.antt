@@ -1,9 +1,12 @@
 -- Who takes a step, and which step a line cuts off.
-use Rattle.std.proofs.Common.{◌≡◌, ◌≤◌, ◌<◌, ap, subst, ℕ, Bool, true, false, cond, List, [], ◌∷◌, length, refl, arith}
+use Rattle.std.proofs.Common.{◌≡◌, ◌≤◌, ◌<◌, ◌∙◌, ap, subst, ℕ, Bool, true, false, cond, List, [], ◌∷◌, length, refl, arith}
 use Rattle.std.specs.Prelude.{Option, Some, None, IfSome, slice_get, option_map, nat_lt}
 use Rattle.std.proofs.lemmas.Bool.{ltb-true}
+use Rattle.lks_base.specs.declared.events.Due.{Due}
+use Rattle.lks_base.specs.declared.events.Due.TheVariants.{Delivery, Own}
 use Rattle.lks_base.specs.declared.events.Envelope.{Envelope}
 use Rattle.lks_base.specs.declared.events.Event.{Event}
+use Rattle.lks_base.specs.declared.events.Event.TheVariants.{Step}
 use Rattle.lks_base.specs.declared.events.PeerStep.{PeerStep}
 use Rattle.lks_base.specs.declared.events.PeerStep.TheVariants.{OpenPoll, Widen, Shut, Tally, Nudge, GiveUp, Work, Expire, Check, Tune, Deliver}
 use Rattle.lks_base.specs.declared.messages.Message.{Message}
@@ -13,14 +16,14 @@ use Rattle.lks_law.proofs.Linking.{at_own, found_at}
 use Rattle.lks_law.specs.Due.{pending, first_waiting, next_to_lose}
 use Rattle.lks_law.specs.Entries.{receiver_of}
 use Rattle.lks_law.specs.Histories.{IsHonest, MayStep}
-use Rattle.lks_law.specs.Questions.{Verdicts}
+use Rattle.lks_law.specs.Questions.{Verdicts, event_of}
 use Rattle.lks_law.specs.World.{Standing, world, got, delivered, message_in, deed_of, own_deed_of, peer_at}
 use Rattle.lks_script.specs.StepRules.{is_cut_step}
 use Rattle.lks_script.specs.declared.steps.CutStep.{CutStep}
 use Rattle.lks_script.specs.declared.steps.CutStep.TheVariants as cut
 use Rattle.lks_world.proofs.CountLaws.{some_is}
 use Rattle.lks_world.proofs.OwnSteps.{own_may}
-use Rattle.lks_world.specs.Cuts.{taker_of, delivery_now, step_cut}
+use Rattle.lks_world.specs.Cuts.{taker_of, due_cut, step_due, step_cut}
 
 -- what a step is to a peer, it is to the one that takes it
 pub whose_deed : (bag : List Envelope) (s : PeerStep) → IfSome (deed_of bag s) (λ d. d.peer ≡ taker_of bag s)
@@ -63,22 +66,43 @@ waits : (waiting : List ℕ) (i : ℕ) → slice_get waiting 0 ≡ Some i → fi
 waits [] i e = absurd cc
 waits (j ∷ js) i e = let same : j ≡ i = cc in ap Some same
 
-delivery_step_may : (verdict : Verdicts) (plan : Plan) (history : List Event) (i : ℕ) (s : PeerStep) → i < length (world plan history).bag → Some (delivery_now verdict plan history i) ≡ Some s → MayStep plan (world plan history) s
-delivery_step_may verdict plan history i s sent is = subst (MayStep plan (world plan history)) (some_is is) (delivery_may verdict plan history i sent)
+due_may : (verdict : Verdicts) (plan : Plan) (history : List Event) (given : CutStep) → is_cut_step plan given ≡ true → (d : Due) → due_cut plan history given ≡ Some d → MayStep plan (world plan history) (step_due verdict plan history d)
+unfolding is_cut_step due_cut next_to_lose
+due_may verdict plan history cut.Next legal d is = by_first (slice_get (pending plan history) 0) refl is
+  where
+    by_first : (o : Option ℕ) → slice_get (pending plan history) 0 ≡ o → option_map Delivery o ≡ Some d → MayStep plan (world plan history) (step_due verdict plan history d)
+    by_first None none is = absurd cc
+    by_first (Some i) first is =
+        subst (λ x. MayStep plan (world plan history) (step_due verdict plan history x)) (some_is is)
+        (delivery_may verdict plan history i (lose_may verdict plan history i (waits (pending plan history) i first)))
+due_may verdict plan history (cut.Again i) legal d is = by_sent (nat_lt i (length (world plan history).bag)) refl is
+  where
+    by_sent : (b : Bool) → nat_lt i (length (world plan history).bag) ≡ b → cond b (Some (Delivery i)) None ≡ Some d → MayStep plan (world plan history) (step_due verdict plan history d)
+    by_sent true sent is = subst (λ x. MayStep plan (world plan history) (step_due verdict plan history x)) (some_is is) (delivery_may verdict plan history i (ltb-true i (length (world plan history).bag) sent))
+    by_sent false never is = absurd cc
+due_may verdict plan history (cut.Peer p) legal d is = subst (λ x. MayStep plan (world plan history) (step_due verdict plan history x)) (some_is is) (own_may plan (world plan history) p legal)
 
 pub cut_may : (verdict : Verdicts) (plan : Plan) (history : List Event) (given : CutStep) → is_cut_step plan given ≡ true → (s : PeerStep) → step_cut verdict plan history given ≡ Some s → MayStep plan (world plan history) s
-unfolding is_cut_step step_cut next_to_lose
-cut_may verdict plan history cut.Next legal s is = by_first (slice_get (pending plan history) 0) refl is
+unfolding step_cut
+cut_may verdict plan history given legal s is = by_due (due_cut plan history given) refl is
   where
-    by_first : (o : Option ℕ) → slice_get (pending plan history) 0 ≡ o → option_map (delivery_now verdict plan history) o ≡ Some s → MayStep plan (world plan history) s
-    by_first None none is = absurd cc
-    by_first (Some i) first is = delivery_step_may verdict plan history i s (lose_may verdict plan history i (waits (pending plan history) i first)) is
-cut_may verdict plan history (cut.Again i) legal s is = by_sent (nat_lt i (length (world plan history).bag)) refl is
-  where
-    by_sent : (b : Bool) → nat_lt i (length (world plan history).bag) ≡ b → cond b (Some (delivery_now verdict plan history i)) None ≡ Some s → MayStep plan (world plan history) s
-    by_sent true sent is = delivery_step_may verdict plan history i s (ltb-true i (length (world plan history).bag) sent) is
-    by_sent false never is = absurd cc
-cut_may verdict plan history (cut.Peer p) legal s is = subst (MayStep plan (world plan history)) (some_is is) (own_may plan (world plan history) p legal)
+    by_due : (o : Option Due) → due_cut plan history given ≡ o → option_map (step_due verdict plan history) o ≡ Some s → MayStep plan (world plan history) s
+    by_due None none is = absurd cc
+    by_due (Some d) there is = subst (MayStep plan (world plan history)) (some_is is) (due_may verdict plan history given legal d there)
+
+-- the step of what a line cuts off, once it was judged
+
+due_named : (verdict : Verdicts) (plan : Plan) (history : List Event) (d : Due) (s : PeerStep) → Step s ≡ event_of verdict plan history d → step_due verdict plan history d ≡ s
+due_named verdict plan history (Delivery i) s made = cc
+due_named verdict plan history (Own p) s made = cc
+
+pub cut_named : (verdict : Verdicts) (plan : Plan) (history : List Event) (given : CutStep) (d : Due) (s : PeerStep) → due_cut plan history given ≡ Some d → Step s ≡ event_of verdict plan history d → step_cut verdict plan history given ≡ Some s
+unfolding step_cut
+cut_named verdict plan history given d s there made = ap (option_map (step_due verdict plan history)) there ∙ ap Some (due_named verdict plan history d s made)
+
+pub none_cut : (verdict : Verdicts) (plan : Plan) (history : List Event) (given : CutStep) → due_cut plan history given ≡ None → step_cut verdict plan history given ≡ None
+unfolding step_cut
+none_cut verdict plan history given none = ap (option_map (step_due verdict plan history)) none
 
 -- what holds of what is there, and what follows from it
 pub if_some : {X : Type 0} {P Q : X → Type 0} (o : Option X) → ((x : X) → P x → Q x) → IfSome o P → IfSome o Q

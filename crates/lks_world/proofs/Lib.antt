@@ -18,7 +18,6 @@ pub mod PowerLaws
 mod ReadyLaws
 mod SeatEnds
 mod SeatLaws
-mod Sending
 pub mod ServingLaws
 mod StateLaws
 pub mod Stopped

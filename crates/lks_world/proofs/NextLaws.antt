@@ -1,24 +1,30 @@
 -- What comes next in the world of a state.
-use Rattle.std.proofs.Common.{◌≡◌, ◌≤◌, ◌<◌, ◌∙◌, ap, sym, subst, ℕ, Bool, true, false, cond, List, [], ◌∷◌, length, refl, arith}
+use Rattle.std.proofs.Common.{◌≡◌, ◌<◌, ◌∙◌, ap, sym, ℕ, true, false, List, [], ◌∷◌, length, refl, arith}
 use Rattle.std.specs.Prelude.{Option, Some, None, slice_get, option_map, nat_lt, if◌then◌else◌}
 use Rattle.std.specs.Option.{option_map_or}
+use Rattle.std.proofs.lemmas.Bool.{ltb-true}
 use Rattle.lks_disk.specs.Face.{Face}
 use Rattle.lks_base.specs.declared.events.Due.{Due}
-use Rattle.lks_base.specs.declared.events.Due.TheVariants.{Delivery}
+use Rattle.lks_base.specs.declared.events.Due.TheVariants.{Delivery, Own}
 use Rattle.lks_base.specs.declared.events.Event.{Event}
 use Rattle.lks_base.specs.declared.events.Event.TheVariants.{Step, Lose}
 use Rattle.lks_base.specs.declared.events.PeerStep.{PeerStep}
 use Rattle.lks_base.specs.declared.events.PeerStep.TheVariants.{Deliver}
-use Rattle.lks_base.specs.declared.limits.TheConstants.{MOST_EVENTS}
 use Rattle.lks_base.specs.declared.names.Judged.{Judged}
 use Rattle.lks_base.specs.declared.plans.Plan.{Plan}
 use Rattle.lks_effort.specs.declared.questions.Question.{Question}
 use Rattle.lks_law.proofs.Happening.{delivery_may, deliver_may, settle_may, finish_may, lose_may}
 use Rattle.lks_law.specs.Due.{ready, turns, first_due, first_own, first_waiting, next_to_settle, next_to_deliver, next_to_lose, next_to_finish}
-use Rattle.lks_law.specs.Histories.{MayStep, MayHappen, WasSent}
+use Rattle.lks_law.specs.Histories.{MayHappen, WasSent}
 use Rattle.lks_law.specs.Questions.{Verdicts, judged, question_at, questions, delivery_of, event_of}
 use Rattle.lks_law.specs.World.{World, world}
-use Rattle.lks_world.proofs.Keeping.{kept_full}
+use Rattle.lks_script.specs.StepRules.{is_step_of}
+use Rattle.lks_script.specs.declared.steps.Step.{Step as Line}
+use Rattle.lks_script.specs.declared.steps.Step.TheVariants as line
+use Rattle.lks_watch.specs.declared.watches.Watch.{Watch}
+use Rattle.lks_world.proofs.OwnSteps.{step_may}
+use Rattle.lks_world.proofs.Watched.{next_asks, step_asks}
+use Rattle.lks_world.specs.Doable.{IsDoable}
 use Rattle.lks_world.specs.Follows.{next_event, lost, delivered_again}
 use Rattle.lks_world.specs.Kept.{kept}
 use Rattle.lks_world.specs.Hosts.{peers_of}
@@ -64,13 +70,8 @@ module _ {D : Type 0} (f : Face D) (plan : Plan) (s : State D) (is : IsStateOf f
   course_may verdict Delivering d next = deliver_may verdict plan (events_in s) d next
   course_may verdict Finishing d next = finish_may verdict plan (events_in s) d next
 
-  pub next_may : (verdict : Verdicts) (course : Course) (d : Due) (p : PeerStep) → Some d ≡ next_of course plan (events_in s) → Step p ≡ event_of verdict plan (events_in s) d → MayStep plan (world_in f s) p
-  next_may verdict course d p next made =
-      subst (λ w. MayHappen plan w (Step p)) (sym is.world)
-      (subst (MayHappen plan (world plan (events_in s))) (sym made) (course_may verdict course d (sym next)))
-
-  pub next_is : (verdict : Verdicts) (course : Course) (d : Due) (p : PeerStep) → Some d ≡ next_of course plan (events_in s) → Step p ≡ event_of verdict plan (events_in s) d → Some (Step p) ≡ next_event verdict (next_of course) plan (events_in s)
-  next_is verdict course d p next made = ap Some made ∙ ap (option_map (event_of verdict plan (events_in s))) next
+  pub next_is : (verdict : Verdicts) (course : Course) (d : Due) → Some d ≡ next_of course plan (events_in s) → Some (event_of verdict plan (events_in s) d) ≡ next_event verdict (next_of course) plan (events_in s)
+  next_is verdict course d next = ap (option_map (event_of verdict plan (events_in s))) next
 
   pub none_is : (verdict : Verdicts) (course : Course) → None ≡ next_of course plan (events_in s) → None ≡ next_event verdict (next_of course) plan (events_in s)
   none_is verdict course none = ap (option_map (event_of verdict plan (events_in s))) none
@@ -81,11 +82,20 @@ module _ {D : Type 0} (f : Face D) (plan : Plan) (s : State D) (is : IsStateOf f
   is_delivery verdict before i q j heard asked says =
       ap (λ x. Step (Deliver i x)) (says ∙ (λ k. judged verdict (heard k) ((asked ∙ ap (λ w. question_at w i) is.world) k)))
 
-  pub sent_may : (verdict : Verdicts) (i : ℕ) (p : PeerStep) → i < length s.bag.items → Step p ≡ delivery_of verdict plan (events_in s) i → MayStep plan (world_in f s) p
-  sent_may verdict i p sent made =
-      let size = ap (λ (w : World). length w.bag) is.world in
-      subst (λ w. MayHappen plan w (Step p)) (sym is.world)
-      (subst (MayHappen plan (world plan (events_in s))) (sym made) (delivery_may verdict plan (events_in s) i (omega (arith, sent, size))))
+  module _ {J B : Type 0} (hears : J → List Question) (x : Watch J B) (heard : hears x.judge ≡ questions plan (events_in s)) where
+    pub next_doable : (course : Course) (d : Due) → Some d ≡ next_of course plan (events_in s) → IsDoable f hears plan s x d
+    next_doable course d next = record { state = is; heard = heard; may = λ verdict. course_may verdict course d (sym next); asks = next_asks course plan (events_in s) d (sym next) }
+
+    pub sent_doable : (i : ℕ) → nat_lt i (length s.bag.items) ≡ true → IsDoable f hears plan s x (Delivery i)
+    sent_doable i sent =
+        let size = ap (λ (w : World). length w.bag) is.world in
+        let before = ltb-true i (length s.bag.items) sent in
+        record { state = is; heard = heard; may = λ verdict. delivery_may verdict plan (events_in s) i (omega (arith, before, size)); asks = tt }
+
+    pub own_doable : (given : Line) (p : PeerStep) → given ≡ line.Peer p → is_step_of plan given ≡ true → IsDoable f hears plan s x (Own p)
+    own_doable given p named legal =
+        let w = world plan (events_in s) in
+        record { state = is; heard = heard; may = λ verdict. step_may plan w given p named legal; asks = step_asks plan w given p named legal }
 
   -- what is lost, and what is delivered again
 
@@ -118,25 +128,11 @@ module _ {D : Type 0} (f : Face D) (plan : Plan) (s : State D) (is : IsStateOf f
   unfolding delivered_again
   again_is verdict i = ap (again_in verdict i) is.world
 
-  pub kept_again : (verdict : Verdicts) (i : ℕ) (p : PeerStep) → nat_lt i (length s.bag.items) ≡ true → Step p ≡ delivery_of verdict plan (events_in s) i → kept (events_in s) (Step p) ≡ delivered_again verdict i plan (events_in s)
-  kept_again verdict i p stands made =
-      let here : kept (events_in s) (Step p) ≡ again_in verdict i (world_in f s) =
-      ap (kept (events_in s)) made
-      ∙ ap (λ c. if c then kept (events_in s) (delivery_of verdict plan (events_in s) i) else events_in s) (sym stands) in
+  pub kept_again : (verdict : Verdicts) (i : ℕ) → nat_lt i (length s.bag.items) ≡ true → kept (events_in s) (delivery_of verdict plan (events_in s) i) ≡ delivered_again verdict i plan (events_in s)
+  kept_again verdict i stands =
+      let here : kept (events_in s) (delivery_of verdict plan (events_in s) i) ≡ again_in verdict i (world_in f s) =
+      ap (λ c. if c then kept (events_in s) (delivery_of verdict plan (events_in s) i) else events_in s) (sym stands) in
       here ∙ again_is verdict i
-
-  pub is_again : (verdict : Verdicts) (t : State D) (i : ℕ) (p : PeerStep) → nat_lt i (length s.bag.items) ≡ true → Step p ≡ delivery_of verdict plan (events_in s) i → Becomes f plan (kept (events_in s) (Step p)) t
-      → Becomes f plan (delivered_again verdict i plan (events_in s)) t
-  unfolding kept_again
-  is_again verdict t i p stands made b = record { state = b.state; events = b.events ∙ kept_again verdict i p stands made }
-
-  pub full_again : (verdict : Verdicts) (i : ℕ) → MOST_EVENTS ≤ length (events_in s) → Becomes f plan (delivered_again verdict i plan (events_in s)) s
-  unfolding delivered_again
-  full_again verdict i full = record { state = is; events = by_sent (nat_lt i (length (world plan (events_in s)).bag)) }
-    where
-      by_sent : (b : Bool) → events_in s ≡ cond b (kept (events_in s) (delivery_of verdict plan (events_in s) i)) (events_in s)
-      by_sent true = sym (kept_full (events_in s) (delivery_of verdict plan (events_in s) i) full)
-      by_sent false = refl
 
   pub never_sent : (verdict : Verdicts) (i : ℕ) → nat_lt i (length s.bag.items) ≡ false → Becomes f plan (delivered_again verdict i plan (events_in s)) s
   never_sent verdict i beyond =

@@ -13,7 +13,7 @@ use Rattle.lks_disk.specs.Counts.{raised}
 use Rattle.lks_disk.specs.Face.{Face}
 use Rattle.lks_host.specs.declared.hosts.Host.{Host}
 use Rattle.lks_law.specs.World.{peer_at, world}
-use Rattle.lks_world.proofs.PowerLaws.{power_quiet, power_event, power_besides, power_then, quiet_same, quiet_step}
+use Rattle.lks_world.proofs.PowerLaws.{besides_of, event_of_power, quiet_of, quiet_same, quiet_step, then_of}
 use Rattle.lks_world.proofs.SeatLaws.{ActsAt, acts_ranked, honest_back, raised_none}
 use Rattle.lks_world.specs.Counts.{fault_in, honest_ids}
 use Rattle.lks_world.specs.Cuts.{taker_of}
@@ -21,7 +21,7 @@ use Rattle.lks_world.specs.Disks.{honest_disks}
 use Rattle.lks_world.specs.Endings.{BurnsFor, MayLosePower, PowerEnds, is_whole}
 use Rattle.lks_world.specs.Hosts.{disk_in, disks_of, peers_of, KeepsPower, LosesPower}
 use Rattle.lks_world.specs.Kept.{kept}
-use Rattle.lks_world.specs.Powers.{burns_by, cuts_by, HavePower, IsQuiet, raised_at}
+use Rattle.lks_world.specs.Powers.{burns_by, cuts_by, HavePowerOf, IsQuiet, raised_at}
 use Rattle.lks_world.specs.Seats.{hosts_of, disks_at, disks_on, ids_at, ids_on, id_for, AreSeats, Powered, SeatsPower}
 use Rattle.lks_world.specs.declared.cutting.Ending.{Ending}
 use Rattle.lks_world.specs.declared.cutting.Ending.TheVariants.{Whole, Kept, Lost}
@@ -84,78 +84,86 @@ module _ {D : Type 0} (f : Face D) where
 -- A history goes on.
 
 module _ {D : Type 0} (f : Face D) (plan : Plan) where
-  pub seats_quiet : {T : Type 0} (before after : List Event) (xs ys : List (Seat D)) (r : Result T WorldFault) → IsQuiet plan before after → Powered f [] [] xs ys → SeatsPower f plan before after xs ys r
-  seats_quiet before after xs ys r quiet p = power_quiet f plan (ids_on xs) before after (disks_on xs) (disks_on ys) (fault_in r) quiet p.burns p.cuts
+  module _ (who : List ℕ) where
+    pub seats_quiet : {T : Type 0} (before after : List Event) (xs ys : List (Seat D)) (r : Result T WorldFault) → IsQuiet plan before after → Powered f [] [] xs ys → SeatsPower f plan who before after xs ys r
+    seats_quiet before after xs ys r quiet p = quiet_of f plan (ids_on xs) who before after (disks_on xs) (disks_on ys) (fault_in r) quiet p.burns p.cuts
 
-  pub seats_still : {T : Type 0} (before after : List Event) (xs ys : List (Seat D)) (r : Result T WorldFault) → after ≡ before → Powered f [] [] xs ys → SeatsPower f plan before after xs ys r
-  seats_still before after xs ys r same p = seats_quiet before after xs ys r (subst (IsQuiet plan before) (sym same) (quiet_same plan before)) p
+    pub seats_still : {T : Type 0} (before after : List Event) (xs ys : List (Seat D)) (r : Result T WorldFault) → after ≡ before → Powered f [] [] xs ys → SeatsPower f plan who before after xs ys r
+    seats_still before after xs ys r same p = seats_quiet before after xs ys r (subst (IsQuiet plan before) (sym same) (quiet_same plan before)) p
 
-  pub seats_step : {T : Type 0} (before after : List Event) (s : PeerStep) (xs ys : List (Seat D)) (r : Result T WorldFault) → after ≡ before ++ events.Step s ∷ [] → Powered f [] [] xs ys → SeatsPower f plan before after xs ys r
-  seats_step before after s xs ys r more p = seats_quiet before after xs ys r (subst (IsQuiet plan before) (sym more) (quiet_step plan before s)) p
+    pub seats_step : {T : Type 0} (before after : List Event) (s : PeerStep) (xs ys : List (Seat D)) (r : Result T WorldFault) → after ≡ before ++ events.Step s ∷ [] → Powered f [] [] xs ys → SeatsPower f plan who before after xs ys r
+    seats_step before after s xs ys r more p = seats_quiet before after xs ys r (subst (IsQuiet plan before) (sym more) (quiet_step plan before s)) p
 
-  pub seats_event : {T : Type 0} (before after : List Event) (e : Event) (xs ys : List (Seat D)) (r : Result T WorldFault) → after ≡ before ++ e ∷ [] → length before < MOST_EVENTS
-      → Powered f (burns_by (world plan before) e) (cuts_by (world plan before) e) xs ys → SeatsPower f plan before after xs ys r
-  seats_event before after e xs ys r more room p =
-      subst (λ h. SeatsPower f plan before h xs ys r) (sym more) (power_event f plan (ids_on xs) before e (disks_on xs) (disks_on ys) (fault_in r) room p.burns p.cuts)
+    pub seats_event : {T : Type 0} (before after : List Event) (e : Event) (xs ys : List (Seat D)) (r : Result T WorldFault) → after ≡ before ++ e ∷ [] → length before < MOST_EVENTS
+        → Powered f (burns_by (world plan before) e) (cuts_by (world plan before) e) xs ys → SeatsPower f plan who before after xs ys r
+    seats_event before after e xs ys r more room p =
+        subst (λ h. SeatsPower f plan who before h xs ys r) (sym more) (event_of_power f plan (ids_on xs) who before e (disks_on xs) (disks_on ys) (fault_in r) room p.burns p.cuts)
+
+    -- a fault is a fault
+    pub seats_stopped : {T : Type 0} (Q : WorldFault → Type 0) (before after : List Event) (xs ys : List (Seat D)) (fault : Option WorldFault) (r : Result T WorldFault) → HavePowerOf f plan who before after fault (ids_on xs) (disks_on xs) (disks_on ys) → IsErrAnd r Q
+        → SeatsPower f plan who before after xs ys r
+    seats_stopped Q before after xs ys fault r is refused =
+        let p = is.power in
+        record {
+          power =
+              record {
+                burned = p.burned;
+                cut = p.cut;
+                burned_besides = p.burned_besides;
+                cut_besides = p.cut_besides;
+                fuses = p.fuses;
+                powers = p.powers;
+                burns = p.burns;
+                cuts = p.cuts;
+                one = p.one;
+                fewer = p.fewer;
+                whole = λ none. absurd (is_stopped Q r refused none);
+                later = p.later;
+                full = p.full;
+              };
+          whose = is.whose;
+        }
+
+    pub seats_then : {T : Type 0} (a b c : List Event) (xs ys zs : List (Seat D)) (r : Result T WorldFault) → ids_at ys ≡ ids_at xs → SeatsPower {T = Unit {0}} f plan who a b xs ys (Ok tt) → SeatsPower f plan who b c ys zs r → SeatsPower f plan who a c xs zs r
+    seats_then a b c xs ys zs r same first next =
+        then_of f plan (ids_on xs) who a b c (disks_on xs) (disks_on ys) (disks_on zs) (fault_in r) first
+        (subst (λ (ids : List ℕ). HavePowerOf f plan who b c (fault_in r) ids (disks_on ys) (disks_on zs)) (ap (filter_map (λ o. o)) same) next)
 
   -- the power was cut in no event
   pub seats_lost : {T : Type 0} (before after : List Event) (id : ℕ) (xs ys : List (Seat D)) (r : Result T WorldFault) → IsQuiet plan before after → length before < MOST_EVENTS → Powered f [] (id ∷ []) xs ys → (fault_in r ≡ None → MOST_EVENTS ≤ length after)
-      → SeatsPower f plan before after xs ys r
-  seats_lost before after id xs ys r quiet room p full = power_besides f plan (ids_on xs) before after (disks_on xs) (disks_on ys) (fault_in r) id [] quiet room (inl refl) p.burns p.cuts (λ none. (refl, full none))
+      → SeatsPower f plan (id ∷ []) before after xs ys r
+  seats_lost before after id xs ys r quiet room p full = besides_of f plan (ids_on xs) before after (disks_on xs) (disks_on ys) (fault_in r) id [] quiet room (inl refl) p.burns p.cuts (λ none. (refl, full none))
 
   -- at a fault
-  pub seats_may_lose : {T : Type 0} (Q : WorldFault → Type 0) (before after : List Event) (id : ℕ) (xs ys : List (Seat D)) (r : Result T WorldFault) → after ≡ before → length before < MOST_EVENTS → MayLosePower f id xs ys → IsErrAnd r Q → SeatsPower f plan before after xs ys r
-  seats_may_lose Q before after id xs ys r same room (inl none) refused = seats_still before after xs ys r same none
+  pub seats_may_lose : {T : Type 0} (Q : WorldFault → Type 0) (before after : List Event) (id : ℕ) (xs ys : List (Seat D)) (r : Result T WorldFault) → after ≡ before → length before < MOST_EVENTS → MayLosePower f id xs ys → IsErrAnd r Q → SeatsPower f plan (id ∷ []) before after xs ys r
+  seats_may_lose Q before after id xs ys r same room (inl none) refused = seats_still (id ∷ []) before after xs ys r same none
   seats_may_lose Q before after id xs ys r same room (inr (true, p)) refused =
       seats_lost before after id xs ys r (subst (IsQuiet plan before) (sym same) (quiet_same plan before)) room p (λ none. absurd (is_stopped Q r refused none))
   seats_may_lose Q before after id xs ys r same room (inr (false, p)) refused =
-      power_besides f plan (ids_on xs) before after (disks_on xs) (disks_on ys) (fault_in r) id (id ∷ []) (subst (IsQuiet plan before) (sym same) (quiet_same plan before)) room (inr refl) p.burns p.cuts
+      besides_of f plan (ids_on xs) before after (disks_on xs) (disks_on ys) (fault_in r) id (id ∷ []) (subst (IsQuiet plan before) (sym same) (quiet_same plan before)) room (inr refl) p.burns p.cuts
       (λ none. absurd (is_stopped Q r refused none))
-
-  -- a fault is a fault
-  pub seats_stopped : {T : Type 0} (Q : WorldFault → Type 0) (before after : List Event) (xs ys : List (Seat D)) (fault : Option WorldFault) (r : Result T WorldFault) → HavePower f plan before after fault (ids_on xs) (disks_on xs) (disks_on ys) → IsErrAnd r Q
-      → SeatsPower f plan before after xs ys r
-  seats_stopped Q before after xs ys fault r p refused = record {
-    burned = p.burned;
-    cut = p.cut;
-    burned_besides = p.burned_besides;
-    cut_besides = p.cut_besides;
-    fuses = p.fuses;
-    powers = p.powers;
-    burns = p.burns;
-    cuts = p.cuts;
-    one = p.one;
-    fewer = p.fewer;
-    whole = λ none. absurd (is_stopped Q r refused none);
-    later = p.later;
-    full = p.full;
-  }
-
-  pub seats_then : {T : Type 0} (a b c : List Event) (xs ys zs : List (Seat D)) (r : Result T WorldFault) → ids_at ys ≡ ids_at xs → SeatsPower {T = Unit {0}} f plan a b xs ys (Ok tt) → SeatsPower f plan b c ys zs r → SeatsPower f plan a c xs zs r
-  seats_then a b c xs ys zs r same first next =
-      power_then f plan (ids_on xs) a b c (disks_on xs) (disks_on ys) (disks_on zs) (fault_in r) first
-      (subst (λ (ids : List ℕ). HavePower f plan b c (fault_in r) ids (disks_on ys) (disks_on zs)) (ap (filter_map (λ o. o)) same) next)
 
   -- a step was done, and then the power was cut: a crash, if there was room for it
   pub seats_done : (before mid after : List Event) (s : PeerStep) (id : ℕ) (xs ys : List (Seat D)) → mid ≡ before ++ events.Step s ∷ [] → after ≡ kept mid (events.Crash id) → length before < MOST_EVENTS → Powered f [] (id ∷ []) xs ys
-      → SeatsPower {T = Unit {0}} f plan before after xs ys (Ok tt)
+      → SeatsPower {T = Unit {0}} f plan (id ∷ []) before after xs ys (Ok tt)
   seats_done before mid after s id xs ys step crash room p = by_room (nat_lt (length mid) MOST_EVENTS) refl crash
     where
       quiet : IsQuiet plan before mid
       quiet = subst (IsQuiet plan before) (sym step) (quiet_step plan before s)
 
-      by_room : (b : Bool) → nat_lt (length mid) MOST_EVENTS ≡ b → after ≡ cond b (mid ++ events.Crash id ∷ []) mid → SeatsPower {T = Unit {0}} f plan before after xs ys (Ok tt)
+      by_room : (b : Bool) → nat_lt (length mid) MOST_EVENTS ≡ b → after ≡ cond b (mid ++ events.Crash id ∷ []) mid → SeatsPower {T = Unit {0}} f plan (id ∷ []) before after xs ys (Ok tt)
       by_room true more is =
-          seats_then {T = Unit {0}} before mid after xs xs ys (Ok tt) refl (seats_quiet {T = Unit {0}} before mid xs xs (Ok tt) quiet (power_still f xs xs refl))
-          (seats_event {T = Unit {0}} mid after (events.Crash id) xs ys (Ok tt) is (ltb-true (length mid) MOST_EVENTS more) p)
+          seats_then (id ∷ []) {T = Unit {0}} before mid after xs xs ys (Ok tt) refl (seats_quiet (id ∷ []) {T = Unit {0}} before mid xs xs (Ok tt) quiet (power_still f xs xs refl))
+          (seats_event (id ∷ []) {T = Unit {0}} mid after (events.Crash id) xs ys (Ok tt) is (ltb-true (length mid) MOST_EVENTS more) p)
       by_room false full is =
           seats_lost {T = Unit {0}} before after id xs ys (Ok tt) (subst (IsQuiet plan before) (sym is) quiet) room p
           (λ none. subst (λ h. MOST_EVENTS ≤ length h) (sym is) (ltb-false (length mid) MOST_EVENTS full))
 
   -- a step was cut off
-  pub seats_cut : (before after : List Event) (s : PeerStep) (is_kept : Bool) (id : ℕ) (xs ys : List (Seat D)) → after ≡ before ++ events.Cut s is_kept ∷ [] → length before < MOST_EVENTS → id ≡ taker_of (world plan before).bag s → Powered f (id ∷ []) (id ∷ []) xs ys
-      → SeatsPower {T = Unit {0}} f plan before after xs ys (Ok tt)
-  seats_cut before after s is_kept id xs ys more room taker p = seats_event {T = Unit {0}} before after (events.Cut s is_kept) xs ys (Ok tt) more room (subst (λ (n : ℕ). Powered f (n ∷ []) (n ∷ []) xs ys) taker p)
+  pub seats_cut : (who : List ℕ) (before after : List Event) (s : PeerStep) (is_kept : Bool) (id : ℕ) (xs ys : List (Seat D)) → after ≡ before ++ events.Cut s is_kept ∷ [] → length before < MOST_EVENTS → id ≡ taker_of (world plan before).bag s → Powered f (id ∷ []) (id ∷ []) xs ys
+      → SeatsPower {T = Unit {0}} f plan who before after xs ys (Ok tt)
+  seats_cut who before after s is_kept id xs ys more room taker p =
+      seats_event who {T = Unit {0}} before after (events.Cut s is_kept) xs ys (Ok tt) more room (subst (λ (n : ℕ). Powered f (n ∷ []) (n ∷ []) xs ys) taker p)
 
 -- The hosts' numbers and disks are those of the honest peers.
 
@@ -166,9 +174,9 @@ named (p ∷ ps) = elim (cases_Bool p.corrupt) [
   | inr good ↦ rw good (ap (λ (ids : List ℕ). p.id ∷ ids) (named ps))
 ]
 
-pub honest_power : {D : Type 0} (f : Face D) (plan : Plan) (before after : List Event) (fault : Option WorldFault) (peers : List PeerPlan) (xs ys : List (Seat D)) (rest : List D) → AreSeats peers xs → ids_at ys ≡ ids_at xs
-    → HavePower f plan before after fault (ids_on xs) (disks_on xs) (disks_on ys) → HavePower f plan before after fault (honest_ids peers) (honest_disks peers (disks_at xs ++ rest)) (honest_disks peers (disks_at ys ++ rest))
-honest_power f plan before after fault peers xs ys rest are same p =
-    subst (λ ds. HavePower f plan before after fault (honest_ids peers) (honest_disks peers (disks_at xs ++ rest)) ds) (sym (honest_back peers ys rest (same ∙ are)))
-    (subst (λ ds. HavePower f plan before after fault (honest_ids peers) ds (disks_on ys)) (sym (honest_back peers xs rest are))
-    (subst (λ (ids : List ℕ). HavePower f plan before after fault ids (disks_on xs) (disks_on ys)) (ap (filter_map (λ o. o)) are ∙ named peers) p))
+pub honest_power : {D : Type 0} (f : Face D) (plan : Plan) (who : List ℕ) (before after : List Event) (fault : Option WorldFault) (peers : List PeerPlan) (xs ys : List (Seat D)) (rest : List D) → AreSeats peers xs → ids_at ys ≡ ids_at xs
+    → HavePowerOf f plan who before after fault (ids_on xs) (disks_on xs) (disks_on ys) → HavePowerOf f plan who before after fault (honest_ids peers) (honest_disks peers (disks_at xs ++ rest)) (honest_disks peers (disks_at ys ++ rest))
+honest_power f plan who before after fault peers xs ys rest are same p =
+    subst (λ ds. HavePowerOf f plan who before after fault (honest_ids peers) (honest_disks peers (disks_at xs ++ rest)) ds) (sym (honest_back peers ys rest (same ∙ are)))
+    (subst (λ ds. HavePowerOf f plan who before after fault (honest_ids peers) ds (disks_on ys)) (sym (honest_back peers xs rest are))
+    (subst (λ (ids : List ℕ). HavePowerOf f plan who before after fault ids (disks_on xs) (disks_on ys)) (ap (filter_map (λ o. o)) are ∙ named peers) p))

@@ -18,7 +18,7 @@ use Rattle.lks_world.specs.Counts.{honest_ids}
 use Rattle.lks_world.specs.Disks.{honest_disks}
 use Rattle.lks_world.specs.Follows.{lost, spoken}
 use Rattle.lks_world.specs.Kept.{kept}
-use Rattle.lks_world.specs.Powers.{burns_by, cuts_by, burns_from, cuts_from, burns_in, cuts_in, HavePower, IsQuiet, Power, power_of, raised_at, raised_each}
+use Rattle.lks_world.specs.Powers.{burns_by, cuts_by, burns_from, cuts_from, burns_in, cuts_in, HavePower, HavePowerOf, IsQuiet, Power, power_of, raised_at, raised_each}
 use Rattle.lks_world.specs.declared.faults.WorldFault.{WorldFault}
 
 -- Counts that rise.
@@ -153,53 +153,78 @@ module _ {D : Type 0} (f : Face D) (plan : Plan) (ids : List ℕ) where
     full = λ full. absurd (omega (arith, full, room));
   }
 
-  -- events after events
-  pub power_then : (a b c : List Event) (xs ys zs : List D) (fault : Option WorldFault) → HavePower f plan a b None ids xs ys → HavePower f plan b c fault ids ys zs → HavePower f plan a c fault ids xs zs
-  power_then a b c xs ys zs fault first next = ⊎_elim none_besides at_the_end (first.whole refl).1
-    where
-      none_besides : first.cut_besides ≡ [] → HavePower f plan a c fault ids xs zs
-      none_besides none = record {
-        burned = first.burned ++ next.burned;
-        cut = first.cut ++ next.cut;
-        burned_besides = next.burned_besides;
-        cut_besides = next.cut_besides;
-        fuses = next.fuses ∙ ap (λ (l : List ℕ). l ++ next.burned) first.fuses ∙ append_assoc (burns_in plan a) first.burned next.burned;
-        powers = next.powers ∙ ap (λ (l : List ℕ). l ++ next.cut) first.powers ∙ append_assoc (cuts_in plan a) first.cut next.cut;
-        burns = raised_then first.burned first.burned_besides next.burned next.burned_besides ids (map f.burns xs) (map f.burns ys) (map f.burns zs) (first.whole refl).0 first.burns next.burns;
-        cuts = raised_then first.cut first.cut_besides next.cut next.cut_besides ids (map f.cuts xs) (map f.cuts ys) (map f.cuts zs) none first.cuts next.cuts;
-        one = next.one;
-        fewer = next.fewer;
-        whole = next.whole;
-        later = omega (arith, first.later, next.later);
-        full = λ full.
-            let now = first.full full in
-            let then = next.full (omega (arith, full, first.later)) in (
-              (λ i. now.0 i ++ then.0 i),
-              (λ i. now.1 i ++ then.1 i),
-              then.2,
-            );
-      }
+  -- events after events: no power was cut besides in the first ones, or these filled the history, so that nothing followed
+  module _ (a b c : List Event) (xs ys zs : List D) (fault : Option WorldFault) (first : HavePower f plan a b None ids xs ys) (next : HavePower f plan b c fault ids ys zs) where
+    none_besides : first.cut_besides ≡ [] → HavePower f plan a c fault ids xs zs
+    none_besides none = record {
+      burned = first.burned ++ next.burned;
+      cut = first.cut ++ next.cut;
+      burned_besides = next.burned_besides;
+      cut_besides = next.cut_besides;
+      fuses = next.fuses ∙ ap (λ (l : List ℕ). l ++ next.burned) first.fuses ∙ append_assoc (burns_in plan a) first.burned next.burned;
+      powers = next.powers ∙ ap (λ (l : List ℕ). l ++ next.cut) first.powers ∙ append_assoc (cuts_in plan a) first.cut next.cut;
+      burns = raised_then first.burned first.burned_besides next.burned next.burned_besides ids (map f.burns xs) (map f.burns ys) (map f.burns zs) (first.whole refl).0 first.burns next.burns;
+      cuts = raised_then first.cut first.cut_besides next.cut next.cut_besides ids (map f.cuts xs) (map f.cuts ys) (map f.cuts zs) none first.cuts next.cuts;
+      one = next.one;
+      fewer = next.fewer;
+      whole = next.whole;
+      later = omega (arith, first.later, next.later);
+      full = λ full.
+          let now = first.full full in
+          let then = next.full (omega (arith, full, first.later)) in (
+            (λ i. now.0 i ++ then.0 i),
+            (λ i. now.1 i ++ then.1 i),
+            then.2,
+          );
+    }
 
-      -- the history was full, so nothing followed
-      at_the_end : MOST_EVENTS ≤ length b → HavePower f plan a c fault ids xs zs
-      at_the_end end =
-          let none = next.full end in
-          let nor : next.burned_besides ≡ [] = ⊎_elim (λ is. is) (λ is. is ∙ none.2) next.fewer in
-          record {
-            burned = first.burned;
-            cut = first.cut;
-            burned_besides = first.burned_besides;
-            cut_besides = first.cut_besides;
-            fuses = next.fuses ∙ (λ i. first.fuses i ++ none.0 i) ∙ append-nil (burns_in plan a ++ first.burned);
-            powers = next.powers ∙ (λ i. first.powers i ++ none.1 i) ∙ append-nil (cuts_in plan a ++ first.cut);
-            burns = raised_still next.burned next.burned_besides ids (map f.burns ys) (map f.burns zs) none.0 nor next.burns ∙ first.burns;
-            cuts = raised_still next.cut next.cut_besides ids (map f.cuts ys) (map f.cuts zs) none.1 none.2 next.cuts ∙ first.cuts;
-            one = first.one;
-            fewer = first.fewer;
-            whole = λ is. ((first.whole refl).0, inr (omega (arith, end, next.later)));
-            later = omega (arith, first.later, next.later);
-            full = first.full;
-          }
+    at_the_end : MOST_EVENTS ≤ length b → HavePower f plan a c fault ids xs zs
+    at_the_end end =
+        let none = next.full end in
+        let nor : next.burned_besides ≡ [] = ⊎_elim (λ is. is) (λ is. is ∙ none.2) next.fewer in
+        record {
+          burned = first.burned;
+          cut = first.cut;
+          burned_besides = first.burned_besides;
+          cut_besides = first.cut_besides;
+          fuses = next.fuses ∙ (λ i. first.fuses i ++ none.0 i) ∙ append-nil (burns_in plan a ++ first.burned);
+          powers = next.powers ∙ (λ i. first.powers i ++ none.1 i) ∙ append-nil (cuts_in plan a ++ first.cut);
+          burns = raised_still next.burned next.burned_besides ids (map f.burns ys) (map f.burns zs) none.0 nor next.burns ∙ first.burns;
+          cuts = raised_still next.cut next.cut_besides ids (map f.cuts ys) (map f.cuts zs) none.1 none.2 next.cuts ∙ first.cuts;
+          one = first.one;
+          fewer = first.fewer;
+          whole = λ is. ((first.whole refl).0, inr (omega (arith, end, next.later)));
+          later = omega (arith, first.later, next.later);
+          full = first.full;
+        }
+
+    pub power_then : HavePower f plan a c fault ids xs zs
+    power_then = ⊎_elim none_besides at_the_end (first.whole refl).1
+
+  -- The same with whose power was cut besides.
+
+  module _ (who : List ℕ) where
+    pub quiet_of : (before after : List Event) (disks now : List D) (fault : Option WorldFault) → IsQuiet plan before after → map f.burns now ≡ map f.burns disks → map f.cuts now ≡ map f.cuts disks
+        → HavePowerOf f plan who before after fault ids disks now
+    unfolding power_quiet
+    quiet_of before after disks now fault quiet burns cuts = record { power = power_quiet before after disks now fault quiet burns cuts; whose = inl refl }
+
+    pub event_of_power : (history : List Event) (e : Event) (disks now : List D) (fault : Option WorldFault) → length history < MOST_EVENTS → map f.burns now ≡ raised_each (burns_by (world plan history) e) ids (map f.burns disks)
+        → map f.cuts now ≡ raised_each (cuts_by (world plan history) e) ids (map f.cuts disks) → HavePowerOf f plan who history (history ++ e ∷ []) fault ids disks now
+    unfolding power_event
+    event_of_power history e disks now fault room burns cuts = record { power = power_event history e disks now fault room burns cuts; whose = inl refl }
+
+    pub then_of : (a b c : List Event) (xs ys zs : List D) (fault : Option WorldFault) → HavePowerOf f plan who a b None ids xs ys → HavePowerOf f plan who b c fault ids ys zs → HavePowerOf f plan who a c fault ids xs zs
+    unfolding none_besides at_the_end
+    then_of a b c xs ys zs fault first next =
+        ⊎_elim (λ none. record { power = none_besides a b c xs ys zs fault first.power next.power none; whose = next.whose })
+        (λ end. record { power = at_the_end a b c xs ys zs fault first.power next.power end; whose = first.whose }) (first.power.whole refl).1
+
+  pub besides_of : (before after : List Event) (disks now : List D) (fault : Option WorldFault) (id : ℕ) (burned : List ℕ) → IsQuiet plan before after → length before < MOST_EVENTS → (burned ≡ []) ⊎ (burned ≡ id ∷ [])
+      → map f.burns now ≡ raised_each burned ids (map f.burns disks) → map f.cuts now ≡ raised_each (id ∷ []) ids (map f.cuts disks) → (fault ≡ None → (burned ≡ []) × (MOST_EVENTS ≤ length after))
+      → HavePowerOf f plan (id ∷ []) before after fault ids disks now
+  unfolding power_besides
+  besides_of before after disks now fault id burned quiet room fewer burns cuts whole = record { power = power_besides before after disks now fault id burned quiet room fewer burns cuts whole; whose = inr refl }
 
 -- What is told of the power of all disks is told of those of honest peers.
 

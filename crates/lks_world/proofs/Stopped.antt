@@ -1,5 +1,5 @@
 -- What a judge and bells heard at a fault.
-use Rattle.std.proofs.Common.{◌≡◌, ◌∙◌, ap, sym, subst, List, [], ◌++◌, refl}
+use Rattle.std.proofs.Common.{◌≡◌, ◌⊎◌, ◌∙◌, inl, inr, ap, sym, subst, List, [], ◌∷◌, ◌++◌, append_assoc, refl}
 use Rattle.std.specs.Prelude.{Option, Some, None, Result, Ok, Err, OnErr, map}
 use Rattle.std.specs.Option.{option_to_list}
 use Rattle.std.proofs.lemmas.List.{append-nil}
@@ -9,10 +9,10 @@ use Rattle.lks_base.specs.declared.plans.Plan.{Plan}
 use Rattle.lks_disk.specs.Face.{Face}
 use Rattle.lks_law.specs.Questions.{question_on, questions}
 use Rattle.lks_watch.proofs.Going.{watches_same}
-use Rattle.lks_watch.specs.Watching.{AsksOn, Ears, Watches, Watching, seen_by}
+use Rattle.lks_watch.specs.Watching.{AsksOn, Ears, Watches, WatchesBy, Watching, seen_by}
 use Rattle.lks_watch.specs.declared.watches.Watch.{Watch}
 use Rattle.lks_world.proofs.Fallen.{left_still}
-use Rattle.lks_world.specs.Follows.{IsUpTo}
+use Rattle.lks_world.specs.Follows.{IsUpTo, first_step}
 use Rattle.lks_world.specs.States.{AreLeft, events_in, events_of, world_in, IsStateOf}
 use Rattle.lks_world.specs.Stopping.{HasStopped}
 use Rattle.lks_world.specs.Watched.{Stops, StopsBy, asked_next}
@@ -47,6 +47,21 @@ module _ (plan : Plan) where
   unfolding stops_there
   stops_still before after w same = subst (λ h. Stops plan before h None w w) (sym same) (stops_there before before w w (watches_same plan before w))
 
+still_begun : (rest more : List Event) (next : Option PeerStep) → next ≡ first_step rest → (next ≡ None) ⊎ (next ≡ first_step (rest ++ more))
+still_begun [] more next is = inl is
+still_begun (e ∷ es) more next is = inr is
+
+up_to_more : (P Q : List Event → Type 0) (history : List Event) (next : Option PeerStep) → ((whole : List Event) → P whole → (more : List Event) × Q (whole ++ more)) → IsUpTo P history next → IsUpTo Q history next
+up_to_more P Q history next on up =
+    let more = on up.whole up.is in
+    record {
+      whole = up.whole ++ more.0;
+      is = more.1;
+      rest = up.rest ++ more.0;
+      front = ap (λ es. es ++ more.0) up.front ∙ append_assoc history up.rest more.0;
+      begun = elim up.begun [ inl none ↦ inl none | inr is ↦ still_begun up.rest more.0 next is ];
+    }
+
 module _ {D J B : Type 0} (f : Face D) (e : Ears J B) (plan : Plan) where
   -- a step was begun that is no event
   pub stops_in : (s : State D) (after : List Event) (p : PeerStep) (x y z : Watch J B) → IsStateOf f plan s → after ≡ events_in s → AsksOn e (world_in f s) p x y → z ≡ y → StopsBy e plan (events_in s) after (Some p) x z
@@ -78,3 +93,16 @@ module _ {D J B : Type 0} (f : Face D) (e : Ears J B) (plan : Plan) where
   pub stopped_in : (P : List Event → Type 0) (before : List Event) (s t : State D) (p : PeerStep) (x z : Watch J B) → IsUpTo P (events_in s) (Some p) → events_in t ≡ events_in s
       → StopsBy e plan before (events_in t) (Some p) x z → AreLeft f plan (Some p) t → HasStopped f e plan P before x t z
   stopped_in P before s t p x z up_to same stops left = record { next = Some p; up_to = subst (λ h. IsUpTo P h (Some p)) (sym same) up_to; stops = stops; left = left }
+
+  -- on the way to a history, and so to one that goes on from it
+  pub stopped_on : (P Q : List Event → Type 0) (before : List Event) (t : State D) (x z : Watch J B) → ((whole : List Event) → P whole → (more : List Event) × Q (whole ++ more)) → HasStopped f e plan P before x t z → HasStopped f e plan Q before x t z
+  stopped_on P Q before t x z on stopped = record { next = stopped.next; up_to = up_to_more P Q (events_in t) stopped.next on stopped.up_to; stops = stopped.stops; left = stopped.left }
+
+  -- after what was done before
+  pub stopped_then : (P : List Event → Type 0) (before mid : List Event) (t : State D) (x y z : Watch J B) → WatchesBy e plan before mid x y → HasStopped f e plan P mid y t z → HasStopped f e plan P before x t z
+  stopped_then P before mid t x y z watched stopped = record {
+    next = stopped.next;
+    up_to = stopped.up_to;
+    stops = stops_then plan before mid (events_in t) stopped.next (seen_by e x) (seen_by e y) (seen_by e z) watched stopped.stops;
+    left = stopped.left;
+  }

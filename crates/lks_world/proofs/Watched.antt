@@ -1,6 +1,6 @@
 -- A judge and bells watch the world of a state.
 use Rattle.std.proofs.Common.{◌≡◌, ◌<◌, ◌∙◌, ap, sym, subst, ℕ, Bool, true, false, cond, List, [], ◌∷◌, ◌++◌, length, refl, arith}
-use Rattle.std.specs.Prelude.{Option, Some, None, Result, Ok, Err, OnOk, map, filter, is_some, nat_lt}
+use Rattle.std.specs.Prelude.{Option, Some, None, Result, Ok, Err, OnOk, map, filter, is_some, nat_lt, option_map, slice_get}
 use Rattle.std.specs.List.{cons_option, filter_map, flat_map, range_with_len}
 use Rattle.std.specs.Option.{option_map_or, option_to_list}
 use Rattle.std.proofs.lemmas.List.{map-append}
@@ -39,6 +39,7 @@ use Rattle.lks_watch.proofs.Going.{few_questions, watches_same, watches_event, a
 use Rattle.lks_watch.proofs.Noted.{noted}
 use Rattle.lks_watch.specs.Watching.{Watching, Ears, Asks, Rings, Watches, WatchesBy, AsksOn, seen_by}
 use Rattle.lks_watch.specs.declared.watches.Watch.{Watch}
+use Rattle.lks_world.specs.Cuts.{due_cut}
 use Rattle.lks_world.specs.Endings.{PeersEnd, event_for, notes_for}
 use Rattle.lks_world.specs.Follows.{lost, spoken}
 use Rattle.lks_world.specs.Hosts.{peers_of}
@@ -137,9 +138,19 @@ pub step_asks : (plan : Plan) (w : World) (given : Step) (s : PeerStep) → give
 unfolding is_step_of
 step_asks plan w given s is legal = own_asks plan w s (ap (is_step_of plan) (sym is) ∙ legal)
 
-pub cut_asks : (plan : Plan) (w : World) (given : CutStep) (s : PeerStep) → given ≡ cut.Peer s → is_cut_step plan given ≡ true → question_on w s ≡ None
-unfolding is_cut_step
-cut_asks plan w given s is legal = own_asks plan w s (ap (is_cut_step plan) (sym is) ∙ legal)
+pub cut_asks : (plan : Plan) (w : World) (history : List Event) (given : CutStep) → is_cut_step plan given ≡ true → (d : Due) → due_cut plan history given ≡ Some d → OwnAsksNothing w d
+unfolding is_cut_step due_cut
+cut_asks plan w history cut.Next legal d is = by_first (slice_get (pending plan history) 0) is
+  where
+    by_first : (o : Option ℕ) → option_map Delivery o ≡ Some d → OwnAsksNothing w d
+    by_first None is = absurd cc
+    by_first (Some i) is = let same : Delivery i ≡ d = cc in subst (OwnAsksNothing w) same tt
+cut_asks plan w history (cut.Again i) legal d is = by_sent (nat_lt i (length (world plan history).bag)) is
+  where
+    by_sent : (b : Bool) → cond b (Some (Delivery i)) None ≡ Some d → OwnAsksNothing w d
+    by_sent true is = let same : Delivery i ≡ d = cc in subst (OwnAsksNothing w) same tt
+    by_sent false is = absurd cc
+cut_asks plan w history (cut.Peer s) legal d is = let same : Own s ≡ d = cc in subst (OwnAsksNothing w) same (own_asks plan w s legal)
 
 pub ok_both : {T F : Type 0} (P Q : Type 0) (r : Result T F) → OnOk r P → OnOk r Q → OnOk r (P × Q)
 ok_both P Q (Ok x) p q = (p, q)

@@ -1,6 +1,8 @@
 -- Steps that are cut off: which ones, and what becomes of them.
 use Rattle.std.specs.Prelude.{◌≡◌, ◌≤◌, ◌<◌, ◌⊎◌, ℕ, Bool, false, nat_lt, if◌then◌else◌, Option, Some, None, List, [], length, slice_get, option_map}
 use Rattle.lks_base.specs.Steps.{Act, act_of}
+use Rattle.lks_base.specs.declared.events.Due.{Due}
+use Rattle.lks_base.specs.declared.events.Due.TheVariants.{Delivery, Own}
 use Rattle.lks_base.specs.declared.events.Envelope.{Envelope}
 use Rattle.lks_base.specs.declared.events.Event.{Event}
 use Rattle.lks_base.specs.declared.events.Event.TheVariants as events
@@ -23,15 +25,20 @@ taker_of bag s = taker_in (act_of s) where
   taker_in (Act.Own peer) = peer
   taker_in (Act.Delivery envelope judged) = receiver_of (slice_get bag envelope)
 
--- the delivery of envelope i, with what the judge says
-abbrev pub delivery_now : Verdicts → Plan → List Event → ℕ → PeerStep
-delivery_now verdict plan history i = Deliver i (judged verdict (questions plan history) (question_at (world plan history) i))
+-- What a line cuts off. It is nothing where no envelope waits, or where the one that is named wasn't sent.
+unfoldable pub due_cut : Plan → List Event → CutStep → Option Due
+due_cut plan history cut.Next = option_map Delivery (slice_get (pending plan history) 0)
+due_cut plan history (cut.Again i) = if nat_lt i (length (world plan history).bag) then Some (Delivery i) else None
+due_cut plan history (cut.Peer s) = Some (Own s)
 
--- The step that a line cuts off. There is none where no envelope waits, or where the one that is named wasn't sent.
+-- the step of what is due: a delivery has what the judge says
+abbrev pub step_due : Verdicts → Plan → List Event → Due → PeerStep
+step_due verdict plan history (Delivery i) = Deliver i (judged verdict (questions plan history) (question_at (world plan history) i))
+step_due verdict plan history (Own s) = s
+
+-- the step that a line cuts off
 unfoldable pub step_cut : Verdicts → Plan → List Event → CutStep → Option PeerStep
-step_cut verdict plan history cut.Next = option_map (delivery_now verdict plan history) (slice_get (pending plan history) 0)
-step_cut verdict plan history (cut.Again i) = if nat_lt i (length (world plan history).bag) then Some (delivery_now verdict plan history i) else None
-step_cut verdict plan history (cut.Peer s) = Some s
+step_cut verdict plan history given = option_map (step_due verdict plan history) (due_cut plan history given)
 
 -- The step is cut off. It is kept or lost as a whole, and lost where fewer than two calls of the disk were made.
 pub record IsCutOff (history : List Event) (calls : ℕ) (s : PeerStep) (after : List Event) : Type 0 where

@@ -2,6 +2,7 @@ pub mod Begun
 pub mod Counts
 pub mod Cuts
 pub mod Disks
+pub mod Doable
 pub mod Endings
 pub mod Follows
 pub mod Held
@@ -9,6 +10,7 @@ pub mod Hosts
 pub mod Kept
 pub mod Powers
 pub mod Seats
+pub mod Spending
 pub mod States
 pub mod Stopping
 pub mod Unsafe

@@ -87,3 +87,8 @@ pub record HavePower {D : Type 0} (f : Face D) (plan : Plan) (before after : Lis
   pub whole : fault ≡ None → (burned_besides ≡ []) × ((cut_besides ≡ []) ⊎ (MOST_EVENTS ≤ length after))
   pub later : length before ≤ length after
   pub full : MOST_EVENTS ≤ length before → (burned ≡ []) × (cut ≡ []) × (cut_besides ≡ [])
+
+-- The same where the power that was cut besides, if any was, is that of these.
+pub record HavePowerOf {D : Type 0} (f : Face D) (plan : Plan) (who : List ℕ) (before after : List Event) (fault : Option WorldFault) (ids : List ℕ) (disks now : List D) : Type 0 where
+  pub power : HavePower f plan before after fault ids disks now
+  pub whose : (power.cut_besides ≡ []) ⊎ (power.cut_besides ≡ who)

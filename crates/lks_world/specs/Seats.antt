@@ -16,7 +16,7 @@ use Rattle.lks_world.specs.Counts.{fault_in, honest_ids, HasBurned, ServesHonest
 use Rattle.lks_world.specs.Cuts.{taker_of, FallsShort}
 use Rattle.lks_world.specs.Disks.{honest_disks}
 use Rattle.lks_world.specs.Hosts.{journal_in, peer_in, peers_of, with_added, disk_in, disks_of}
-use Rattle.lks_world.specs.Powers.{HavePower, raised_at, raised_each}
+use Rattle.lks_world.specs.Powers.{HavePowerOf, raised_at, raised_each}
 use Rattle.lks_world.specs.declared.faults.WorldFault.{WorldFault}
 use Rattle.lks_world.specs.declared.seats.Seat.{Seat}
 use Rattle.lks_world.specs.declared.seats.Seat.TheVariants as seat
@@ -91,9 +91,9 @@ pub record Powered {D : Type 0} (f : Face D) (burned cut : List ℕ) (before aft
   pub burns : map f.burns (disks_on after) ≡ raised_each burned (ids_on before) (map f.burns (disks_on before))
   pub cuts : map f.cuts (disks_on after) ≡ raised_each cut (ids_on before) (map f.cuts (disks_on before))
 
--- while these events went on to those, the disks of the hosts counted the fuses and the cuts
-abbrev pub SeatsPower : {D T : Type 0} → Face D → Plan → List Event → List Event → List (Seat D) → List (Seat D) → Result T WorldFault → Type 0
-SeatsPower f plan before after seats now result = HavePower f plan before after (fault_in result) (ids_on seats) (disks_on seats) (disks_on now)
+-- while these events went on to those, the disks of the hosts counted the fuses and the cuts, and besides at most one of these
+abbrev pub SeatsPower : {D T : Type 0} → Face D → Plan → List ℕ → List Event → List Event → List (Seat D) → List (Seat D) → Result T WorldFault → Type 0
+SeatsPower f plan who before after seats now result = HavePowerOf f plan who before after (fault_in result) (ids_on seats) (disks_on seats) (disks_on now)
 
 -- a fuse of so many calls and this choice burned on the disk of this peer
 abbrev pub BurnsAt : {D : Type 0} → Face D → ℕ → ℕ → ℕ → List (Seat D) → List (Seat D) → Type 0

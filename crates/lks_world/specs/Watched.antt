@@ -19,11 +19,6 @@ abbrev pub OwnAsksNothing : World → Due → Type 0
 OwnAsksNothing w (Delivery i) = Unit {0}
 OwnAsksNothing w (Own s) = question_on w s ≡ None
 
--- the judge was asked what a step asks, if there is one
-abbrev pub AsksIf : {J B : Type 0} → Ears J B → World → Option PeerStep → Watch J B → Watch J B → Type 0
-AsksIf e w None old new = new ≡ old
-AsksIf e w (Some s) old new = AsksOn e w s old new
-
 -- what a step that was begun asks, if one was
 abbrev pub asked_next : World → Option PeerStep → List Question
 asked_next w None = []

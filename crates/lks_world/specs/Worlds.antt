@@ -1,5 +1,5 @@
 -- What a world keeps.
-use Rattle.std.specs.Prelude.{◌≡◌, ◌≤◌, ◌+◌, ℕ, Option, None, IfSome, List, [], ◌++◌, length, reverse, vec_len, vec_capacity, Result, OnOk}
+use Rattle.std.specs.Prelude.{◌≡◌, ◌≤◌, ◌+◌, Option, None, List, [], ◌++◌, length, reverse, vec_len, vec_capacity, Result}
 use Rattle.lks_disk.specs.Face.{Face}
 use Rattle.lks_base.specs.Checking.{plan_fault}
 use Rattle.lks_base.specs.declared.events.Event.{Event}
@@ -8,17 +8,13 @@ use Rattle.lks_law.specs.Entries.{entries}
 use Rattle.lks_effort.specs.declared.questions.Question.{Question}
 use Rattle.lks_law.specs.Histories.{IsHistory}
 use Rattle.lks_law.specs.Questions.{Verdicts, questions}
-use Rattle.lks_script.specs.declared.steps.CutStep.{CutStep}
 use Rattle.lks_script.specs.declared.steps.Step.{Step}
-use Rattle.lks_script.specs.declared.steps.Step.TheVariants as step
 use Rattle.lks_watch.specs.Watching.{Ears, Watches, watching}
-use Rattle.lks_world.specs.Counts.{fault_in, honest_ids, BurnsInStep}
-use Rattle.lks_world.specs.Cuts.{step_cut}
-use Rattle.lks_world.specs.Disks.{honest_disks}
+use Rattle.lks_world.specs.Counts.{fault_in}
 use Rattle.lks_world.specs.Follows.{Performs}
 use Rattle.lks_world.specs.Held.{AreUnfused}
-use Rattle.lks_world.specs.Powers.{HavePower}
 use Rattle.lks_world.specs.Seats.{disks_at, AreSeats}
+use Rattle.lks_world.specs.Spending.{Spends}
 use Rattle.lks_world.specs.States.{events_in, IsStateOf}
 use Rattle.lks_world.specs.declared.faults.WorldFault.{WorldFault}
 use Rattle.lks_world.specs.declared.worlds.World.TheInside.{Inside}
@@ -69,14 +65,6 @@ pub record PerformsIn {D J B : Type 0} (e : Ears J B) (s : Step) (old new : Seen
   pub performs : Performs (e.verdict old.judge) old.plan old.history s new.history
   pub watches : Watches old.plan old.history new.history (watching e old.judge old.bells) (watching e new.judge new.bells)
 
--- the honest peers' disks counted the fuses that burned and the cuts of the power, while a world became this one
-abbrev pub CountsPower : {D J B : Type 0} → Face D → Seen D J B → Seen D J B → Option WorldFault → Type 0
-CountsPower f old new fault =
-    HavePower f old.plan old.history new.history fault (honest_ids old.plan.peers) (honest_disks old.plan.peers old.disks) (honest_disks old.plan.peers new.disks)
-
--- What a step costs the honest peers of power: their disks counted the fuses that burned and the cuts of the power in the new
--- events. Where it is a line that cuts a step off, the fuse was one of the line's calls and choice.
-pub record SpendsPower {D J B T : Type 0} (f : Face D) (verdict : J → Verdicts) (s : Step) (old new : Seen D J B) (result : Result T WorldFault) : Type 0 where
-  pub counted : CountsPower f old new (fault_in result)
-  pub burned : (calls choice : ℕ) (given : CutStep) → s ≡ step.Cut calls choice given
-      → OnOk result (IfSome (step_cut (verdict old.judge) old.plan old.history given) (BurnsInStep f old.plan old.history calls choice old.disks new.disks))
+-- what a step costs the honest peers of power
+abbrev pub SpendsPower : {D J B T : Type 0} → Face D → (J → Verdicts) → Step → Seen D J B → Seen D J B → Result T WorldFault → Type 0
+SpendsPower f verdict s old new result = Spends f (verdict old.judge) old.plan s old.history new.history (fault_in result) old.disks new.disks

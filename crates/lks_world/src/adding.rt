@@ -1,25 +1,30 @@
 //! One event more, unless the history is full.
 
-ghost use Rattle.std.specs.Prelude.{◌≡◌, ◌≤◌, ◌<◌, ◌-◌, ◌++◌, ◌∷◌, [], ℕ, true, None, Some, OnOk, OnErr, length, get_or};
+ghost use Rattle.std.specs.Prelude.{◌≡◌, ◌≤◌, ◌<◌, ◌-◌, ◌++◌, ◌∷◌, [], ℕ, true, Some, IfSome, OnOk, OnErr, List, length, get_or};
 ghost use Rattle.lks_base.specs.Checking.{has_corrupt, has_peer};
 ghost use Rattle.lks_base.specs.declared.events.Event.TheVariants as events;
 ghost use Rattle.lks_base.specs.declared.limits.TheConstants.{MOST_FORGED_BYTES, MOST_TICKS};
 ghost use Rattle.lks_base.specs.declared.plans.Plan.{Plan};
+ghost use Rattle.lks_law.specs.Facts.{IsHeard};
 ghost use Rattle.lks_law.specs.Histories.{IsHonest, MayStep, WasSent};
-ghost use Rattle.lks_law.specs.Questions.{question_on};
+ghost use Rattle.lks_law.specs.Questions.{event_of};
+ghost use Rattle.lks_law.specs.World.{deed_of};
 ghost use Rattle.lks_watch.specs.Watching.{ears, AsksOn, WatchesBy};
 ghost use Rattle.lks_watch.specs.declared.watches.Watch.{Watch};
+ghost use Rattle.lks_world.specs.Doable.{IsDoable};
 ghost use Rattle.lks_world.specs.Kept.{kept};
 ghost use Rattle.lks_world.specs.Seats.{Counted, SeatsPower};
 ghost use Rattle.lks_world.specs.Stopping.{HasStopped};
 ghost use Rattle.lks_world.specs.Watched.{StopsBy};
 ghost use Rattle.lks_world.specs.States.{IsStateOf, AreLeft, Becomes, Extends, events_in, world_in};
 
+use crate::deeds::Deed;
 use crate::faults::WorldFault;
 use crate::other_events::{crash, forge, lose, tick};
+use crate::settling::step_of;
 use crate::states::{State, step};
 use lks_alarm::Bell;
-use lks_base::{Bytes, MOST_EVENTS, OutOfMemory, PeerId, PeerStep};
+use lks_base::{Bytes, Due, MOST_EVENTS, OutOfMemory, PeerId, PeerStep};
 use lks_disk::CrashDisk;
 use lks_effort::EffortJudge;
 use lks_watch::Watch;
@@ -33,16 +38,19 @@ pub fn room<D: CrashDisk>(state: &State<'_, D>) -> usize
     (MOST_EVENTS as usize).saturating_sub(state.history.as_slice().len())
 }
 
-/// One step of a peer, where there is room for its event and the judge was asked what it asks.
+/// One step of a peer, which is this to it, where there is room for its event and the judge was asked what it asks.
 pub fn take_step<R: Wait, D: CrashDisk, J: EffortJudge, B: Bell>(
     alloc: Global,
     rt: &R,
     state: &mut State<'_, D>,
     watch: &mut Watch<J, B>,
     s: PeerStep,
+    deed: &Option<Deed>,
 ) -> Result<(), WorldFault>
     requires room { 0 < MOST_EVENTS - length state.old.history.items }
     requires state { (plan : Plan) × IsStateOf D.face plan state.old }
+    requires deed { deed.now ≡ deed_of state.old.bag.items s }
+    requires heard { IfSome deed.now (λ d. IsHeard d.input) }
     ensures becomes { (plan : Plan) → IsStateOf D.face plan state.old → MayStep plan (world_in D.face state.old) s →
         OnOk result (Becomes D.face plan (events_in state.old ++ events.Step s ∷ []) state.new) }
     ensures extends { (plan : Plan) → IsStateOf D.face plan state.old → MayStep plan (world_in D.face state.old) s →
@@ -54,34 +62,60 @@ pub fn take_step<R: Wait, D: CrashDisk, J: EffortJudge, B: Bell>(
     ensures fallen { (plan : Plan) → IsStateOf D.face plan state.old → OnErr result (AreLeft D.face plan (Some s) state.new) }
     ensures err { OnErr result (state.new.history.items ≡ state.old.history.items) }
     ensures counted { Counted D.face state.old.seats.items state.new.seats.items result }
-    ensures power { (plan : Plan) → SeatsPower D.face plan (events_in state.old) (events_in state.new) state.old.seats.items state.new.seats.items result }
+    ensures power { (plan : Plan) (who : List ℕ) → SeatsPower D.face plan who (events_in state.old) (events_in state.new) state.old.seats.items state.new.seats.items result }
 {
-    step(alloc, rt, state, watch, s)?;
+    step(alloc, rt, state, watch, s, deed)?;
     Ok(())
 }
 
-/// One step of a peer that asks nothing.
-pub fn add_step<R: Wait, D: CrashDisk, J: EffortJudge, B: Bell>(
+/// Does what is due, once the judge was asked what it asks, where there is room for its event.
+pub fn do_due<R: Wait, D: CrashDisk, J: EffortJudge, B: Bell>(
     alloc: Global,
     rt: &R,
     state: &mut State<'_, D>,
     watch: &mut Watch<J, B>,
-    s: PeerStep,
+    due: Due,
 ) -> Result<(), WorldFault>
-    requires { (plan : Plan) × IsStateOf D.face plan state.old }
-    ensures becomes { (plan : Plan) → IsStateOf D.face plan state.old → MayStep plan (world_in D.face state.old) s →
-        OnOk result (Becomes D.face plan (kept (events_in state.old) (events.Step s)) state.new) }
-    ensures extends { (plan : Plan) → IsStateOf D.face plan state.old → MayStep plan (world_in D.face state.old) s →
-        Extends plan state.old.history.items state.new.history.items }
-    ensures watches { (plan : Plan) → IsStateOf D.face plan state.old → question_on (world_in D.face state.old) s ≡ None →
+    requires room { 0 < MOST_EVENTS - length state.old.history.items }
+    requires state { (plan : Plan) × IsDoable D.face J.heard plan state.old watch.old due }
+    ensures becomes { (plan : Plan) → IsDoable D.face J.heard plan state.old watch.old due →
+        OnOk result (Becomes D.face plan (events_in state.old ++ event_of (J.verdict watch.old.judge) plan (events_in state.old) due ∷ []) state.new) }
+    ensures watches { (plan : Plan) → IsDoable D.face J.heard plan state.old watch.old due →
         OnOk result (WatchesBy (ears J.heard J.verdict B.rung B.limit) plan (events_in state.old) (events_in state.new) watch.old watch.new) }
-    ensures stops { (plan : Plan) → IsStateOf D.face plan state.old → question_on (world_in D.face state.old) s ≡ None →
-        OnErr result (HasStopped D.face (ears J.heard J.verdict B.rung B.limit) plan (λ after. after ≡ kept (events_in state.old) (events.Step s)) (events_in state.old) watch.old state.new watch.new) }
+    ensures stops { (plan : Plan) → IsDoable D.face J.heard plan state.old watch.old due →
+        OnErr result (HasStopped D.face (ears J.heard J.verdict B.rung B.limit) plan (λ after. after ≡ events_in state.old ++ event_of (J.verdict watch.old.judge) plan (events_in state.old) due ∷ []) (events_in state.old) watch.old state.new watch.new) }
+    ensures extends { (plan : Plan) → IsDoable D.face J.heard plan state.old watch.old due →
+        Extends plan state.old.history.items state.new.history.items }
+    ensures err { OnErr result (state.new.history.items ≡ state.old.history.items) }
     ensures counted { Counted D.face state.old.seats.items state.new.seats.items result }
-    ensures power { (plan : Plan) → SeatsPower D.face plan (events_in state.old) (events_in state.new) state.old.seats.items state.new.seats.items result }
+    ensures power { (plan : Plan) (who : List ℕ) → SeatsPower D.face plan who (events_in state.old) (events_in state.new) state.old.seats.items state.new.seats.items result }
+{
+    let (s, deed) = step_of(alloc, state, watch, due)?;
+    take_step(alloc, rt, state, watch, s, &deed)
+}
+
+/// The same unless the history is full.
+pub fn add_due<R: Wait, D: CrashDisk, J: EffortJudge, B: Bell>(
+    alloc: Global,
+    rt: &R,
+    state: &mut State<'_, D>,
+    watch: &mut Watch<J, B>,
+    due: Due,
+) -> Result<(), WorldFault>
+    requires { (plan : Plan) × IsDoable D.face J.heard plan state.old watch.old due }
+    ensures becomes { (plan : Plan) → IsDoable D.face J.heard plan state.old watch.old due →
+        OnOk result (Becomes D.face plan (kept (events_in state.old) (event_of (J.verdict watch.old.judge) plan (events_in state.old) due)) state.new) }
+    ensures watches { (plan : Plan) → IsDoable D.face J.heard plan state.old watch.old due →
+        OnOk result (WatchesBy (ears J.heard J.verdict B.rung B.limit) plan (events_in state.old) (events_in state.new) watch.old watch.new) }
+    ensures stops { (plan : Plan) → IsDoable D.face J.heard plan state.old watch.old due →
+        OnErr result (HasStopped D.face (ears J.heard J.verdict B.rung B.limit) plan (λ after. after ≡ kept (events_in state.old) (event_of (J.verdict watch.old.judge) plan (events_in state.old) due)) (events_in state.old) watch.old state.new watch.new) }
+    ensures extends { (plan : Plan) → IsDoable D.face J.heard plan state.old watch.old due →
+        Extends plan state.old.history.items state.new.history.items }
+    ensures counted { Counted D.face state.old.seats.items state.new.seats.items result }
+    ensures power { (plan : Plan) (who : List ℕ) → SeatsPower D.face plan who (events_in state.old) (events_in state.new) state.old.seats.items state.new.seats.items result }
 {
     if room(state) > 0 {
-        take_step(alloc, rt, state, watch, s)?;
+        do_due(alloc, rt, state, watch, due)?;
     }
     Ok(())
 }

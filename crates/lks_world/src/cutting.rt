@@ -15,28 +15,29 @@ ghost use Rattle.lks_law.specs.Histories.{IsHonest, MayStep};
 ghost use Rattle.lks_law.specs.Questions.{questions};
 ghost use Rattle.lks_law.specs.Table.{reaction};
 ghost use Rattle.lks_law.specs.Turning.{has_inner_in};
-ghost use Rattle.lks_law.specs.World.{peer_at, peers_after};
+ghost use Rattle.lks_law.specs.World.{deed_of, peer_at, peers_after, world};
 ghost use Rattle.lks_script.specs.StepRules.{is_cut_step};
 ghost use Rattle.lks_watch.specs.Watching.{ears, AsksOn, WatchesBy};
 ghost use Rattle.lks_watch.specs.declared.watches.Watch.{Watch};
-ghost use Rattle.lks_world.specs.Cuts.{taker_of, step_cut, Cuts, CutsOff};
+ghost use Rattle.lks_world.specs.Cuts.{taker_of, due_cut, step_cut, Cuts, CutsOff};
 ghost use Rattle.lks_world.specs.Endings.{answer_to, AreMade, BurnsFor, BurnsUnless, CanTake, HasEnded, HostEnds, PeersEnd, PowerEnds, SeatsBurnFor, ending_of, event_for, is_whole, notes_for, sends_for};
 ghost use Rattle.lks_world.specs.Hosts.{peer_in, peers_of, IsReady, AreReady, GoesOn, HaveGoneOn, HaveFallen, HasActed, LosesPower};
 ghost use Rattle.lks_world.specs.Kept.{kept};
 ghost use Rattle.lks_world.specs.Seats.{hosts_of, Counted, Powered, SeatsBurn, SeatsPower};
 ghost use Rattle.lks_world.specs.States.{events_in, world_in, IsStateOf, AreLeft, Becomes, Extends};
+ghost use Rattle.lks_world.specs.Spending.{cut_of};
 ghost use Rattle.lks_world.specs.Stopping.{HasStopped};
-ghost use Rattle.lks_world.specs.Watched.{AsksIf, StopsBy};
+ghost use Rattle.lks_world.specs.Watched.{StopsBy};
 
 use crate::adding::{add_crash, room, take_step};
-use crate::deeds::{Deed, make_deed, taker};
+use crate::deeds::{Deed, taker};
 use crate::faults::{WorldFault, blame};
 use crate::other_events;
 use crate::seats::{Seat, place_of};
-use crate::settling::{delivery, first_waiting, was_sent};
+use crate::settling::{first_waiting, step_of, was_sent};
 use crate::states::{Done, State, actor, note_step, nothing_done};
 use lks_alarm::Bell;
-use lks_base::{Event, Input, Note, OutOfMemory, PeerId, PeerStep, Plan, Reaction, Seq};
+use lks_base::{Due, Event, Input, Note, OutOfMemory, PeerId, PeerStep, Plan, Reaction, Seq};
 use lks_blocks::BlockPool;
 use lks_disk::{CrashDisk, Disk};
 use lks_effort::EffortJudge;
@@ -233,11 +234,14 @@ fn cut_there<R: Wait, D: CrashDisk, J: EffortJudge, B: Bell>(
     state: &mut State<'_, D>,
     watch: &mut Watch<J, B>,
     s: PeerStep,
+    deed: &Option<Deed>,
     power: Power,
 ) -> Result<bool, WorldFault>
     requires good { plan_fault plan.now ≡ None }
     requires state { IsStateOf D.face plan.now state.old }
     requires can { CanTake D.face plan.now state.old s }
+    requires deed { deed.now ≡ deed_of state.old.bag.items s }
+    requires heard { IfSome deed.now (λ d. IsHeard d.input) }
     ensures ended { IfOk result (HasEnded D.face plan.now power.calls state.old s state.new) }
     ensures err { OnErr result (state.new.history.items ≡ state.old.history.items) }
     ensures fallen { OnErr result (AreLeft D.face plan.now (Some s) state.new) }
@@ -250,7 +254,6 @@ fn cut_there<R: Wait, D: CrashDisk, J: EffortJudge, B: Bell>(
         OnErr result (StopsBy (ears J.heard J.verdict B.rung B.limit) plan.now (events_in state.old) (events_in state.new) (Some s) first watch.new) }
 {
     let id = taker(&state.bag, s);
-    let deed = make_deed(alloc, &state.bag, s)?;
     let ending = cut_at(
         alloc,
         rt,
@@ -259,12 +262,12 @@ fn cut_there<R: Wait, D: CrashDisk, J: EffortJudge, B: Bell>(
         &mut state.seats,
         state.tick,
         id,
-        &deed,
+        deed,
         power,
     )?;
     let whole = ending.whole();
     let (event, done) = told(alloc, s, ending);
-    note_step(state, watch, s, event, actor(&deed), done)?;
+    note_step(state, watch, s, event, actor(deed), done)?;
     Ok(whole)
 }
 
@@ -276,15 +279,18 @@ fn cut_off<R: Wait, D: CrashDisk, J: EffortJudge, B: Bell>(
     state: &mut State<'_, D>,
     watch: &mut Watch<J, B>,
     s: PeerStep,
+    deed: &Option<Deed>,
     power: Power,
 ) -> Result<(), WorldFault>
     requires good { plan_fault plan.now ≡ None }
     requires state { IsStateOf D.face plan.now state.old × (0 < MOST_EVENTS - length state.old.history.items) }
     requires may { MayStep plan.now (world_in D.face state.old) s }
+    requires deed { deed.now ≡ deed_of state.old.bag.items s }
+    requires heard { IfSome deed.now (λ d. IsHeard d.input) }
     ensures cuts { OnOk result (IsStateOf D.face plan.now state.new × Cuts plan.now (events_in state.old) power.calls s (events_in state.new)) }
     ensures extends { Extends plan.now state.old.history.items state.new.history.items }
     ensures counted { Counted D.face state.old.seats.items state.new.seats.items result }
-    ensures power { SeatsPower D.face plan.now (events_in state.old) (events_in state.new) state.old.seats.items state.new.seats.items result }
+    ensures power { SeatsPower D.face plan.now (taker_of (world plan.now (events_in state.old)).bag s ∷ []) (events_in state.old) (events_in state.new) state.old.seats.items state.new.seats.items result }
     ensures burns { OnOk result (SeatsBurn D.face plan.now (events_in state.old) power.calls power.choice state.old.seats.items state.new.seats.items s) }
     ensures watches { (first : Watch J B) → AsksOn (ears J.heard J.verdict B.rung B.limit) (world_in D.face state.old) s first watch.old →
         OnOk result (WatchesBy (ears J.heard J.verdict B.rung B.limit) plan.now (events_in state.old) (events_in state.new) first watch.new) }
@@ -293,40 +299,32 @@ fn cut_off<R: Wait, D: CrashDisk, J: EffortJudge, B: Bell>(
 {
     let id = taker(&state.bag, s);
     if place_of(&state.seats, id).is_none() {
-        return take_step(alloc, rt, state, watch, s);
+        return take_step(alloc, rt, state, watch, s, deed);
     }
-    if cut_there(alloc, rt, plan, state, watch, s, power)? {
+    if cut_there(alloc, rt, plan, state, watch, s, deed, power)? {
         add_crash(state, id)?;
     }
     Ok(())
 }
 
-/// The step that a line cuts off, if there is one, once the judge was asked what it asks.
-#[tactic(auto, unfolding(crate::specs::Cuts::step_cut))]
-fn find_step<D: CrashDisk, J: EffortJudge, B: Bell>(
-    alloc: Global,
-    state: &State<'_, D>,
-    watch: &mut Watch<J, B>,
-    step: CutStep,
-) -> Result<Option<PeerStep>, OutOfMemory>
-    requires { length (J.heard watch.old.judge) < MOST_EVENTS }
-    ensures step { (plan : Planned) → IsStateOf D.face plan state.now → J.heard watch.old.judge ≡ questions plan (events_in state.now) →
-        IfOk result (λ o. o ≡ step_cut (J.verdict watch.old.judge) plan (events_in state.now) step) }
-    ensures asks { (plan : Planned) → is_cut_step plan step ≡ true → IfOk result (λ o. AsksIf (ears J.heard J.verdict B.rung B.limit) (world_in D.face state.now) o watch.old watch.new) }
-    ensures err { OnErr result (watch.new ≡ watch.old) }
+/// What a line cuts off, if there is anything.
+#[tactic(auto, unfolding(crate::specs::Cuts::due_cut))]
+fn find_due<D: CrashDisk>(state: &State<'_, D>, step: CutStep) -> Option<Due>
+    ensures { (plan : Planned) → IsStateOf D.face plan state.now → result ≡ due_cut plan (events_in state.now) step }
 {
     match step {
         CutStep::Next => match first_waiting(state) {
-            Some(envelope) => Ok(Some(delivery(alloc, state, watch, envelope)?)),
-            None => Ok(None),
+            Some(envelope) => Some(Due::Delivery { envelope }),
+            None => None,
         },
         CutStep::Again { envelope } => {
-            if !was_sent(state, envelope) {
-                return Ok(None);
+            if was_sent(state, envelope) {
+                Some(Due::Delivery { envelope })
+            } else {
+                None
             }
-            Ok(Some(delivery(alloc, state, watch, envelope)?))
         }
-        CutStep::Peer(s) => Ok(Some(s)),
+        CutStep::Peer(s) => Some(Due::Own(s)),
     }
 }
 
@@ -349,14 +347,17 @@ pub fn cut<R: Wait, D: CrashDisk, J: EffortJudge, B: Bell>(
     ensures stops { OnErr result (HasStopped D.face (ears J.heard J.verdict B.rung B.limit) plan.now (CutsOff plan.now (events_in state.old) power.calls (step_cut (J.verdict watch.old.judge) plan.now (events_in state.old) step)) (events_in state.old) watch.old state.new watch.new) }
     ensures extends { Extends plan.now state.old.history.items state.new.history.items }
     ensures counted { Counted D.face state.old.seats.items state.new.seats.items result }
-    ensures power { SeatsPower D.face plan.now (events_in state.old) (events_in state.new) state.old.seats.items state.new.seats.items result }
+    ensures power { SeatsPower D.face plan.now (cut_of (J.verdict watch.old.judge) plan.now (events_in state.old) step) (events_in state.old) (events_in state.new) state.old.seats.items state.new.seats.items result }
     ensures burns { OnOk result (IfSome (step_cut (J.verdict watch.old.judge) plan.now (events_in state.old) step) (SeatsBurn D.face plan.now (events_in state.old) power.calls power.choice state.old.seats.items state.new.seats.items)) }
 {
     if room(state) == 0 {
         return Ok(());
     }
-    match find_step(alloc, state, watch, step)? {
-        Some(s) => cut_off(alloc, rt, plan, state, watch, s, power),
+    match find_due(state, step) {
+        Some(due) => {
+            let (s, deed) = step_of(alloc, state, watch, due)?;
+            cut_off(alloc, rt, plan, state, watch, s, &deed, power)
+        }
         None => Ok(()),
     }
 }
@@ -401,7 +402,7 @@ pub fn crash<R: Wait, D: CrashDisk>(
     ensures extends { Extends plan.now state.old.history.items state.new.history.items }
     ensures fallen { OnErr result (AreLeft D.face plan.now None state.new) }
     ensures counted { Counted D.face state.old.seats.items state.new.seats.items result }
-    ensures power { SeatsPower D.face plan.now (events_in state.old) (events_in state.new) state.old.seats.items state.new.seats.items result }
+    ensures power { SeatsPower D.face plan.now (peer ∷ []) (events_in state.old) (events_in state.new) state.old.seats.items state.new.seats.items result }
 {
     if room(state) == 0 {
         return Ok(());

@@ -4,12 +4,12 @@ ghost use Rattle.std.specs.Prelude.{◌≡◌, IfOk, IfSome, slice_get};
 ghost use Rattle.std.specs.Option.{option_copied};
 ghost use Rattle.lks_law.specs.Entries.{carried, sender_of, receiver_of};
 ghost use Rattle.lks_law.specs.Facts.{IsHeard};
-ghost use Rattle.lks_law.specs.World.{message_in, delivered, own_deed_of, deed_of};
-ghost use Rattle.lks_message.specs.Spelling.{IsWithin};
+ghost use Rattle.lks_inbox.specs.Received.{deed_by};
+ghost use Rattle.lks_law.specs.World.{delivered, own_deed_of, deed_of};
 ghost use Rattle.lks_world.specs.Cuts.{taker_of};
 
-use lks_base::{Envelope, Input, Judged, Message, OutOfMemory, PeerId, PeerStep};
-use lks_message::{MsgFault, decode};
+use lks_base::{Envelope, Input, Judged, OutOfMemory, PeerId, PeerStep};
+use lks_inbox::receive_judged;
 use std::alloc::Global;
 use std::marker::Model;
 
@@ -28,19 +28,19 @@ impl Model for Deed {
     ghost view = { λ a. record { peer = a.peer; input = a.input } };
 }
 
-/// The message that these bytes spell, if they spell one.
-fn read(alloc: Global, bytes: &[u8]) -> Result<Option<Message>, OutOfMemory>
-    ensures message { IfOk result (λ m. m ≡ message_in bytes.now) }
-    ensures within { IfOk result (λ m. IfSome m IsWithin) }
+/// What a peer does with an input, if it gets one.
+pub fn deed_to(peer: PeerId, input: Option<Input>) -> Option<Deed>
+    requires { IfSome input IsHeard }
+    ensures deed { result ≡ deed_by peer input }
+    ensures heard { IfSome result (λ d. IsHeard d.input) }
 {
-    match decode(alloc, bytes) {
-        Ok(message) => Ok(Some(message)),
-        Err(MsgFault::Memory) => Err(OutOfMemory),
-        Err(_) => Ok(None),
+    match input {
+        Some(input) => Some(Deed { peer, input }),
+        None => None,
     }
 }
 
-fn delivery(
+fn delivered(
     alloc: Global,
     bag: &[Envelope],
     envelope: u32,
@@ -49,20 +49,13 @@ fn delivery(
     ensures deed { IfOk result (λ d. d ≡ delivered (slice_get bag.now envelope) judged) }
     ensures heard { IfOk result (λ d. IfSome d (λ d. IsHeard d.input)) }
 {
-    let Some(e) = bag.get(envelope as usize) else {
-        return Ok(None);
-    };
-    let Some(message) = read(alloc, e.bytes.as_slice())? else {
-        return Ok(None);
-    };
-    Ok(Some(Deed {
-        peer: e.to,
-        input: Input::Got {
-            from: e.from,
-            message,
-            judged,
-        },
-    }))
+    match bag.get(envelope as usize) {
+        Some(e) => {
+            let input = receive_judged(alloc, e.from, e.bytes.as_slice(), judged)?;
+            Ok(deed_to(e.to, input))
+        }
+        None => Ok(None),
+    }
 }
 
 /// A step other than a delivery.
@@ -106,7 +99,7 @@ pub fn make_deed(alloc: Global, bag: &[Envelope], s: PeerStep) -> Result<Option<
     ensures heard { IfOk result (λ d. IfSome d (λ d. IsHeard d.input)) }
 {
     match s {
-        PeerStep::Deliver { envelope, judged } => delivery(alloc, bag, envelope, judged),
+        PeerStep::Deliver { envelope, judged } => delivered(alloc, bag, envelope, judged),
         s => Ok(make_own_deed(s)),
     }
 }

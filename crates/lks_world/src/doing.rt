@@ -1,6 +1,6 @@
 //! What a step of a script does to the state of a world.
 
-ghost use Rattle.std.specs.Prelude.{◌≡◌, ℕ, true, None, OnOk, OnErr, IfSome};
+ghost use Rattle.std.specs.Prelude.{◌≡◌, ℕ, List, true, None, OnOk, OnErr, IfSome};
 ghost use Rattle.lks_base.specs.Checking.{plan_fault};
 ghost use Rattle.lks_base.specs.declared.plans.Plan.{Plan as Planned};
 ghost use Rattle.lks_law.specs.Questions.{Verdicts, questions};
@@ -12,18 +12,18 @@ ghost use Rattle.lks_world.specs.Follows.{done, lost, delivered_again, next_even
 ghost use Rattle.lks_script.specs.declared.steps.CutStep.{CutStep};
 ghost use Rattle.lks_world.specs.Cuts.{step_cut};
 ghost use Rattle.lks_world.specs.Seats.{Counted, SeatsBurn, SeatsPower};
+ghost use Rattle.lks_world.specs.Spending.{loser_of};
 ghost use Rattle.lks_world.specs.Stopping.{HasStopped};
 ghost use Rattle.lks_world.specs.States.{IsStateOf, Becomes, Extends, events_in, next_of, AreLeft};
 ghost use Rattle.lks_world.specs.Powers.{IsQuiet};
-ghost use Rattle.lks_world.specs.Watched.{StopsBy};
 
-use crate::adding::{add_forgery, add_loss, add_step, add_ticks, room, take_step};
+use crate::adding::{add_due, add_forgery, add_loss, add_ticks, do_due, room};
 use crate::cutting::{Power, crash, cut};
 use crate::faults::WorldFault;
-use crate::settling::{Course, delivery, first_waiting, next, step_of, was_sent};
+use crate::settling::{Course, first_waiting, next, was_sent};
 use crate::states::State;
 use lks_alarm::Bell;
-use lks_base::{MOST_EVENTS, OutOfMemory, Plan, Seq};
+use lks_base::{Due, MOST_EVENTS, OutOfMemory, Plan, Seq};
 use lks_disk::CrashDisk;
 use lks_effort::EffortJudge;
 use lks_message::encode;
@@ -52,13 +52,12 @@ fn go_on<R: Wait, D: CrashDisk, J: EffortJudge, B: Bell>(
     ensures extends { (plan : Planned) → IsStateOf D.face plan state.old → J.heard watch.old.judge ≡ questions plan (events_in state.old) →
         Extends plan state.old.history.items state.new.history.items }
     ensures counted { Counted D.face state.old.seats.items state.new.seats.items result }
-    ensures power { (plan : Planned) → SeatsPower D.face plan (events_in state.old) (events_in state.new) state.old.seats.items state.new.seats.items result }
+    ensures power { (plan : Planned) (who : List ℕ) → SeatsPower D.face plan who (events_in state.old) (events_in state.new) state.old.seats.items state.new.seats.items result }
 {
     for turn in 0..times.min(room(state)) {
         match next(state, course) {
             Some(due) => {
-                let s = step_of(alloc, state, watch, due)?;
-                take_step(alloc, rt, state, watch, s)?;
+                do_due(alloc, rt, state, watch, due)?;
             }
             None => return Ok(()),
         }
@@ -98,16 +97,12 @@ fn deliver_again<R: Wait, D: CrashDisk, J: EffortJudge, B: Bell>(
     ensures extends { (plan : Planned) → IsStateOf D.face plan state.old → J.heard watch.old.judge ≡ questions plan (events_in state.old) →
         Extends plan state.old.history.items state.new.history.items }
     ensures counted { Counted D.face state.old.seats.items state.new.seats.items result }
-    ensures power { (plan : Planned) → SeatsPower D.face plan (events_in state.old) (events_in state.new) state.old.seats.items state.new.seats.items result }
+    ensures power { (plan : Planned) (who : List ℕ) → SeatsPower D.face plan who (events_in state.old) (events_in state.new) state.old.seats.items state.new.seats.items result }
 {
-    if room(state) == 0 {
-        return Ok(());
-    }
     if !was_sent(state, envelope) {
         return Ok(());
     }
-    let s = delivery(alloc, state, watch, envelope)?;
-    take_step(alloc, rt, state, watch, s)
+    add_due(alloc, rt, state, watch, Due::Delivery { envelope })
 }
 
 /// What a corrupt peer says is what it forges.
@@ -172,12 +167,12 @@ pub fn do_step<R: Wait, D: CrashDisk, J: EffortJudge, B: Bell>(
     ensures stops { OnErr result (HasStopped D.face (ears J.heard J.verdict B.rung B.limit) plan.now (Performs (J.verdict watch.old.judge) plan.now (events_in state.old) step.now) (events_in state.old) watch.old state.new watch.new) }
     ensures extends { Extends plan.now state.old.history.items state.new.history.items }
     ensures counted { Counted D.face state.old.seats.items state.new.seats.items result }
-    ensures power { SeatsPower D.face plan.now (events_in state.old) (events_in state.new) state.old.seats.items state.new.seats.items result }
+    ensures power { SeatsPower D.face plan.now (loser_of (J.verdict watch.old.judge) plan.now (events_in state.old) step.now) (events_in state.old) (events_in state.new) state.old.seats.items state.new.seats.items result }
     ensures burns { (calls choice : ℕ) (given : CutStep) → step.now ≡ Step.Cut calls choice given →
         OnOk result (IfSome (step_cut (J.verdict watch.old.judge) plan.now (events_in state.old) given) (SeatsBurn D.face plan.now (events_in state.old) calls choice state.old.seats.items state.new.seats.items)) }
 {
     match step {
-        Step::Peer(s) => add_step(alloc, rt, state, watch, *s),
+        Step::Peer(s) => add_due(alloc, rt, state, watch, Due::Own(*s)),
         Step::Tick { by } => Ok(add_ticks(state, *by)?),
         Step::Next { times } => {
             let times = *times as usize;

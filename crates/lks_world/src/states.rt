@@ -9,14 +9,14 @@ ghost use Rattle.lks_host.specs.Hosted.{StandsFor};
 ghost use Rattle.lks_law.specs.Alarms.{alarms_by, alarm_noted};
 ghost use Rattle.lks_law.specs.Batches.{with_batch};
 ghost use Rattle.lks_law.specs.Entries.{carried, entry_for, notes_at, notes_of, entry_of};
-ghost use Rattle.lks_law.specs.World.{Standing, reaction_at, with_records, peer_at, sent_by, actor_of, effect_of, peers_after, happens};
+ghost use Rattle.lks_law.specs.World.{Standing, deed_of, reaction_at, with_records, peer_at, sent_by, actor_of, effect_of, peers_after, happens};
 ghost use Rattle.lks_law.specs.Facts.{IsHeard};
 ghost use Rattle.lks_watch.specs.Watching.{ears, Hears};
 ghost use Rattle.lks_world.specs.Hosts.{peer_in, peers_of, IsReady, AreReady, GoesOn, HaveGoneOn, HaveFallen, HasActed, KeepsPower, with_added};
 ghost use Rattle.lks_world.specs.Seats.{hosts_of, Counted, Powered};
 ghost use Rattle.lks_world.specs.States.{left_after, world_in, sends_in, HasNoted};
 
-use crate::deeds::{Deed, ends_of, make_deed};
+use crate::deeds::{Deed, ends_of};
 use crate::faults::{WorldFault, blame};
 use crate::seats::{Seat, place_of};
 use lks_alarm::Bell;
@@ -161,18 +161,14 @@ fn send(
     bag: &mut Vec<Envelope>,
     pending: &mut Vec<u32>,
     from: PeerId,
-    sends: &[Outgoing],
+    sends: Seq<Outgoing>,
 ) -> Result<(), OutOfMemory>
-    ensures bag { OnOk result (bag.new.items ≡ bag.old.items ++ map (sent_by from) sends.now) }
-    ensures pending { OnOk result (pending.new.items ≡ pending.old.items ++ range_with_len (length bag.old.items) (length sends.now)) }
+    ensures bag { OnOk result (bag.new.items ≡ bag.old.items ++ map (sent_by from) sends) }
+    ensures pending { OnOk result (pending.new.items ≡ pending.old.items ++ range_with_len (length bag.old.items) (length sends)) }
 {
-    for outgoing in sends {
-        let envelope = Envelope {
-            from,
-            to: outgoing.to,
-            bytes: outgoing.bytes.clone()?,
-        };
-        put(bag, pending, envelope)?;
+    for outgoing in sends.into_vec() {
+        let Outgoing { to, bytes } = outgoing;
+        put(bag, pending, Envelope { from, to, bytes })?;
     }
     Ok(())
 }
@@ -236,7 +232,7 @@ pub fn note_step<D: CrashDisk, J: EffortJudge, B: Bell>(
         return Err(OutOfMemory);
     }
     take_out(&mut state.pending, s);
-    send(&mut state.bag, &mut state.pending, actor, sends.as_slice())?;
+    send(&mut state.bag, &mut state.pending, actor, sends)?;
     state.history.reserve(1)?;
     watch.hear(actor, state.tick, notes.as_slice());
     state.history.push_reserved(Entry {
@@ -249,8 +245,8 @@ pub fn note_step<D: CrashDisk, J: EffortJudge, B: Bell>(
     Ok(())
 }
 
-/// One step of a peer: its records are in its journal before its messages go into the bag and its alarms are raised. After
-/// want of memory the state is that of no history.
+/// One step of a peer, which is this to it: its records are in its journal before its messages go into the bag and its alarms
+/// are raised. After want of memory the state is that of no history.
 #[tactic(auto, unfolding(lks_law::specs::World::happens, lks_law::specs::World::after_step, lks_law::specs::Entries::entry_of, crate::specs::States::sends_in))]
 pub fn step<R: Wait, D: CrashDisk, J: EffortJudge, B: Bell>(
     alloc: Global,
@@ -258,8 +254,11 @@ pub fn step<R: Wait, D: CrashDisk, J: EffortJudge, B: Bell>(
     state: &mut State<'_, D>,
     watch: &mut Watch<J, B>,
     s: PeerStep,
+    deed: &Option<Deed>,
 ) -> Result<(), WorldFault>
     requires ready { AreReady D.face state.old.pool.now (hosts_of state.old.seats.items) }
+    requires deed { deed.now ≡ deed_of state.old.bag.items s }
+    requires heard { IfSome deed.now (λ d. IsHeard d.input) }
     ensures world { OnOk result (world_in D.face state.new ≡ happens (world_in D.face state.old) (events.Step s)) }
     ensures history { HasNoted (entry_of (world_in D.face state.old) (events.Step s)) state.old.history.items state.new.history.items result }
     ensures pending { OnOk result (state.new.pending.items ≡ left_after s state.old.pending.items ++ range_with_len (length state.old.bag.items) (sends_in (world_in D.face state.old) s)) }
@@ -269,8 +268,7 @@ pub fn step<R: Wait, D: CrashDisk, J: EffortJudge, B: Bell>(
     ensures pool { state.new.pool.now ≡ state.old.pool.now }
     ensures hears { Hears (ears J.heard J.verdict B.rung B.limit) (alarms_by (world_in D.face state.old) (events.Step s)) watch.old watch.new result }
 {
-    let deed = make_deed(alloc, &state.bag, s)?;
-    let done = do_deed(alloc, rt, state.pool, &mut state.seats, state.tick, &deed)?;
+    let done = do_deed(alloc, rt, state.pool, &mut state.seats, state.tick, deed)?;
     let event = Event::Step(s);
-    Ok(note_step(state, watch, s, event, actor(&deed), done)?)
+    Ok(note_step(state, watch, s, event, actor(deed), done)?)
 }

@@ -129,8 +129,8 @@ impl<'a, D: CrashDisk + Drop, J: EffortJudge, B: Bell> World<'a, D, J, B> {
         ensures front { (more : List Event) × (self.new.history ≡ self.old.history ++ more) }
         ensures stopped { self.new.stopped ≡ fault_in result }
         ensures disks { ServesHonest D.face self.old.plan.peers self.old.disks self.new.disks (fault_in result) }
-        // The honest peers' disks counted the fuses that burned and the cuts of their power in the new events. Where a step is cut off,
-        // the fuse is one of its calls and choice.
+        // The honest peers' disks counted the fuses that burned and the cuts of their power in the new events, and besides at most one
+        // cut, at a fault or a full history, of the peer whose power the step cuts. A fuse is one of its calls and choice.
         ensures power { SpendsPower D.face J.verdict step.now self.old self.new result }
     {
         let (plan, state, watch) = (&self.plan, &mut self.state, &mut self.watch);

@@ -28,7 +28,8 @@ use Rattle.lks_law.proofs.Happening.{no_events}
 use Rattle.lks_law.specs.World.{world}
 use Rattle.lks_world.specs.Watched.{asked_next}
 use Rattle.std.proofs.lemmas.List.{append-nil}
-use Rattle.lks_world.specs.Worlds.{Begins, CountsPower, Seen}
+use Rattle.lks_world.specs.Spending.{AreSpent, AreSpentUpTo}
+use Rattle.lks_world.specs.Worlds.{Begins, Seen}
 use Rattle.lks_base.specs.declared.events.Event.{Event}
 use Rattle.lks_base.specs.declared.events.PeerStep.{PeerStep}
 use Rattle.lks_command.specs.declared.commands.Command.{Command}
@@ -38,7 +39,7 @@ use Rattle.lks_outside.specs.declared.sinks.WriteStop.{WriteStop}
 use Rattle.lks_report.specs.Alarms.{has_any}
 use Rattle.lks_world.specs.declared.faults.WorldFault.{WorldFault}
 use Rattle.lockss.specs.Handed.{AreGiven, AreGivenFor, Devices, IsSilent, Senses}
-use Rattle.lockss.specs.Playing.{IsPlayed, IsStopped, PlaysIn}
+use Rattle.lockss.specs.Playing.{CountsPower, IsPlayed, IsStopped, PlaysIn}
 use Rattle.lockss.specs.Deeds.{deed_of}
 use Rattle.lockss.specs.Promise.{Halts, Kept, NeverBegins, Plays, PlaysTo, Tells}
 use Rattle.lockss.specs.declared.ends.Played.{Played}
@@ -137,6 +138,14 @@ module _ {D K J B : Type 0} (e : Senses D K J B) (command : Command) (s : Script
     held =
         subst (λ p. HaveBatches e.face p now.history after.disks) (kept ∙ begins.plan)
         (subst (HaveBatches e.face now.plan now.history) (sym disks_back) (holds played.running));
+    made = first.disks;
+    calm = calm ∙ ap (map (power_of e.face)) handed_is;
+    spent =
+        subst (λ ds. AreSpent e.face (e.ears.verdict now.judge) s.plan [] first.disks s.steps now.history ds) (sym disks_back)
+        (subst (λ v. AreSpent e.face v s.plan [] first.disks s.steps now.history now.disks) (sym played.watches.verdict)
+        (subst (λ ss. AreSpent e.face (e.ears.verdict first.judge) s.plan [] first.disks ss now.history now.disks) same
+        (subst (λ h. AreSpent e.face (e.ears.verdict first.judge) s.plan h first.disks steps now.history now.disks) begins.history
+        (subst (λ p. AreSpent e.face (e.ears.verdict first.judge) p first.history first.disks steps now.history now.disks) begins.plan played.spent))));
   }
 
   halted : (fault : WorldFault) → IsStopped e steps first now before.sink after.sink fault → Halts e (deed_of command) s before after fault
@@ -153,6 +162,14 @@ module _ {D K J B : Type 0} (e : Senses D K J B) (command : Command) (s : Script
             (subst (λ h. FollowsUpTo (e.ears.verdict first.judge) s.plan h steps now.history next) begins.history
             (subst (λ p. FollowsUpTo (e.ears.verdict first.judge) p first.history steps now.history next) begins.plan off.follows)));
         left = subst (λ p. HaveBatchesOrNext e.face p now.history next after.disks) begins.plan (subst (HaveBatchesOrNext e.face first.plan now.history next) (sym disks_back) off.left);
+        made = first.disks;
+        calm = calm ∙ ap (map (power_of e.face)) handed_is;
+        spent =
+            subst (λ ds. AreSpentUpTo e.face (e.ears.verdict now.judge) s.plan [] first.disks s.steps fault now.history ds) (sym disks_back)
+            (subst (λ v. AreSpentUpTo e.face v s.plan [] first.disks s.steps fault now.history now.disks) (sym off.stops.verdict)
+            (subst (λ ss. AreSpentUpTo e.face (e.ears.verdict first.judge) s.plan [] first.disks ss fault now.history now.disks) same
+            (subst (λ h. AreSpentUpTo e.face (e.ears.verdict first.judge) s.plan h first.disks steps fault now.history now.disks) begins.history
+            (subst (λ p. AreSpentUpTo e.face (e.ears.verdict first.judge) p first.history first.disks steps fault now.history now.disks) begins.plan stopped.spent))));
         silent = stopped.silent;
       }
 

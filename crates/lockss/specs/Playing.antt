@@ -8,17 +8,25 @@ use Rattle.lks_outside.specs.declared.sinks.WriteStop.{WriteStop}
 use Rattle.lks_report.specs.Alarms.{has_any}
 use Rattle.lks_script.specs.declared.steps.Step.{Step}
 use Rattle.lks_watch.specs.Watching.{Ears, Watches, watching}
-use Rattle.lks_world.specs.Counts.{ServesHonest}
+use Rattle.lks_world.specs.Counts.{ServesHonest, honest_ids}
+use Rattle.lks_world.specs.Disks.{honest_disks}
 use Rattle.lks_world.specs.Follows.{Follows, FollowsUpTo}
 use Rattle.lks_world.specs.Held.{HaveBatchesOrNext}
+use Rattle.lks_world.specs.Powers.{HavePower}
+use Rattle.lks_world.specs.Spending.{AreSpent, AreSpentUpTo}
 use Rattle.lks_world.specs.Watched.{Stops}
-use Rattle.lks_world.specs.Worlds.{Seen, CountsPower}
+use Rattle.lks_world.specs.Worlds.{Seen}
 use Rattle.lks_world.specs.declared.faults.WorldFault.{WorldFault}
 use Rattle.lockss.specs.Handed.{Senses}
 use Rattle.lockss.specs.Deeds.{deed_of}
 use Rattle.lockss.specs.Promise.{Tells}
 use Rattle.lockss.specs.declared.ends.Played.{Played}
 use Rattle.lockss.specs.declared.ends.Played.TheVariants.{Stopped, Told, Unmade}
+
+-- the honest peers' disks counted the fuses that burned and the cuts of the power, while a world became this one
+abbrev pub CountsPower : {D J B : Type 0} → Face D → Seen D J B → Seen D J B → Option WorldFault → Type 0
+CountsPower f old new fault =
+    HavePower f old.plan old.history new.history fault (honest_ids old.plan.peers) (honest_disks old.plan.peers old.disks) (honest_disks old.plan.peers new.disks)
 
 -- A world in which all steps were done, and of which all was told or less.
 pub record IsPlayed {D K J B : Type 0} (e : Senses D K J B) (command : Command) (steps : List Step) (first now : Seen D J B) (before after : K) (answer : Result Bool WriteStop) : Type 0 where
@@ -27,6 +35,7 @@ pub record IsPlayed {D K J B : Type 0} (e : Senses D K J B) (command : Command) 
   pub running : now.stopped ≡ None
   pub serves : ServesHonest e.face first.plan.peers first.disks now.disks None
   pub power : CountsPower e.face first now None
+  pub spent : AreSpent e.face (e.ears.verdict first.judge) first.plan first.history first.disks steps now.history now.disks
   pub told : Tells e ((deed_of command).told first.plan now.history) (has_any (alarms first.plan now.history)) before after answer
 
 -- Steps that were done up to a fault in one of them.
@@ -41,6 +50,7 @@ pub record IsStopped {D K J B : Type 0} (e : Senses D K J B) (steps : List Step)
   pub off : IsLeftOff e.face e.ears steps first now
   pub serves : ServesHonest e.face first.plan.peers first.disks now.disks (Some fault)
   pub power : CountsPower e.face first now (Some fault)
+  pub spent : AreSpentUpTo e.face (e.ears.verdict first.judge) first.plan first.history first.disks steps fault now.history now.disks
   pub silent : after ≡ before
 
 -- how far the steps were played in a world that was made

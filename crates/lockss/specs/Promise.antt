@@ -23,6 +23,7 @@ use Rattle.lks_world.specs.Disks.{honest_disks}
 use Rattle.lks_world.specs.Follows.{Follows, FollowsUpTo}
 use Rattle.lks_world.specs.Held.{HaveBatches, HaveBatchesOrNext, HaveBegunUpTo}
 use Rattle.lks_world.specs.Powers.{HavePower, power_of}
+use Rattle.lks_world.specs.Spending.{AreSpent, AreSpentUpTo}
 use Rattle.lks_world.specs.Watched.{asked_next}
 use Rattle.lks_world.specs.declared.faults.WorldFault.{WorldFault}
 use Rattle.lockss.specs.Codes.{status_of}
@@ -80,7 +81,8 @@ module _ {D K J B : Type 0} (e : Senses D K J B) (c : Deed) (s : Script) (before
     pub rung : seen e.ears.rung e.ears.limit after.bells ≡ left_of (alarms s.plan history) (map e.ears.limit before.bells)
 
   -- The script was played to its end: what happened follows its steps by the verdicts of the judge, and goes on as the command says.
-  -- Each honest peer's disk holds the batches of its journal, and so it does after every crash.
+  -- Each honest peer's disk holds the batches of its journal, and so it does after every crash. From the disks that the peers made
+  -- when they began, each line cost what it says: a step that it cuts off, a fuse of its calls and choice.
   pub record Plays : Type 0 where
     pub done : List Event
     pub history : List Event
@@ -88,16 +90,22 @@ module _ {D K J B : Type 0} (e : Senses D K J B) (c : Deed) (s : Script) (before
     pub follows : Follows (e.ears.verdict kept.last) s.plan [] s.steps done
     pub goes_on : c.goes_on (e.ears.verdict kept.last) s.plan done history
     pub held : HaveBatches e.face s.plan history after.disks
+    pub made : List D
+    pub calm : map (power_of e.face) made ≡ map (power_of e.face) before.disks
+    pub spent : AreSpent e.face (e.ears.verdict kept.last) s.plan [] made s.steps done after.disks
 
   -- A fault stopped it in one of its steps: what happened follows those before, and goes on to a front of what this one makes of it.
   -- A crash leaves of each honest peer's disk the batches of its journal; of the one whose step was begun these, or this step's too.
-  -- Nothing was written.
+  -- Each line before cost what it says, and this one at most one cut besides, of the power that it cuts. Nothing was written.
   pub record Halts (fault : WorldFault) : Type 0 where
     pub next : Option PeerStep
     pub history : List Event
     pub kept : Kept (Some fault) next history
     pub follows : FollowsUpTo (e.ears.verdict kept.last) s.plan [] s.steps history next
     pub left : HaveBatchesOrNext e.face s.plan history next after.disks
+    pub made : List D
+    pub calm : map (power_of e.face) made ≡ map (power_of e.face) before.disks
+    pub spent : AreSpentUpTo e.face (e.ears.verdict kept.last) s.plan [] made s.steps fault history after.disks
     pub silent : after.sink ≡ before.sink
 
   -- Or nothing happened, since the plan's peers didn't all begin. Of the honest ones' disks, those before one hold its deposits, of

@@ -1,6 +1,6 @@
 //! A script is played on disks, and what is told of its history is written.
 
-ghost use Rattle.std.specs.Prelude.{◌≡◌, ◌≤◌, ◌++◌, ℕ, List, true, Some, None, OnOk, OnErr, IsErrOf};
+ghost use Rattle.std.specs.Prelude.{◌≡◌, ◌≤◌, ◌++◌, ℕ, List, true, Some, None, IfErr, OnOk, OnErr, IsErrOf};
 ghost use Rattle.lks_base.specs.Checking.{plan_fault};
 ghost use Rattle.lks_base.specs.declared.events.Event.{Event};
 ghost use Rattle.lks_law.specs.Alarms.{alarms};
@@ -12,9 +12,9 @@ ghost use Rattle.lks_script.specs.StepRules.{are_steps_of};
 ghost use Rattle.lks_watch.specs.Watching.{ears, watching, Watches};
 ghost use Rattle.lks_world.specs.Counts.{fault_in, ServesHonest};
 ghost use Rattle.lks_world.specs.Follows.{Follows};
-ghost use Rattle.lks_world.specs.Worlds.{CountsPower};
+ghost use Rattle.lks_world.specs.Spending.{AreSpent, AreSpentUpTo};
 ghost use Rattle.lockss.specs.Handed.{devices, senses, AreGiven};
-ghost use Rattle.lockss.specs.Playing.{IsLeftOff, PlaysIn};
+ghost use Rattle.lockss.specs.Playing.{CountsPower, IsLeftOff, PlaysIn};
 ghost use Rattle.lockss.specs.Deeds.{deed_of};
 ghost use Rattle.lockss.specs.Promise.{PlaysTo, Tells};
 
@@ -47,6 +47,8 @@ fn perform_all<R: Wait, D: CrashDisk + Drop, J: EffortJudge, B: Bell>(
     ensures stopped { world.new.stopped ≡ fault_in result }
     ensures serves { ServesHonest D.face world.old.plan.peers world.old.disks world.new.disks (fault_in result) }
     ensures power { CountsPower D.face world.old world.new (fault_in result) }
+    ensures spent { OnOk result (AreSpent D.face (J.verdict world.old.judge) world.old.plan world.old.history world.old.disks steps.now world.new.history world.new.disks) }
+    ensures spent_up_to { IfErr result (λ fault. AreSpentUpTo D.face (J.verdict world.old.judge) world.old.plan world.old.history world.old.disks steps.now fault world.new.history world.new.disks) }
 {
     for step in steps {
         world.perform(rt, step)?;

@@ -44,13 +44,13 @@ returns-in_err-step-clause-fallen g c = λ plan is.
     err_then c.from_residual.result (left_by g.D.Disk.face plan c.args.state.now c.step.new.state is (ap events_of c.in_err-step.ensures.history) c.args.s c.in_err-step.ensures.fallen)
 
 pub returns-clause-power : goal.returns-clause-power
-returns-clause-power g c = λ plan.
+returns-clause-power g c = λ plan who.
     let s = c.args.state.now in
     let t = c.step.new.state in
-    seats_step g.D.Disk.face plan (events_in s) (events_in t) c.args.s s.seats.items t.seats.items (Ok (tt {0})) (more_events g.D.Disk.face s t (Step c.args.s) c.in_ok-step.ensures.history) c.in_ok-step.ensures.counted.1
+    seats_step g.D.Disk.face plan who (events_in s) (events_in t) c.args.s s.seats.items t.seats.items (Ok (tt {0})) (more_events g.D.Disk.face s t (Step c.args.s) c.in_ok-step.ensures.history) c.in_ok-step.ensures.counted.1
 
 pub returns-in_err-step-clause-power : goal.returns-in_err-step-clause-power
-returns-in_err-step-clause-power g c = λ plan.
+returns-in_err-step-clause-power g c = λ plan who.
     let s = c.args.state.now in
     let t = c.step.new.state in
-    seats_still g.D.Disk.face plan (events_in s) (events_in t) s.seats.items t.seats.items c.from_residual.result (ap events_of c.in_err-step.ensures.history) c.in_err-step.ensures.counted.1
+    seats_still g.D.Disk.face plan who (events_in s) (events_in t) s.seats.items t.seats.items c.from_residual.result (ap events_of c.in_err-step.ensures.history) c.in_err-step.ensures.counted.1

@@ -15,7 +15,7 @@ use Rattle.lks_world.proofs.Stopped.{err_then}
 use Rattle.lks_world.specs.States.{events_of}
 use Rattle.lks_world.specs.Hosts.{HaveFallen, peers_of}
 use Rattle.std.proofs.Common.{inl, refl}
-use Rattle.lks_world.proofs.PowerEnds.{is_stopped, seats_event, seats_lost}
+use Rattle.lks_world.proofs.PowerEnds.{is_stopped, power_still, seats_event, seats_lost, seats_still}
 use Rattle.lks_world.proofs.PowerLaws.{quiet_same}
 use Rattle.lks_world.proofs.Keeping.{kept_room}
 use Rattle.lks_world.specs.Powers.{IsQuiet}
@@ -91,5 +91,10 @@ returns-clause-power g c =
     let s = c.args.state.now in
     let t = c.crash.new.state in
     let room = room_left f s (omega (arith, c.room.ensures, c.if-room-eq0.false)) in
-    seats_event f plan (events_in s) (events_in t) (Crash c.args.peer) s.seats.items t.seats.items (Ok (tt {0})) ((returns-clause-becomes g c).events ∙ kept_room (events_in s) (Crash c.args.peer) room) room
+    seats_event f plan _ (events_in s) (events_in t) (Crash c.args.peer) s.seats.items t.seats.items (Ok (tt {0})) ((returns-clause-becomes g c).events ∙ kept_room (events_in s) (Crash c.args.peer) room) room
     (subst (λ (ss : List (Seat g.row.D.Denot)). Powered f [] (c.args.peer ∷ []) s.seats.items ss) (sym c.in_ok-crash.ensures.seats) c.in_ok-reopen.ensures.power)
+
+pub returns-then-room-eq0-clause-power : goal.returns-then-room-eq0-clause-power
+returns-then-room-eq0-clause-power g c =
+    let s = c.args.state.now in
+    seats_still g.D.Disk.face c.args.plan.now _ (events_in s) (events_in s) s.seats.items s.seats.items (Ok (tt {0})) refl (power_still g.D.Disk.face s.seats.items s.seats.items refl)

@@ -1,12 +1,14 @@
 use Rattle.std.proofs.Common.{◌≡◌, ◌∙◌, ap, sym, subst, refl, ℕ, true, [], ◌∷◌, List}
-use Rattle.std.specs.Prelude.{IsSome, MatchOption, Option, Some, None, Ok, Err, is_some}
+use Rattle.std.specs.Prelude.{IsSome, MatchOption, Option, Some, None, Result, Ok, Err, is_some}
 use Rattle.std.proofs.lemmas.Result.{err_from_is_err_and}
 use Rattle.lks_base.specs.declared.events.Envelope.{Envelope}
+use Rattle.lks_base.specs.declared.events.Event.{Event}
 use Rattle.lks_base.specs.declared.events.Event.TheVariants as events
+use Rattle.lks_base.specs.declared.plans.Plan.{Plan}
 use Rattle.lks_base.specs.declared.events.PeerStep.{PeerStep}
 use Rattle.lks_disk.specs.Face.{Face}
 use Rattle.lks_law.specs.Histories.{IsHonest}
-use Rattle.lks_law.specs.World.{peer_at}
+use Rattle.lks_law.specs.World.{peer_at, world}
 use Rattle.lks_watch.proofs.Going.{watches_then}
 use Rattle.lks_watch.specs.Watching.{Watches, ears, seen_by}
 use Rattle.lks_world.proofs.Ending.{counted_as, counted_still, cuts_alone, cuts_short, cuts_whole, no_short, nobody_there, not_short, on_ok, somebody_there, taker_honest}
@@ -17,8 +19,9 @@ use Rattle.lks_world.specs.Cuts.{taker_of, Cuts}
 use Rattle.lks_world.specs.Endings.{HasEnded}
 use Rattle.lks_world.specs.Hosts.{peers_of, IsAbsent}
 use Rattle.lks_world.specs.Kept.{kept}
-use Rattle.lks_world.specs.Seats.{hosts_of, StandsAt}
-use Rattle.lks_world.specs.States.{events_in, Becomes}
+use Rattle.lks_world.specs.Seats.{hosts_of, SeatsPower, StandsAt}
+use Rattle.lks_world.specs.States.{events_in, Becomes, IsStateOf}
+use Rattle.lks_world.specs.declared.faults.WorldFault.{WorldFault}
 use Rattle.lks_world.specs.declared.faults.WorldFault.TheVariants.{Memory}
 use Rattle.lks_world.specs.declared.seats.Seat.{Seat}
 use Rattle.lks_world.specs.declared.states.State.{State}
@@ -246,15 +249,21 @@ returns-in_err-add_crash-clause-stops g c = λ first asks.
     })
 
 pub returns-then-is_none-clause-power : goal.returns-then-is_none-clause-power
-returns-then-is_none-clause-power g c = c.take_step.ensures.power c.args.plan.now
+returns-then-is_none-clause-power g c = c.take_step.ensures.power c.args.plan.now _
+
+-- the power that the line cuts is that of the peer that takes the step
+of_taker : {D T : Type 0} (f : Face D) (plan : Plan) (s : State D) (p : PeerStep) (after : List Event) (ys : List (Seat D)) (r : Result T WorldFault) → IsStateOf f plan s → SeatsPower f plan (taker_of s.bag.items p ∷ []) (events_in s) after s.seats.items ys r
+    → SeatsPower f plan (taker_of (world plan (events_in s)).bag p ∷ []) (events_in s) after s.seats.items ys r
+of_taker f plan s p after ys r is = subst (λ w. SeatsPower f plan (taker_of w.bag p ∷ []) (events_in s) after s.seats.items ys r) is.world
 
 pub returns-in_err-cut_there-clause-power : goal.returns-in_err-cut_there-clause-power
 returns-in_err-cut_there-clause-power g c =
     let f = g.D.Disk.face in
     let s = c.args.state.now in
     let m = c.cut_there.new.state in
-    seats_may_lose f c.args.plan.now _ (events_in s) (events_in m) (taker_of s.bag.items c.args.s) s.seats.items m.seats.items c.from_residual.result (ap events_of c.in_err-cut_there.ensures.err) (room_left f s c.requires.state.1)
-    c.in_err-cut_there.ensures.power c.from_residual.ensures.1
+    of_taker f c.args.plan.now s c.args.s (events_in m) m.seats.items c.from_residual.result c.requires.state.0
+    (seats_may_lose f c.args.plan.now _ (events_in s) (events_in m) (taker_of s.bag.items c.args.s) s.seats.items m.seats.items c.from_residual.result (ap events_of c.in_err-cut_there.ensures.err) (room_left f s c.requires.state.1)
+    c.in_err-cut_there.ensures.power c.from_residual.ensures.1)
 
 -- the power of the peer was cut after the step
 was_done : (g : Over) (c : After-add_crash g) → PowersEnd g.D.Disk.face (taker_of c.args.state.now.bag.items c.args.s) c.args.state.now.seats.items c.cut_there.new.state.seats.items true
@@ -269,11 +278,12 @@ returns-in_err-add_crash-clause-power g c =
     let t = c.add_crash.new.state in
     let id = taker_of s.bag.items c.args.s in
     let end = ended g at.After-add_crash in
-    seats_lost f plan (events_in s) (events_in t) id s.seats.items t.seats.items c.from_residual-in_err-add_crash.result
+    of_taker f plan s c.args.s (events_in t) t.seats.items c.from_residual-in_err-add_crash.result c.requires.state.0
+    (seats_lost f plan (events_in s) (events_in t) id s.seats.items t.seats.items c.from_residual-in_err-add_crash.result
     (subst (IsQuiet plan (events_in s)) (sym (ap events_of c.in_err-add_crash.ensures.err ∙ end.0.events)) (quiet_step plan (events_in s) c.args.s))
     (room_left f s c.requires.state.1)
     (subst (λ (ss : List (Seat g.row.D.Denot)). PowersEnd f id s.seats.items ss true) (sym c.in_err-add_crash.ensures.seats) (was_done g at.After-add_crash))
-    (λ none. absurd (is_stopped _ c.from_residual-in_err-add_crash.result c.from_residual-in_err-add_crash.ensures.1 none))
+    (λ none. absurd (is_stopped _ c.from_residual-in_err-add_crash.result c.from_residual-in_err-add_crash.ensures.1 none)))
 
 pub returns-in_ok-add_crash-clause-power : goal.returns-in_ok-add_crash-clause-power
 returns-in_ok-add_crash-clause-power g c =
@@ -287,9 +297,10 @@ returns-in_ok-add_crash-clause-power g c =
     let end = ended g at.After-add_crash in
     let honest = honest_taker g at.After-add_crash (somebody g at.After-cut_there) in
     let b = c.in_ok-add_crash.ensures.becomes plan end.0.state honest in
-    seats_done f plan (events_in s) (events_in m) (events_in t) c.args.s id s.seats.items t.seats.items end.0.events (b.events ∙ ap (λ (n : ℕ). kept (events_in m) (events.Crash n)) (taker_is g at.After-taker-id))
+    of_taker f plan s c.args.s (events_in t) t.seats.items (Ok (tt {0})) c.requires.state.0
+    (seats_done f plan (events_in s) (events_in m) (events_in t) c.args.s id s.seats.items t.seats.items end.0.events (b.events ∙ ap (λ (n : ℕ). kept (events_in m) (events.Crash n)) (taker_is g at.After-taker-id))
     (room_left f s c.requires.state.1)
-    (subst (λ (ss : List (Seat g.row.D.Denot)). PowersEnd f id s.seats.items ss true) (sym c.in_ok-add_crash.ensures.seats) (was_done g at.After-add_crash))
+    (subst (λ (ss : List (Seat g.row.D.Denot)). PowersEnd f id s.seats.items ss true) (sym c.in_ok-add_crash.ensures.seats) (was_done g at.After-add_crash)))
 
 pub returns-else-branch-clause-power : goal.returns-else-branch-clause-power
 returns-else-branch-clause-power g c =
@@ -300,7 +311,7 @@ returns-else-branch-clause-power g c =
     let m = c.cut_there.new.state in
     let id = taker_of s.bag.items p in
     let end = subst (HasEnded f plan c.args.power.calls s p m) c.if-branch.false c.in_ok-cut_there.ensures.ended in
-    seats_cut f plan (events_in s) (events_in m) p end.0 id s.seats.items m.seats.items end.1.events (room_left f s c.requires.state.1) (ap (λ w. taker_of w.bag p) c.requires.state.0.world)
+    seats_cut f plan _ (events_in s) (events_in m) p end.0 id s.seats.items m.seats.items end.1.events (room_left f s c.requires.state.1) (ap (λ w. taker_of w.bag p) c.requires.state.0.world)
     (subst (PowersEnd f id s.seats.items m.seats.items) c.if-branch.false c.in_ok-cut_there.ensures.power)
 
 pub returns-in_err-cut_there-clause-extends : goal.returns-in_err-cut_there-clause-extends

@@ -22,7 +22,7 @@ use Rattle.lks_world.specs.States.{left_after, world_in}
 use Rattle.lks_world.specs.declared.seats.Seat.{Seat}
 use Rattle.lks_world.specs.declared.faults.WorldFault.TheVariants.{Memory}
 use Rattle.lks_world.proofs.cutting.cut_there.Given.{Over}
-use Rattle.lks_world.proofs.cutting.cut_there.Goals.{After-taker-id, In_ok-deed, In_ok-note_step}
+use Rattle.lks_world.proofs.cutting.cut_there.Goals.{After-taker-id, In_ok-note_step}
 use Rattle.std.proofs.Common.{refl}
 use Rattle.lks_world.proofs.Stopped.{err_then, stops_in}
 use Rattle.lks_world.specs.States.{events_of}
@@ -35,9 +35,6 @@ use Rattle.lks_world.proofs.cutting.cut_there.Goals as goal
 
 taker_is : (g : Over) (c : After-taker-id g) → c.taker-id.result ≡ taker_of c.args.state.now.bag.items c.args.s
 taker_is g c = c.taker-id.ensures ∙ ap (λ (b : List Envelope). taker_of b c.args.s) c.deref.ensures.value
-
-deed_is : (g : Over) (c : In_ok-deed g) → c.in_ok-deed.deed ≡ deed_of c.args.state.now.bag.items c.args.s
-deed_is g c = c.in_ok-deed.ensures.deed ∙ ap (λ (b : List Envelope). deed_of b c.args.s) c.deref-2.ensures.value
 
 noted_history : (g : Over) (c : In_ok-note_step g)
     → c.note_step.new.state.history.items
@@ -59,10 +56,10 @@ cut_at-requires-clause-told g c κs within =
     let bag = c.args.state.now.bag.items in
     let s = c.args.s in
     let at = goal.at.cut_at-requires-clause-told g c in
-    let deed = deed_is g at.In_ok-deed in
+    let deed = c.requires.deed in
     let id = taker_is g at.After-taker-id in
-    if_both (λ d. IsHeard d.input) (λ d. d.peer ≡ c.taker-id.result) c.in_ok-deed.deed c.in_ok-deed.ensures.heard
-    (subst (λ (n : ℕ). IfSome c.in_ok-deed.deed (λ d. d.peer ≡ n)) (sym id) (subst (λ o. IfSome o (λ d. d.peer ≡ taker_of bag s)) (sym deed) (whose_deed bag s)))
+    if_both (λ d. IsHeard d.input) (λ d. d.peer ≡ c.taker-id.result) c.args.deed.now c.requires.heard
+    (subst (λ (n : ℕ). IfSome c.args.deed.now (λ d. d.peer ≡ n)) (sym id) (subst (λ o. IfSome o (λ d. d.peer ≡ taker_of bag s)) (sym deed) (whose_deed bag s)))
 
 pub returns-in_err-note_step-clause-counted : goal.returns-in_err-note_step-clause-counted
 returns-in_err-note_step-clause-counted g c =
@@ -83,7 +80,7 @@ returns-clause-ended g c =
     let noted = c.in_ok-note_step.ensures in
     let told = c.told-event.ensures in
     let at = goal.at.returns-clause-ended g c in
-    let deed = deed_is g at.In_ok-deed in
+    let deed = c.requires.deed in
     let actor = c.actor.ensures ∙ ap actor_of deed in
     let ends =
     subst (λ (ss : List (Seat g.row.D.Denot)). PeersEnd s.tick (deed_of s.bag.items p) calls (peers_of f (hosts_of s.seats.items)) (peers_of f (hosts_of ss)) e) (sym noted.seats)
@@ -109,7 +106,7 @@ returns-clause-watches g c = λ first asks.
     let noted = c.in_ok-note_step.ensures in
     let told = c.told-event.ensures in
     let at = goal.at.returns-clause-watches g c in
-    let deed = deed_is g at.In_ok-deed in
+    let deed = c.requires.deed in
     let actor = c.actor.ensures ∙ ap actor_of deed in
     let after = peers_of f (hosts_of c.cut_at.new.seats.items) in
     watched_ending f e plan s t p calls after end first c.args.watch.now c.note_step.new.watch c.requires.state
@@ -131,14 +128,9 @@ returns-clause-burns g c =
     (subst (BurnsUnless f calls choice c.taker-id.result s.seats.items c.cut_at.new.seats.items) (sym c.whole-whole.ensures)
     (burns_unless f calls choice c.taker-id.result s.seats.items c.cut_at.new.seats.items c.in_ok-ending.ending c.in_ok-ending.ensures.burns)))
 
-pub returns-in_err-deed-clause-stops : goal.returns-in_err-deed-clause-stops
-returns-in_err-deed-clause-stops g c = λ first asks.
-    err_then c.from_residual.result
-    (stops_in g.D.Disk.face (ears g.J.EffortJudge.heard g.J.EffortJudge.verdict g.B.Bell.rung g.B.Bell.limit) c.args.plan.now c.args.state.now _ c.args.s first c.args.watch.now c.args.watch.now c.requires.state refl asks refl)
-
 pub returns-in_err-ending-clause-stops : goal.returns-in_err-ending-clause-stops
 returns-in_err-ending-clause-stops g c = λ first asks.
-    err_then c.from_residual-in_err-ending.result
+    err_then c.from_residual.result
     (stops_in g.D.Disk.face (ears g.J.EffortJudge.heard g.J.EffortJudge.verdict g.B.Bell.rung g.B.Bell.limit) c.args.plan.now c.args.state.now _ c.args.s first c.args.watch.now c.args.watch.now c.requires.state refl asks refl)
 
 pub returns-in_err-note_step-clause-stops : goal.returns-in_err-note_step-clause-stops
@@ -146,18 +138,13 @@ returns-in_err-note_step-clause-stops g c = λ first asks.
     err_then c.from_residual-in_err-note_step.result
     (stops_in g.D.Disk.face (ears g.J.EffortJudge.heard g.J.EffortJudge.verdict g.B.Bell.rung g.B.Bell.limit) c.args.plan.now c.args.state.now _ c.args.s first c.args.watch.now c.note_step.new.watch c.requires.state (ap events_of c.in_err-note_step.ensures.err) asks c.in_err-note_step.ensures.hears)
 
-pub returns-in_err-deed-clause-fallen : goal.returns-in_err-deed-clause-fallen
-returns-in_err-deed-clause-fallen g c =
-    let s = c.args.state.now in
-    err_then c.from_residual.result (left_still g.D.Disk.face c.args.plan.now s s c.requires.state refl (Some c.args.s) refl)
-
 pub returns-in_err-ending-clause-fallen : goal.returns-in_err-ending-clause-fallen
 unfolding happens after_step
 returns-in_err-ending-clause-fallen g c =
     let f = g.D.Disk.face in
     let s = c.args.state.now in
-    let deed = deed_is g (goal.at.returns-in_err-ending-clause-fallen g c).In_ok-deed in
-    err_then c.from_residual-in_err-ending.result
+    let deed = c.requires.deed in
+    err_then c.from_residual.result
     (left_by f c.args.plan.now s (record s { seats = c.cut_at.new.seats }) c.requires.state refl c.args.s
     (subst (λ o. HaveFallen f (hosts_of s.seats.items) (peers_after s.tick (peers_of f (hosts_of s.seats.items)) o) (hosts_of c.cut_at.new.seats.items)) deed c.in_err-ending.ensures.fallen))
 
@@ -166,23 +153,18 @@ unfolding happens after_step
 returns-in_err-note_step-clause-fallen g c =
     let f = g.D.Disk.face in
     let s = c.args.state.now in
-    let deed = deed_is g (goal.at.returns-in_err-note_step-clause-fallen g c).In_ok-deed in
+    let deed = c.requires.deed in
     err_then c.from_residual-in_err-note_step.result
     (left_by f c.args.plan.now s c.note_step.new.state c.requires.state (ap events_of c.in_err-note_step.ensures.err) c.args.s
     (subst (λ (ss : List (Seat g.row.D.Denot)). HaveFallen f (hosts_of s.seats.items) (happens (world_in f s) (Step c.args.s)).peers (hosts_of ss)) (sym c.in_err-note_step.ensures.seats)
     (fallen_on f (hosts_of s.seats.items) (hosts_of c.cut_at.new.seats.items) _ c.in_ok-ending.ensures.on
-    (ended_either s.tick c.in_ok-deed.deed c.args.power.calls (peers_of f (hosts_of s.seats.items)) (peers_of f (hosts_of c.cut_at.new.seats.items)) _ c.in_ok-ending.ending c.in_ok-ending.ensures.ends (ap (peers_after s.tick (peers_of f (hosts_of s.seats.items))) (sym deed))))))
-
-pub returns-in_err-deed-clause-power : goal.returns-in_err-deed-clause-power
-returns-in_err-deed-clause-power g c =
-    let s = c.args.state.now in
-    may_lose g.D.Disk.face _ (λ is_done. is_done) (taker_of s.bag.items c.args.s) s.seats.items s.seats.items c.from_residual.result c.from_residual.ensures.1 (inl (power_still g.D.Disk.face s.seats.items s.seats.items refl))
+    (ended_either s.tick c.args.deed.now c.args.power.calls (peers_of f (hosts_of s.seats.items)) (peers_of f (hosts_of c.cut_at.new.seats.items)) _ c.in_ok-ending.ending c.in_ok-ending.ensures.ends (ap (peers_after s.tick (peers_of f (hosts_of s.seats.items))) (sym deed))))))
 
 pub returns-in_err-ending-clause-power : goal.returns-in_err-ending-clause-power
 returns-in_err-ending-clause-power g c =
     let s = c.args.state.now in
     let id = taker_is g (goal.at.returns-in_err-ending-clause-power g c).After-taker-id in
-    may_lose g.D.Disk.face _ (λ is_done. is_done) (taker_of s.bag.items c.args.s) s.seats.items c.cut_at.new.seats.items c.from_residual-in_err-ending.result c.from_residual-in_err-ending.ensures.1
+    may_lose g.D.Disk.face _ (λ is_done. is_done) (taker_of s.bag.items c.args.s) s.seats.items c.cut_at.new.seats.items c.from_residual.result c.from_residual.ensures.1
     (subst (λ (n : ℕ). MayLosePower g.D.Disk.face n s.seats.items c.cut_at.new.seats.items) id c.in_err-ending.ensures.power)
 
 pub returns-in_err-note_step-clause-power : goal.returns-in_err-note_step-clause-power

@@ -1,17 +1,20 @@
 use Rattle.std.proofs.Common.{◌≡◌, ◌≤◌, ◌∙◌, sym, ap, subst, true, length, refl}
 use Rattle.std.specs.Prelude.{None, OnErr, Ok}
 use Rattle.lks_base.specs.Checking.{has_corrupt, has_peer}
+use Rattle.lks_base.specs.declared.events.Due.TheVariants.{Own}
 use Rattle.lks_base.specs.declared.events.Event.TheVariants as events
 use Rattle.lks_base.specs.declared.limits.TheConstants.{MOST_FORGED_BYTES}
 use Rattle.lks_script.specs.declared.steps.Step.TheVariants as step
 use Rattle.lks_watch.specs.Watching.{Watches, ears, seen_by}
 use Rattle.lks_world.proofs.HostLaws.{ok_then}
-use Rattle.lks_world.proofs.OwnSteps.{step_may, ticks_within, forgery_may, crash_may, cut_legal}
-use Rattle.lks_world.proofs.Watched.{crash_quiet, lost_quiet, ok_both, quiet_kept, step_asks}
+use Rattle.lks_world.proofs.NextLaws.{own_doable}
+use Rattle.lks_world.proofs.OwnSteps.{ticks_within, forgery_may, crash_may, cut_legal}
+use Rattle.lks_world.proofs.Watched.{crash_quiet, lost_quiet, ok_both, quiet_kept}
 use Rattle.lks_world.specs.Follows.{IsUpTo, Performs}
-use Rattle.lks_world.specs.States.{events_in, world_in}
+use Rattle.lks_world.specs.Doable.{IsDoable}
+use Rattle.lks_world.specs.States.{events_in}
 use Rattle.lks_world.proofs.doing.do_step.Given.{Over}
-use Rattle.lks_world.proofs.doing.do_step.Goals.{In_ok-bytes-in-Forge}
+use Rattle.lks_world.proofs.doing.do_step.Goals.{In-Peer, In_ok-bytes-in-Forge}
 use Rattle.lks_world.proofs.Stopped.{err_then, err_three, stopped_still, stops_quiet}
 use Rattle.lks_world.proofs.UpTo.{not_begun}
 use Rattle.lks_world.specs.Stopping.{HasStopped}
@@ -19,6 +22,8 @@ use Rattle.lks_world.specs.States.{events_of}
 use Rattle.lks_world.proofs.PowerEnds.{power_still, seats_quiet, seats_still}
 use Rattle.lks_world.proofs.PowerLaws.{quiet_kept as power_kept, quiet_lost}
 use Rattle.lks_world.specs.Powers.{IsQuiet}
+use Rattle.lks_world.specs.Seats.{SeatsPower}
+use Rattle.lks_world.specs.Spending.{loser_of}
 use Rattle.lks_world.proofs.doing.do_step.Goals as goal
 
 is_forged : (g : Over) (c : In_ok-bytes-in-Forge g) → c.args.step.now ≡ step.Forge c.in-Forge.from c.in-Forge.to c.in_ok-bytes-in-Forge.bytes
@@ -40,19 +45,23 @@ crash-requires-clause-honest g c κs within = crash_may c.args.plan.now c.args.s
 pub cut-requires-clause-legal : goal.cut-requires-clause-legal
 cut-requires-clause-legal g c κs within = cut_legal c.args.plan.now c.args.step.now c.in-Cut.calls c.in-Cut.choice c.in-Cut.step c.in-Cut.is c.requires.legal
 
+-- a peer's own step can be done
+own : (g : Over) (c : In-Peer g) → IsDoable g.D.Disk.face g.J.EffortJudge.heard c.args.plan.now c.args.state.now c.args.watch.now (Own c.in-Peer.s)
+own g c = own_doable g.D.Disk.face c.args.plan.now c.args.state.now c.requires.state.0 g.J.EffortJudge.heard c.args.watch.now c.requires.state.1 c.args.step.now c.in-Peer.s c.in-Peer.is c.requires.legal
+
+pub add_due-requires-after_bounds : goal.add_due-requires-after_bounds
+add_due-requires-after_bounds g c κs within = (c.args.plan.now, own g (goal.at.add_due-requires-after_bounds g c).In-Peer)
+
 pub returns-in-Peer-clause-state : goal.returns-in-Peer-clause-state
-returns-in-Peer-clause-state g c =
-    ok_then c.add_step.result (λ b. b.state)
-    (c.add_step.ensures.becomes c.args.plan.now c.requires.state.0 (step_may c.args.plan.now (world_in g.D.Disk.face c.args.state.now) c.args.step.now c.in-Peer.s c.in-Peer.is c.requires.legal))
+returns-in-Peer-clause-state g c = ok_then c.add_due.result (λ b. b.state) (c.add_due.ensures.becomes c.args.plan.now (own g (goal.at.returns-in-Peer-clause-state g c).In-Peer))
 
 pub returns-in-Peer-clause-performs : goal.returns-in-Peer-clause-performs
 returns-in-Peer-clause-performs g c =
     let verdict = g.J.EffortJudge.verdict c.args.watch.now.judge in
-    let w = world_in g.D.Disk.face c.args.state.now in
-    ok_both _ _ c.add_step.result
-    (ok_then c.add_step.result (λ b. subst (λ s. Performs verdict c.args.plan.now (events_in c.args.state.now) s (events_in c.add_step.new.state)) (sym c.in-Peer.is) b.events)
-    (c.add_step.ensures.becomes c.args.plan.now c.requires.state.0 (step_may c.args.plan.now w c.args.step.now c.in-Peer.s c.in-Peer.is c.requires.legal)))
-    (c.add_step.ensures.watches c.args.plan.now c.requires.state.0 (step_asks c.args.plan.now w c.args.step.now c.in-Peer.s c.in-Peer.is c.requires.legal))
+    let can = own g (goal.at.returns-in-Peer-clause-performs g c).In-Peer in
+    ok_both _ _ c.add_due.result
+    (ok_then c.add_due.result (λ b. subst (λ s. Performs verdict c.args.plan.now (events_in c.args.state.now) s (events_in c.add_due.new.state)) (sym c.in-Peer.is) b.events)
+    (c.add_due.ensures.becomes c.args.plan.now can)) (c.add_due.ensures.watches c.args.plan.now can)
 
 pub returns-in_ok-add_ticks-in-Tick-clause-performs : goal.returns-in_ok-add_ticks-in-Tick-clause-performs
 returns-in_ok-add_ticks-in-Tick-clause-performs g c =
@@ -96,8 +105,7 @@ returns-in_ok-say-in-SayPoll-clause-performs g c =
     (said.0 (e.verdict c.args.watch.now.judge), said.1 (seen_by e c.args.watch.now))
 
 pub returns-in-Peer-clause-extends : goal.returns-in-Peer-clause-extends
-returns-in-Peer-clause-extends g c =
-    c.add_step.ensures.extends c.args.plan.now c.requires.state.0 (step_may c.args.plan.now (world_in g.D.Disk.face c.args.state.now) c.args.step.now c.in-Peer.s c.in-Peer.is c.requires.legal)
+returns-in-Peer-clause-extends g c = c.add_due.ensures.extends c.args.plan.now (own g (goal.at.returns-in-Peer-clause-extends g c).In-Peer)
 
 pub returns-in_err-add_forgery-in-Forge-clause-extends : goal.returns-in_err-add_forgery-in-Forge-clause-extends
 returns-in_err-add_forgery-in-Forge-clause-extends g c =
@@ -163,8 +171,8 @@ returns-in_err-say-in-SayPoll-clause-stops g c =
 
 pub returns-in-Peer-clause-stops : goal.returns-in-Peer-clause-stops
 returns-in-Peer-clause-stops g c =
-    subst (λ st. OnErr c.add_step.result (HasStopped g.D.Disk.face (ears g.J.EffortJudge.heard g.J.EffortJudge.verdict g.B.Bell.rung g.B.Bell.limit) c.args.plan.now (Performs (g.J.EffortJudge.verdict c.args.watch.now.judge) c.args.plan.now (events_in c.args.state.now) st) (events_in c.args.state.now) c.args.watch.now c.add_step.new.state c.add_step.new.watch)) (sym c.in-Peer.is)
-    (c.add_step.ensures.stops c.args.plan.now c.requires.state.0 (step_asks c.args.plan.now (world_in g.D.Disk.face c.args.state.now) c.args.step.now c.in-Peer.s c.in-Peer.is c.requires.legal))
+    subst (λ st. OnErr c.add_due.result (HasStopped g.D.Disk.face (ears g.J.EffortJudge.heard g.J.EffortJudge.verdict g.B.Bell.rung g.B.Bell.limit) c.args.plan.now (Performs (g.J.EffortJudge.verdict c.args.watch.now.judge) c.args.plan.now (events_in c.args.state.now) st) (events_in c.args.state.now) c.args.watch.now c.add_due.new.state c.add_due.new.watch)) (sym c.in-Peer.is)
+    (c.add_due.ensures.stops c.args.plan.now (own g (goal.at.returns-in-Peer-clause-stops g c).In-Peer))
 
 pub returns-in-Crash-clause-stops : goal.returns-in-Crash-clause-stops
 returns-in-Crash-clause-stops g c =
@@ -211,40 +219,40 @@ returns-in-Cut-clause-stops g c =
 -- what no power fails in
 
 pub returns-in-Peer-clause-power : goal.returns-in-Peer-clause-power
-returns-in-Peer-clause-power g c = c.add_step.ensures.power c.args.plan.now
+returns-in-Peer-clause-power g c = c.add_due.ensures.power c.args.plan.now _
 
 pub returns-in-Next-clause-power : goal.returns-in-Next-clause-power
-returns-in-Next-clause-power g c = c.go_on.ensures.power c.args.plan.now
+returns-in-Next-clause-power g c = c.go_on.ensures.power c.args.plan.now _
 
 pub returns-in-Again-clause-power : goal.returns-in-Again-clause-power
-returns-in-Again-clause-power g c = c.deliver_again.ensures.power c.args.plan.now
+returns-in-Again-clause-power g c = c.deliver_again.ensures.power c.args.plan.now _
 
 pub returns-in-Settle-clause-power : goal.returns-in-Settle-clause-power
-returns-in-Settle-clause-power g c = c.go_on-in-Settle.ensures.power c.args.plan.now
+returns-in-Settle-clause-power g c = c.go_on-in-Settle.ensures.power c.args.plan.now _
 
 pub returns-in-Finish-clause-power : goal.returns-in-Finish-clause-power
-returns-in-Finish-clause-power g c = c.go_on-in-Finish.ensures.power c.args.plan.now
+returns-in-Finish-clause-power g c = c.go_on-in-Finish.ensures.power c.args.plan.now _
 
 pub returns-in_err-add_ticks-in-Tick-clause-power : goal.returns-in_err-add_ticks-in-Tick-clause-power
 returns-in_err-add_ticks-in-Tick-clause-power g c =
     let f = g.D.Disk.face in
     let s = c.args.state.now in
     let t = c.add_ticks.new.state in
-    seats_still f c.args.plan.now (events_in s) (events_in t) s.seats.items t.seats.items c.from_residual.result (ap events_of c.in_err-add_ticks-in-Tick.ensures.err) (power_still f s.seats.items t.seats.items c.in_err-add_ticks-in-Tick.ensures.seats)
+    seats_still f c.args.plan.now _ (events_in s) (events_in t) s.seats.items t.seats.items c.from_residual.result (ap events_of c.in_err-add_ticks-in-Tick.ensures.err) (power_still f s.seats.items t.seats.items c.in_err-add_ticks-in-Tick.ensures.seats)
 
 pub returns-in_err-lose_first-in-Lose-clause-power : goal.returns-in_err-lose_first-in-Lose-clause-power
 returns-in_err-lose_first-in-Lose-clause-power g c =
     let f = g.D.Disk.face in
     let s = c.args.state.now in
     let t = c.lose_first.new.state in
-    seats_still f c.args.plan.now (events_in s) (events_in t) s.seats.items t.seats.items c.from_residual-in_err-lose_first-in-Lose.result (ap events_of c.in_err-lose_first-in-Lose.ensures.err) (power_still f s.seats.items t.seats.items c.in_err-lose_first-in-Lose.ensures.seats)
+    seats_still f c.args.plan.now _ (events_in s) (events_in t) s.seats.items t.seats.items c.from_residual-in_err-lose_first-in-Lose.result (ap events_of c.in_err-lose_first-in-Lose.ensures.err) (power_still f s.seats.items t.seats.items c.in_err-lose_first-in-Lose.ensures.seats)
 
 pub returns-in_err-say-in-SayPoll-clause-power : goal.returns-in_err-say-in-SayPoll-clause-power
 returns-in_err-say-in-SayPoll-clause-power g c =
     let f = g.D.Disk.face in
     let s = c.args.state.now in
     let t = c.say.new.state in
-    seats_still f c.args.plan.now (events_in s) (events_in t) s.seats.items t.seats.items c.from_residual-in_err-say-in-SayPoll.result (ap events_of c.in_err-say-in-SayPoll.ensures.err) (power_still f s.seats.items t.seats.items c.in_err-say-in-SayPoll.ensures.seats)
+    seats_still f c.args.plan.now _ (events_in s) (events_in t) s.seats.items t.seats.items c.from_residual-in_err-say-in-SayPoll.result (ap events_of c.in_err-say-in-SayPoll.ensures.err) (power_still f s.seats.items t.seats.items c.in_err-say-in-SayPoll.ensures.seats)
 
 pub returns-in_ok-add_ticks-in-Tick-clause-power : goal.returns-in_ok-add_ticks-in-Tick-clause-power
 returns-in_ok-add_ticks-in-Tick-clause-power g c =
@@ -253,7 +261,7 @@ returns-in_ok-add_ticks-in-Tick-clause-power g c =
     let s = c.args.state.now in
     let t = c.add_ticks.new.state in
     let is = (c.in_ok-add_ticks-in-Tick.ensures.becomes plan c.requires.state.0).events in
-    seats_quiet f plan (events_in s) (events_in t) s.seats.items t.seats.items (Ok (tt {0})) (subst (IsQuiet plan (events_in s)) (sym is) (power_kept plan (events_in s) (events.Tick c.in-Tick.by) (λ w. (refl, refl))))
+    seats_quiet f plan _ (events_in s) (events_in t) s.seats.items t.seats.items (Ok (tt {0})) (subst (IsQuiet plan (events_in s)) (sym is) (power_kept plan (events_in s) (events.Tick c.in-Tick.by) (λ w. (refl, refl))))
     (power_still f s.seats.items t.seats.items c.in_ok-add_ticks-in-Tick.ensures.seats)
 
 pub returns-in_ok-lose_first-in-Lose-clause-power : goal.returns-in_ok-lose_first-in-Lose-clause-power
@@ -263,7 +271,7 @@ returns-in_ok-lose_first-in-Lose-clause-power g c =
     let s = c.args.state.now in
     let t = c.lose_first.new.state in
     let is = (c.in_ok-lose_first-in-Lose.ensures.becomes plan c.requires.state.0).events in
-    seats_quiet f plan (events_in s) (events_in t) s.seats.items t.seats.items (Ok (tt {0})) (subst (IsQuiet plan (events_in s)) (sym is) (quiet_lost plan (events_in s)))
+    seats_quiet f plan _ (events_in s) (events_in t) s.seats.items t.seats.items (Ok (tt {0})) (subst (IsQuiet plan (events_in s)) (sym is) (quiet_lost plan (events_in s)))
     (power_still f s.seats.items t.seats.items c.in_ok-lose_first-in-Lose.ensures.seats)
 
 pub returns-in_ok-add_forgery-in-Forge-clause-power : goal.returns-in_ok-add_forgery-in-Forge-clause-power
@@ -274,7 +282,7 @@ returns-in_ok-add_forgery-in-Forge-clause-power g c =
     let t = c.add_forgery.new.state in
     let may = may_forge g (goal.at.returns-in_ok-add_forgery-in-Forge-clause-power g c).In_ok-bytes-in-Forge in
     let is = (c.in_ok-add_forgery-in-Forge.ensures.becomes plan c.requires.state.0 may.0 may.1 may.2).events in
-    seats_quiet f plan (events_in s) (events_in t) s.seats.items t.seats.items (Ok (tt {0}))
+    seats_quiet f plan _ (events_in s) (events_in t) s.seats.items t.seats.items (Ok (tt {0}))
     (subst (IsQuiet plan (events_in s)) (sym is) (power_kept plan (events_in s) (events.Forge c.in-Forge.from c.in-Forge.to c.in_ok-bytes-in-Forge.bytes) (λ w. (refl, refl))))
     (power_still f s.seats.items t.seats.items c.in_ok-add_forgery-in-Forge.ensures.seats)
 
@@ -284,4 +292,34 @@ returns-in_ok-say-in-SayPoll-clause-power g c =
     let plan = c.args.plan.now in
     let s = c.args.state.now in
     let t = c.say.new.state in
-    seats_quiet f plan (events_in s) (events_in t) s.seats.items t.seats.items (Ok (tt {0})) c.in_ok-say-in-SayPoll.ensures.quiet (power_still f s.seats.items t.seats.items c.in_ok-say-in-SayPoll.ensures.seats)
+    seats_quiet f plan _ (events_in s) (events_in t) s.seats.items t.seats.items (Ok (tt {0})) c.in_ok-say-in-SayPoll.ensures.quiet (power_still f s.seats.items t.seats.items c.in_ok-say-in-SayPoll.ensures.seats)
+
+-- what one may fail in
+
+pub returns-in-Crash-clause-power : goal.returns-in-Crash-clause-power
+returns-in-Crash-clause-power g c =
+    let f = g.D.Disk.face in
+    let plan = c.args.plan.now in
+    let s = c.args.state.now in
+    let t = c.crash.new.state in
+    subst (λ st. SeatsPower f plan (loser_of (g.J.EffortJudge.verdict c.args.watch.now.judge) plan (events_in s) st) (events_in s) (events_in t) s.seats.items t.seats.items c.crash.result) (sym c.in-Crash.is) c.crash.ensures.power
+
+pub returns-in-Cut-clause-power : goal.returns-in-Cut-clause-power
+returns-in-Cut-clause-power g c =
+    let f = g.D.Disk.face in
+    let plan = c.args.plan.now in
+    let s = c.args.state.now in
+    let t = c.cut.new.state in
+    subst (λ st. SeatsPower f plan (loser_of (g.J.EffortJudge.verdict c.args.watch.now.judge) plan (events_in s) st) (events_in s) (events_in t) s.seats.items t.seats.items c.cut.result) (sym c.in-Cut.is) c.cut.ensures.power
+
+pub returns-in_err-bytes-in-Forge-clause-power : goal.returns-in_err-bytes-in-Forge-clause-power
+returns-in_err-bytes-in-Forge-clause-power g c =
+    let s = c.args.state.now in
+    seats_still g.D.Disk.face c.args.plan.now _ (events_in s) (events_in s) s.seats.items s.seats.items c.from_residual-in_err-bytes-in-Forge.result refl (power_still g.D.Disk.face s.seats.items s.seats.items refl)
+
+pub returns-in_err-add_forgery-in-Forge-clause-power : goal.returns-in_err-add_forgery-in-Forge-clause-power
+returns-in_err-add_forgery-in-Forge-clause-power g c =
+    let f = g.D.Disk.face in
+    let s = c.args.state.now in
+    let t = c.add_forgery.new.state in
+    seats_still f c.args.plan.now _ (events_in s) (events_in t) s.seats.items t.seats.items c.from_residual-in_err-add_forgery-in-Forge.result (ap events_of c.in_err-add_forgery-in-Forge.ensures.err) (power_still f s.seats.items t.seats.items c.in_err-add_forgery-in-Forge.ensures.seats)

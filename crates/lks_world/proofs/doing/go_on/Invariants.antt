@@ -1,4 +1,4 @@
-use Rattle.std.proofs.Common.{◌≡◌, ◌-◌, ◌≤◌, length}
+use Rattle.std.proofs.Common.{◌≡◌, ◌-◌, ◌≤◌, ℕ, List, length}
 use Rattle.std.specs.Prelude.{Ok}
 use Rattle.lks_base.specs.declared.plans.Plan.{Plan}
 use Rattle.lks_world.proofs.Keeping.{Goes}
@@ -19,6 +19,6 @@ invariant-loop-turn g l = record {
   extends : (plan : Plan) → IsStateOf g.D.Disk.face plan l.fn.state → g.J.EffortJudge.heard l.fn.watch.judge ≡ questions plan (events_in l.fn.state)
       → Extends plan l.fn.state.history.items l.state.history.items;
   room : l.turn-end - l.turn ≤ MOST_EVENTS - length l.state.history.items;
-  power : (plan : Plan) → SeatsPower {T = Unit {0}} g.D.Disk.face plan (events_in l.fn.state) (events_in l.state) l.fn.state.seats.items l.state.seats.items (Ok tt);
+  power : (plan : Plan) (who : List ℕ) → SeatsPower {T = Unit {0}} g.D.Disk.face plan who (events_in l.fn.state) (events_in l.state) l.fn.state.seats.items l.state.seats.items (Ok tt);
   counted : Counted {T = Unit {0}} g.D.Disk.face l.fn.state.seats.items l.state.seats.items (Ok tt);
 }

@@ -1,21 +1,24 @@
-use Rattle.std.proofs.Common.{◌∙◌, sym, ap, arith, ◌++◌, ◌∷◌, [], ◌≤◌, length, append_assoc}
+use Rattle.std.proofs.Common.{◌≡◌, ◌∙◌, sym, ap, arith, ◌++◌, ◌∷◌, [], ◌+◌, length, append_assoc, length-append}
+use Rattle.std.specs.Prelude.{map}
 use Rattle.std.specs.List.{range_with_len}
-use Rattle.std.proofs.lemmas.Grind.{common_steps}
 use Rattle.lks_law.specs.World.{sent_by}
-use Rattle.lks_law.proofs.Ranges.{range_last}
-use Rattle.lks_world.proofs.Sending.{length-sent}
 use Rattle.lks_world.proofs.states.send.Goals as goal
 
 pub loop-outgoing-preserved : goal.loop-outgoing-preserved
 loop-outgoing-preserved c =
-    let i = c.loop-outgoing.outgoing-index in
-    let le : c.loop-outgoing.outgoing-index ≤ length c.args.sends.now = omega arith in
-    record {
-      bag = grind (arith, common_steps, c.in_ok-put.ensures.bag, c.in_ok-clone.ensures.cases);
-      pending =
-          c.in_ok-put.ensures.pending ∙ ap (λ ns. ns ++ length c.loop-outgoing.bag.items ∷ []) c.loop-outgoing.invariant.pending
-          ∙ append_assoc c.args.pending.now.items (range_with_len (length c.args.bag.now.items) i) (length c.loop-outgoing.bag.items ∷ [])
-          ∙ ap (λ ns. c.args.pending.now.items ++ ns)
-          (sym (range_last (length c.args.bag.now.items) i (length c.loop-outgoing.bag.items)
-          (length-sent (sent_by c.args.from) c.args.bag.now.items c.args.sends.now i le ∙ sym (ap length c.loop-outgoing.invariant.bag))));
-    }
+    let send = sent_by c.args.from in
+    let bag = c.loop-outgoing.bag.items in
+    let pending = c.loop-outgoing.pending.items in
+    let rest = c.next.new.self.rest.items in
+    let left = c.in-Some.ensures.steps.0 in
+    let put = c.in_ok-put.ensures in
+    let one : length c.put.new.bag.items ≡ length bag + 1 = omega (arith, ap length put.bag, length-append bag (send c.in-Some.outgoing ∷ [])) in (
+      tt,
+      tt,
+      record {
+        bag = ap (λ es. es ++ map send rest) put.bag ∙ append_assoc bag (send c.in-Some.outgoing ∷ []) (map send rest) ∙ ap (λ os. bag ++ map send os) (sym left) ∙ c.loop-outgoing.invariant.2.bag;
+        pending =
+            (λ i. put.pending i ++ range_with_len (one i) (length rest)) ∙ append_assoc pending (length bag ∷ []) (range_with_len (length bag + 1) (length rest))
+            ∙ ap (λ os. pending ++ range_with_len (length bag) (length os)) (sym left) ∙ c.loop-outgoing.invariant.2.pending;
+      },
+    )

@@ -1,7 +1,6 @@
 use Rattle.std.proofs.Common.{List, ap, inr, subst, sym, ◌∙◌}
 use Rattle.std.specs.List.{filter_map}
 use Rattle.lks_alarm.specs.declared.alarms.Alarm.{Alarm}
-use Rattle.lks_base.specs.declared.events.Envelope.{Envelope}
 use Rattle.lks_base.specs.declared.events.Event.TheVariants.{Step}
 use Rattle.lks_law.specs.Entries.{notes_of}
 use Rattle.lks_law.specs.World.{actor_of, after_step, deed_of, happens, peers_after}
@@ -12,7 +11,7 @@ use Rattle.lks_world.specs.Hosts.{HaveGoneOn, peers_of}
 use Rattle.lks_world.specs.Seats.{hosts_of}
 use Rattle.lks_world.specs.States.{world_in}
 use Rattle.lks_world.specs.declared.seats.Seat.{Seat}
-use Rattle.lks_world.proofs.Fallen.{fallen_on, fallen_same}
+use Rattle.lks_world.proofs.Fallen.{fallen_on}
 use Rattle.lks_world.proofs.Stopped.{err_then}
 use Rattle.lks_world.specs.Hosts.{HaveFallen}
 use Rattle.lks_world.proofs.states.step.Goals as goal
@@ -26,21 +25,18 @@ returns-clause-hears g c =
     let f = g.D.Disk.face in
     let e = ears g.J.EffortJudge.heard g.J.EffortJudge.verdict g.B.Bell.rung g.B.Bell.limit in
     let s = c.args.state.now in
-    let deed = c.in_ok-deed.ensures.deed ∙ ap (λ (b : List Envelope). deed_of b c.args.s) c.deref.ensures.value in
+    let deed = c.requires.deed in
     let actor = c.actor.ensures ∙ ap actor_of deed in
     let notes = c.in_ok-done.ensures.notes ∙ ap (notes_of s.tick (peers_of f (hosts_of s.seats.items))) deed in
     subst (λ (raised : List Alarm). Rings raised (seen_by e c.args.watch.now) (seen_by e c.note_step.new.watch))
     ((λ i. filter_map (alarm_noted (actor i) s.tick) (notes i)) ∙ noted (world_in f s) (deed_of s.bag.items c.args.s)) c.in_ok-note_step.ensures.hears
-
-pub returns-in_err-deed-clause-fallen : goal.returns-in_err-deed-clause-fallen
-returns-in_err-deed-clause-fallen g c = err_then c.from_residual.result (fallen_same g.D.Disk.face (hosts_of c.args.state.now.seats.items) _)
 
 pub returns-in_err-note_step-clause-fallen : goal.returns-in_err-note_step-clause-fallen
 unfolding happens after_step
 returns-in_err-note_step-clause-fallen g c =
     let f = g.D.Disk.face in
     let s = c.args.state.now in
-    let deed = c.in_ok-deed.ensures.deed ∙ ap (λ (b : List Envelope). deed_of b c.args.s) c.deref.ensures.value in
+    let deed = c.requires.deed in
     err_then c.from_residual-in_err-note_step.result
     (subst (λ (ss : List (Seat g.row.D.Denot)). HaveFallen f (hosts_of s.seats.items) (happens (world_in f s) (Step c.args.s)).peers (hosts_of ss)) (sym c.in_err-note_step.ensures.seats)
     (fallen_on f (hosts_of s.seats.items) (hosts_of c.do_deed.new.seats.items) _ c.in_ok-done.ensures.on (inr (c.in_ok-done.ensures.peers ∙ ap (peers_after s.tick (peers_of f (hosts_of s.seats.items))) deed))))
@@ -51,6 +47,6 @@ returns-in_err-done-clause-fallen g c =
     let f = g.D.Disk.face in
     let s = c.args.state.now in
     let hosts = hosts_of s.seats.items in
-    let deed = c.in_ok-deed.ensures.deed ∙ ap (λ (b : List Envelope). deed_of b c.args.s) c.deref.ensures.value in
-    err_then c.from_residual-in_err-done.result
+    let deed = c.requires.deed in
+    err_then c.from_residual.result
     (subst (λ o. HaveFallen f hosts (peers_after s.tick (peers_of f hosts) o) (hosts_of c.do_deed.new.seats.items)) deed c.in_err-done.ensures.fallen)

@@ -6,7 +6,9 @@ use Rattle.lks_script.specs.StepRules.{are_steps_of}
 use Rattle.lks_watch.specs.Watching.{Watches, ears, watching}
 use Rattle.lks_world.specs.Counts.{ServesHonest}
 use Rattle.lks_world.specs.Follows.{Follows, FollowsUpTo}
-use Rattle.lks_world.specs.Worlds.{CountsPower}
+use Rattle.lks_world.specs.Spending.{AreSpent, AreSpentUpTo}
+use Rattle.lks_world.specs.declared.faults.WorldFault.{WorldFault}
+use Rattle.lockss.specs.Playing.{CountsPower}
 use Rattle.lockss.proofs.playing.perform_all.Given as goal
 
 abbrev pub invariant-loop-step : goal.invariant-loop-step
@@ -20,4 +22,8 @@ invariant-loop-step g l = record {
   watches : Watches l.fn.world.plan l.fn.world.history l.world.history (watching (ears g.J.EffortJudge.heard g.J.EffortJudge.verdict g.B.Bell.rung g.B.Bell.limit) l.fn.world.judge l.fn.world.bells) (watching (ears g.J.EffortJudge.heard g.J.EffortJudge.verdict g.B.Bell.rung g.B.Bell.limit) l.world.judge l.world.bells);
   serves : ServesHonest g.D.Disk.face l.fn.world.plan.peers l.fn.world.disks l.world.disks None;
   power : CountsPower g.D.Disk.face l.fn.world l.world None;
+  spent : (after : List Event) (disks : List g.row.D.Denot) → AreSpent g.D.Disk.face (g.J.EffortJudge.verdict l.fn.world.judge) l.fn.world.plan l.world.history l.world.disks (drop l.step-index l.steps) after disks
+      → AreSpent g.D.Disk.face (g.J.EffortJudge.verdict l.fn.world.judge) l.fn.world.plan l.fn.world.history l.fn.world.disks l.steps after disks;
+  spent_up_to : (fault : WorldFault) (after : List Event) (disks : List g.row.D.Denot) → AreSpentUpTo g.D.Disk.face (g.J.EffortJudge.verdict l.fn.world.judge) l.fn.world.plan l.world.history l.world.disks (drop l.step-index l.steps) fault after disks
+      → AreSpentUpTo g.D.Disk.face (g.J.EffortJudge.verdict l.fn.world.judge) l.fn.world.plan l.fn.world.history l.fn.world.disks l.steps fault after disks;
 }

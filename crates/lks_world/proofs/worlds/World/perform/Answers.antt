@@ -89,8 +89,8 @@ returns-in-Ok-clause-power g c =
     let did = c.in-Ok.ensures in
     subst (λ (v : Seen g.row.D.Denot g.row.J.Denot g.row.B.Denot). SpendsPower f g.J.EffortJudge.verdict c.args.step.now v (seen_in b) (Ok (tt {0}))) c.self.view_is
     (record {
-      counted = honest_power f a.plan (events_in a.state) (events_in t) None a.plan.peers a.state.seats.items t.seats.items (reverse a.rest.items) c.self.invariant.seats did.counted.ids did.power;
-      burned = λ calls choice given is.
+      counted = honest_power f a.plan _ (events_in a.state) (events_in t) None a.plan.peers a.state.seats.items t.seats.items (reverse a.rest.items) c.self.invariant.seats did.counted.ids did.power;
+      burned = λ calls choice given is none.
           if_some (step_cut (g.J.EffortJudge.verdict a.watch.judge) a.plan (events_in a.state) given) (λ s burns short room. burns short room a.plan.peers (reverse a.rest.items) c.self.invariant.seats)
           (did.burns calls choice given is);
     })
@@ -104,6 +104,6 @@ returns-in-Err-clause-power g c =
     let did = c.in-Err.ensures in
     subst (λ (v : Seen g.row.D.Denot g.row.J.Denot g.row.B.Denot). SpendsPower {T = Unit {0}} f g.J.EffortJudge.verdict c.args.step.now v (seen_in b) (Err c.in-Err.fault)) c.self.view_is
     (record {
-      counted = honest_power f a.plan (events_in a.state) (events_in t) (Some c.in-Err.fault) a.plan.peers a.state.seats.items t.seats.items (reverse a.rest.items) c.self.invariant.seats did.counted.ids did.power;
-      burned = λ calls choice given is. tt;
+      counted = honest_power f a.plan _ (events_in a.state) (events_in t) (Some c.in-Err.fault) a.plan.peers a.state.seats.items t.seats.items (reverse a.rest.items) c.self.invariant.seats did.counted.ids did.power;
+      burned = λ calls choice given is none. absurd cc;
     })
