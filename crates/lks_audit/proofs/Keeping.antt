@@ -26,6 +26,10 @@ kept_seen n ss found is =
     twice None = refl
     twice (Some s) = refl
 
+-- the count of the poll at a place
+pub kept_found : (n : ℕ) (ss : List Polled) (i : ℕ) (d : Polled) → position (λ (s : Polled). s.tally.ballot.poll.number == n) ss ≡ Some i → d ≡ get_or ss i d → kept_at n (kept_of ss) ≡ Some d.tally.kept
+kept_found n ss i d at here = ap (option_map (λ (k : Kept). k.count)) (changing.found_at kept_in (λ (k : Kept). k.number == n) ss i d at) ∙ ap (λ (s : Polled). Some s.tally.kept) (sym here)
+
 -- where the tally of one poll stays
 pub kept_still : (ss : List Polled) (i : ℕ) (d new : Polled) → d ≡ get_or ss i d → new.tally ≡ d.tally → kept_of (slice_set ss i new) ≡ kept_of ss
 kept_still [] i d new here same = refl

@@ -4,5 +4,6 @@ pub mod Each
 pub mod Holdings
 pub mod Keeping
 pub mod Nominations
+pub mod Recounting
 pub mod Running
 pub mod Sessions

@@ -4,6 +4,7 @@ ghost use Rattle.std.specs.Prelude.{◌≡◌, ◌<◌, ◌==◌, ℕ, List, ◌
 ghost use Rattle.std.specs.List.{position};
 ghost use Rattle.std.specs.Option.{option_copied};
 ghost use Rattle.lks_blocks.specs.Block.{AllOf, bytes_of};
+ghost use Rattle.lks_law.specs.Answering.{version_at};
 ghost use Rattle.lks_law.specs.Fitting.{IsCounted, most_numbered};
 ghost use Rattle.lks_law.specs.State.{copy_at, blocks_at, deposited, opened_at, replaced_in, agreed_at, noted, copy_changed};
 ghost use Rattle.lks_law.specs.Journal as journal;
@@ -12,7 +13,7 @@ ghost use Rattle.lks_versions.specs.Each.{EachOf};
 ghost use Rattle.lks_versions.specs.Shelf.{newest_of, current_of};
 
 use lks_base::{AuId, Bytes, OutOfMemory};
-use lks_blocks::{BlockPool, Refs};
+use lks_blocks::{BlockPool, BlockRef, Refs};
 use lks_versions::{Newest, Versions};
 use std::alloc::Global;
 use std::marker::Model;
@@ -71,6 +72,16 @@ pub fn count_held(copies: &[Held], au: AuId) -> u16
     match find_copy(copies, au) {
         Some(held) => held.versions.count(),
         None => unreachable!(),
+    }
+}
+
+/// The number of the newest version of an AU, 0 of one that isn't held.
+pub fn version_of(copies: &[Held], au: AuId) -> u32
+    ensures { result ≡ version_at au (copies_of copies.now) }
+{
+    match find_copy(copies, au) {
+        Some(held) => held.versions.current(),
+        None => 0,
     }
 }
 
@@ -185,6 +196,19 @@ impl Copies {
     {
         match self.get(au) {
             Some(held) => held.versions.newest(pool),
+            None => unreachable!(),
+        }
+    }
+
+    /// References to the blocks of an AU that is held.
+    #[tactic(auto, using(crate::proofs::Holdings::held_of, crate::proofs::Holdings::copy_seen, lks_versions::specs::Each::each_newest))]
+    pub fn refs(&self, au: AuId) -> &[BlockRef]
+        requires held { is_some (copy_at au (copies_of self.now)) ≡ true }
+        ensures blocks { bytes_of result.now ≡ blocks_at au (copies_of self.now) }
+        ensures of { (pool : List ℕ) → All (IsOf pool) self.now → AllOf pool result.now }
+    {
+        match self.get(au) {
+            Some(held) => held.versions.newest_refs(),
             None => unreachable!(),
         }
     }

@@ -17,11 +17,13 @@ pub mod reminders;
 mod samples;
 mod stations;
 pub mod tallies;
+mod tallying;
 pub mod voting;
 
 pub use audits::check_aus;
-pub use copies::{Copies, Held, count_blocks, count_held, find_copy, refer};
+pub use copies::{Copies, Held, count_blocks, count_held, find_copy, refer, version_of};
 pub use openings::{Opening, begin};
 pub use polls::{Polls, find_poll};
 pub use samples::sample_inner;
 pub use stations::Station;
+pub use tallying::tag_ready;

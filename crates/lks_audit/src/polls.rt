@@ -1,24 +1,29 @@
 //! The polls of a peer that run.
 
-ghost use Rattle.std.specs.Prelude.{◌≡◌, ◌==◌, ◌++◌, ◌∷◌, [], ℕ, List, None, Some, false, true, length, map, option_map, find, OnOk, OnErr, IfOk, All};
+ghost use Rattle.std.specs.Prelude.{◌≡◌, ◌==◌, ◌++◌, ◌∷◌, [], ℕ, List, None, Some, false, true, length, map, option_map, find, OnOk, OnErr, IfOk, IfSome, All};
 ghost use Rattle.std.specs.List.{position};
 ghost use Rattle.std.specs.Option.{option_copied};
+ghost use Rattle.lks_blocks.specs.Block.{AllOf};
 ghost use Rattle.lks_law.specs.State.{poll_at, refs_agreed, changed, without_poll, nominated_by, widened_to, voted_by, shut_now, asking, answered};
 ghost use Rattle.lks_law.specs.Reacting.{for_poll, tally_in, repair_in};
 ghost use Rattle.lks_law.specs.Turning.{has_inner_of};
 ghost use Rattle.lks_audit.specs.Copied.{copies_of, IsOf, HasBlocks};
 ghost use Rattle.lks_audit.specs.Kept.{kept_of, kept_at, kept_voted, kept_by_tally, without_kept};
 ghost use Rattle.lks_audit.specs.Seen.{poll_of, polls_of, AreAgreed, MayVote, MayAsk, IsOn, RunsOn, forgetting};
+ghost use Rattle.lks_audit.specs.Tallying.{IsTallyIn};
 
 use crate::copies::Copies;
 use crate::lists::change_held;
 use crate::reactions::no_reaction;
 use crate::stations::Station;
 use crate::tallies::{repair_held, tally_held};
+use crate::tallying::{job_held, tally_done};
 use lks_base::{AuId, Bytes, Hashes, Ids, OutOfMemory, PeerId, Reaction};
 use lks_blocks::BlockPool;
 use lks_poller::PollSession;
 use lks_refs::References;
+use lks_versions::Place;
+use lks_work::{TallyDone, TallyJob};
 use std::alloc::Global;
 use std::marker::Model;
 
@@ -111,6 +116,53 @@ impl Polls {
     {
         match self.place(number) {
             Some(i) => tally_held(alloc, own, pool, copies, tick, &mut self.list[i]),
+            None => Ok(no_reaction(alloc)),
+        }
+    }
+
+    /// The tally of the poll of this number as a job, if the poll runs and its votes may be counted.
+    #[tactic(auto, using(crate::proofs::Sessions::found_poll, crate::proofs::Sessions::no_poll, crate::proofs::Running::on_place, crate::proofs::Keeping::kept_found))]
+    pub fn job(
+        &self,
+        alloc: Global,
+        own: &Station,
+        copies: &Copies,
+        places: &[Place],
+        number: u32,
+    ) -> Result<Option<TallyJob>, OutOfMemory>
+        requires on { All (IsOn own.now.id (copies_of copies.now)) self.now }
+        ensures job { IfOk result (IsTallyIn own.now places.now (copies_of copies.now) (poll_at number (polls_of self.now))) }
+        ensures kept { IfOk result (λ o. IfSome o (λ j. Some j.tally.kept ≡ kept_at number (kept_of self.now))) }
+        ensures of { IfOk result (λ o. IfSome o (λ j. (pool : List ℕ) → All (IsOf pool) copies.now → AllOf pool j.refs)) }
+    {
+        match self.place(number) {
+            Some(i) => job_held(alloc, own, copies, places, &self.list[i]),
+            None => Ok(None),
+        }
+    }
+
+    /// What the rules say about the votes of a poll, over the copy that is held, once they were counted elsewhere.
+    #[tactic(auto, using(crate::proofs::Sessions::found_poll, crate::proofs::Sessions::no_poll, crate::proofs::Sessions::seen_still, crate::proofs::Running::on_place, crate::proofs::Running::on_set, crate::proofs::Keeping::kept_counted, crate::proofs::Keeping::kept_uncounted))]
+    pub fn accept(
+        &mut self,
+        alloc: Global,
+        own: &Station,
+        pool: &BlockPool,
+        copies: &Copies,
+        tick: u32,
+        done: TallyDone,
+    ) -> Result<Reaction, OutOfMemory>
+        requires of { All (IsOf pool.now) copies.now }
+        requires counted { All HasBlocks (copies_of copies.now) }
+        requires on { All (IsOn own.now.id (copies_of copies.now)) self.old }
+        requires refs { AllOf pool.now done.job.refs }
+        ensures reaction { IfOk result (λ r. r ≡ for_poll (poll_at done.job.number (polls_of self.old)) (tally_in own.now tick (copies_of copies.now))) }
+        ensures seen { polls_of self.new ≡ polls_of self.old }
+        ensures on { All (IsOn own.now.id (copies_of copies.now)) self.new }
+        ensures kept { kept_of self.new ≡ kept_by_tally own.now (copies_of copies.now) done.job.number (poll_at done.job.number (polls_of self.old)) (kept_of self.old) }
+    {
+        match self.place(done.job.number) {
+            Some(i) => tally_done(alloc, own, pool, copies, tick, &mut self.list[i], done),
             None => Ok(no_reaction(alloc)),
         }
     }

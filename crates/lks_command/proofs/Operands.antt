@@ -7,7 +7,7 @@ use Rattle.clap.specs.Words.{App, Text, first_of, first_value, is_simple, matche
 use Rattle.clap.specs.declared.parser.matches.Found.{Found}
 use Rattle.clap.proofs.WalkLemmas.{first_value-rows}
 use Rattle.clap.proofs.OnLiterals.{clap_on_literals}
-use Rattle.lks_command.specs.Commands.{command_in, command_of, drill_in}
+use Rattle.lks_command.specs.Commands.{alone_in, command_in, command_of, drill_in}
 use Rattle.lks_command.specs.declared.commands.Command.{Command}
 use Rattle.lks_command.specs.Line.{are_operands, is_operand, line}
 
@@ -87,10 +87,10 @@ names_command f words word seed operands rows word_is seed_is =
 hyphen : (x : ℕ) → not (x == 45) ≡ false → x ≡ 45
 hyphen x h = search rules
 
-no_replay : (w : List ℕ) → is_operand w ≡ false → command_in (w ∷ []) ≡ None
-unfolding command_in
-no_replay [] h = absurd (true≢false cc)
-no_replay (x ∷ xs) h = rw (hyphen x h) refl
+none_alone : (w : List ℕ) → is_operand w ≡ false → command_in (w ∷ []) ≡ None
+unfolding alone_in command_in
+none_alone [] h = absurd (true≢false cc)
+none_alone (x ∷ xs) h = rw (hyphen x h) refl
 
 no_drill : (w n : List ℕ) → is_operand w ≡ false → drill_in w n ≡ None
 unfolding drill_in
@@ -113,7 +113,7 @@ bad_seed w n h = rw (no_number (2 ^ 64 - 1) n h) (same (bytes_eq w (codes "drill
 pub others_name_none : (words : List (List ℕ)) → are_operands words ≡ false → command_in words ≡ None
 unfolding are_operands command_in
 others_name_none [] h = refl
-others_name_none (w ∷ []) h = no_replay w h
+others_name_none (w ∷ []) h = none_alone w h
 others_name_none (w ∷ n ∷ []) h = by_first (is_operand w) refl h where
   by_first : (b : Bool) → is_operand w ≡ b → (b && is_operand n) ≡ false → drill_in w n ≡ None
   by_first true e bad = bad_seed w n bad

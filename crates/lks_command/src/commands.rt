@@ -8,30 +8,44 @@ use lks_base::OutOfMemory;
 use lks_words::number;
 use std::alloc::Global;
 
-/// What the program is asked to do.
+/// What is played, and what is told of it.
 #[derive(Clone, Copy, Debug, PartialEq, Eq)]
-pub enum Command {
+pub enum Play {
     /// A script from the source is played, and the report of its history is written.
     Replay,
     /// The scenario of a seed is played, and one line on its history is written.
     Drill { seed: u64 },
+    /// A script from the source is played, and its plan and the journals of its honest peers are written.
+    Journals,
 }
 
-#[tactic(auto, unfolding(crate::specs::Commands::drill_in))]
+/// What the program is asked to do.
+#[derive(Clone, Copy, Debug, PartialEq, Eq)]
+pub enum Command {
+    /// Peers are played.
+    Play(Play),
+    /// Journals from the source are examined, and one line on what is found of them is written.
+    Evidence,
+}
+
+#[tactic(auto, unfolding(crate::specs::Commands::drill_in, crate::specs::Commands::alone_in))]
 fn named(word: Option<&str>, seed: Option<&str>) -> Option<Command>
     ensures { result ≡ command_of (option_map (λ s. s.now) word.entry) (option_map (λ s. s.now) seed.entry) }
 {
     match (word, seed) {
-        (Some("replay"), None) => Some(Command::Replay),
+        (Some("replay"), None) => Some(Command::Play(Play::Replay)),
+        (Some("journals"), None) => Some(Command::Play(Play::Journals)),
+        (Some("evidence"), None) => Some(Command::Evidence),
         (Some("drill"), Some(seed)) => {
             let seed = number(u64::MAX, seed.as_bytes())?;
-            Some(Command::Drill { seed })
+            Some(Command::Play(Play::Drill { seed }))
         }
         _ => None,
     }
 }
 
-/// The command that the words name, if they name one: `replay`, or `drill` and a seed, a decimal number without leading zeros.
+/// The command that the words name, if they name one: `replay`, `journals` or `evidence`, or `drill` and a seed, a decimal number
+/// without leading zeros.
 #[tactic(auto, using(crate::proofs::Operands::names_command, crate::proofs::Operands::others_name_none))]
 pub fn parse(alloc: Global, words: &[String]) -> Result<Option<Command>, OutOfMemory>
     ensures { IfOk result (λ r. r ≡ command_in (map string_bytes words.now)) }

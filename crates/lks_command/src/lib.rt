@@ -4,4 +4,4 @@
 mod commands;
 mod line;
 
-pub use commands::{Command, parse};
+pub use commands::{Command, Play, parse};

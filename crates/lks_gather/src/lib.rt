@@ -30,5 +30,5 @@ pub use laws::{
     every_history_is_gathered, every_honest_peer_may_be_filed, every_journal_is_its_frames,
     every_plan_read_is_said, every_script_is_a_set, every_text_is_parted,
 };
-pub use printing::{Filed, print_set};
+pub use printing::{Filed, print_set, put_journals};
 pub use reading::read_set;

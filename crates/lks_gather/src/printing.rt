@@ -83,7 +83,8 @@ fn put_journal(alloc: Global, out: &mut Vec<u8>, journal: &Filed) -> Result<(), 
     put_text(out, b"\n")
 }
 
-fn put_journals(alloc: Global, out: &mut Vec<u8>, journals: &[Filed]) -> Result<(), AllocError>
+/// A line for each journal. Without memory some of them may stand behind `out`.
+pub fn put_journals(alloc: Global, out: &mut Vec<u8>, journals: &[Filed]) -> Result<(), AllocError>
     requires { All (λ j. AreBodies j.bodies) journals.now }
     ensures lines { OnOk result (out.new.items ≡ out.old.items ++ flat_map journal_text journals.now) }
     ensures bytes { OnOk result (AreFiles journals.now) }

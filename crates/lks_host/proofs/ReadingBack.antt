@@ -97,11 +97,10 @@ same_batches f own disk batches bodies lies found = held_once bodies (bodies_of 
 
 -- a host whose journal was read again
 pub stands_again : {D : Type 0} (f : Face D) (host : Host D) (own : Station) (disk : D) (batches : List (List Record)) (bodies : List (List ℕ)) → LiesOn f own disk batches
-    → bodies ≡ bodies_of batches → host.peer.own ≡ own → host.peer.state ≡ state_of own (together batches) → host.count ≡ length bodies → IsSettled f host.journal bodies → StandsFor f host batches
-stands_again f host own disk batches bodies lies same same_own whole count settled = record {
+    → bodies ≡ bodies_of batches → host.peer.own ≡ own → host.peer.state ≡ state_of own (together batches) → IsSettled f host.journal bodies → StandsFor f host batches
+stands_again f host own disk batches bodies lies same same_own whole settled = record {
   state = whole ∙ ap (λ (o : Station). state_of o (together batches)) (sym same_own);
   disk = subst (IsSettled f host.journal) same settled;
-  count = count ∙ ap length same ∙ length-map batches batch_spelling;
   read = lies.read;
   fit = subst (λ (o : Station). AreFitting o (blank o) (together batches)) (sym same_own) lies.fit;
 }

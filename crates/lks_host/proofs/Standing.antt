@@ -1,16 +1,14 @@
 -- A host after a reaction.
-use Rattle.std.proofs.Common.{◌≡◌, ◌≤◌, ◌+◌, ◌-◌, ◌^◌, ◌∙◌, ap, sym, subst, inl, inr, refl, true, arith, length, length-append, ℕ, Bool, List, [], ◌∷◌, ◌++◌}
+use Rattle.std.proofs.Common.{◌≡◌, ◌∙◌, ap, sym, subst, inl, inr, refl, true, ℕ, Bool, List, [], ◌∷◌, ◌++◌}
 use Rattle.std.proofs.lemmas.Bool.{and_parts, cases_Bool, eqb-true}
-use Rattle.std.proofs.lemmas.List.{length-map}
-use Rattle.std.specs.Prelude.{Option, None, Some, Ok, find, map, option_map}
+use Rattle.std.specs.Prelude.{Option, None, Some, find, map, option_map}
 use Rattle.lks_base.specs.Checking.{plan_fault}
 use Rattle.lks_base.specs.declared.plans.PeerPlan.{PeerPlan}
 use Rattle.lks_base.specs.declared.plans.Plan.{Plan}
 use Rattle.lks_base.specs.declared.records.Record.{Record}
 use Rattle.lks_disk.specs.Face.{Face}
-use Rattle.lks_field.proofs.Frames.{few_bodies}
 use Rattle.lks_host.specs.Bodies.{bodies_of, AreRead, ReadBack}
-use Rattle.lks_host.specs.Hosted.{StandsFor, IsMadeBy, count_after}
+use Rattle.lks_host.specs.Hosted.{StandsFor, IsMadeBy}
 use Rattle.lks_host.specs.declared.hosts.Host.{Host}
 use Rattle.lks_journal.specs.Settled.{IsSettled}
 use Rattle.lks_law.proofs.Batches.{batch_more, each_alone}
@@ -20,17 +18,6 @@ use Rattle.lks_law.specs.Polls.{Station}
 use Rattle.lks_law.specs.State.{State, after, after_all, blank, state_of}
 use Rattle.lks_law.specs.World.{station_of, standing_of, honest_peer, is_honest_at}
 use Rattle.lks_peer.specs.Knows.{Knowing, knowing_of}
-use Rattle.lks_record.specs.Reading.{decode_of}
-use Rattle.lks_record.specs.Spelling.{batch_spelling}
-
--- there is one batch more, and no counter is at its end
-pub count_more : (count : ℕ) (batches : List (List Record)) (records : List Record) → count ≡ length batches → length batches + 1 ≤ 2 ^ 64 - 1 → count_after count records ≡ length (with_batch batches records)
-count_more count batches [] is few = is
-count_more count batches (r ∷ rs) is few = omega (arith, is, few, length-append batches ((r ∷ rs) ∷ []))
-
--- a journal has fewer batches than bytes
-pub few_batches : {D : Type 0} (f : Face D) (host : Host D) (batches : List (List Record)) → StandsFor f host batches → host.journal.end ≤ 2147483647 → length batches + 1 ≤ 2 ^ 64 - 1
-few_batches f host batches stood room = omega (arith, stood.disk.end, few_bodies (bodies_of batches), length-map batches batch_spelling, room)
 
 -- records after records
 state_more : (own : Station) (s : State) (xs ys : List Record) → after_all own s (xs ++ ys) ≡ after_all own (after_all own s xs) ys
@@ -59,13 +46,12 @@ state_behind own state batches records is =
 pub stands_after : {D : Type 0} (f : Face D) (before after : Host D) (batches : List (List Record)) (records : List Record) → StandsFor f before batches
     → after.peer.own ≡ before.peer.own → after.peer.state ≡ after_all before.peer.own before.peer.state records → AreFitting before.peer.own before.peer.state records
     → IsSettled f after.journal (bodies_of (with_batch batches records)) → AreRead (with_batch batches records)
-    → before.journal.end ≤ 2147483647 → after.count ≡ count_after before.count records → StandsFor f after (with_batch batches records)
-stands_after f before after batches records stood same state fits disk read room count = record {
+    → StandsFor f after (with_batch batches records)
+stands_after f before after batches records stood same state fits disk read = record {
   state =
       state ∙ state_behind before.peer.own before.peer.state batches records stood.state
       ∙ ap (λ (o : Station). state_of o (together (with_batch batches records))) (sym same);
   disk = disk;
-  count = count ∙ count_more before.count batches records stood.count (few_batches f before batches stood room);
   read = read;
   fit = subst (λ (o : Station). AreFitting o (blank o) (together (with_batch batches records))) (sym same) (fit_behind before.peer.own before.peer.state batches records stood.state stood.fit fits);
 }
@@ -115,24 +101,24 @@ made_begun plan pool id peer good begun = from_found (honest_peer id plan) refl 
 
 -- a host begins with a batch for each deposit
 pub stands_begun : {D : Type 0} (f : Face D) (host : Host D) (plan : Plan) (pool : List ℕ) (p : PeerPlan) (list : List Record) → host.peer ≡ knowing_of pool (standing_of plan p) → list ≡ (standing_of plan p).journal
-    → AreFitting (station_of plan p) (blank (station_of plan p)) (standing_of plan p).journal → host.count ≡ length list
+    → AreFitting (station_of plan p) (blank (station_of plan p)) (standing_of plan p).journal
     → IsSettled f host.journal (bodies_of (map alone list)) → AreRead (map alone list) → StandsFor f host (map alone (standing_of plan p).journal)
-stands_begun f host plan pool p list peer is fit count disk read =
+stands_begun f host plan pool p list peer is fit disk read =
     let js = (standing_of plan p).journal in
     let own : host.peer.own ≡ station_of plan p = ap (λ (k : Knowing). k.own) peer in
     record {
       state = ap (λ (k : Knowing). k.state) peer ∙ ap (state_of (station_of plan p)) (sym (each_alone js)) ∙ ap (λ (o : Station). state_of o (together (map alone js))) (sym own);
       disk = subst (λ (xs : List Record). IsSettled f host.journal (bodies_of (map alone xs))) is disk;
-      count = count ∙ ap length is ∙ sym (length-map js alone);
       read = subst (λ (xs : List Record). AreRead (map alone xs)) is read;
       fit = subst (λ (o : Station). AreFitting o (blank o) (together (map alone js))) (sym own) (subst (AreFitting (station_of plan p) (blank (station_of plan p))) (sym (each_alone js)) fit);
     }
 
--- a batch more reads back too
+-- batches behind batches read back too
+pub read_both : (xs ys : List (List Record)) → AreRead xs → AreRead ys → AreRead (xs ++ ys)
+read_both [] ys first next = next
+read_both (x ∷ xs) ys first next = (first.0, read_both xs ys first.1 next)
+
+-- so does a batch more
 pub read_more : (batches : List (List Record)) (records : List Record) → AreRead batches → ReadBack records → AreRead (with_batch batches records)
 read_more batches [] read one = read
-read_more batches (r ∷ rs) read one = behind batches (one (λ e. cc)).read read
-  where
-    behind : (bs : List (List Record)) → decode_of (batch_spelling (r ∷ rs)) ≡ Ok (r ∷ rs) → AreRead bs → AreRead (bs ++ (r ∷ rs) ∷ [])
-    behind [] first read = (first, tt)
-    behind (b ∷ bs) first read = (read.0, behind bs first read.1)
+read_more batches (r ∷ rs) read one = read_both batches ((r ∷ rs) ∷ []) read ((one (λ e. cc)).read, tt)

@@ -8,8 +8,8 @@ use Rattle.lks_journal.specs.declared.faults.JournalFault.{JournalFault}
 use Rattle.lks_journal.specs.declared.faults.JournalFault.TheVariants.{Failed, Cut}
 use Rattle.lks_journal.specs.declared.journals.Journal.{Journal}
 
--- The power wasn't cut, no fuse was set or ended, or chosen anew, and a cut is answered only where one was set. None burned at
--- `Ok`, or where none was set.
+-- The power wasn't cut, no fuse was set or ended, or chosen anew, and a cut is answered only where one was set, which has burned.
+-- None burned at `Ok`, or where none was set.
 pub record Behaves {D T : Type 0} (f : Face D) (old new : D) (result : Result T JournalFault) : Type 0 where
   pub told : f.told old ↔ f.told new
   pub cause : HasCause (f.faults old) (f.faults new) result
@@ -18,6 +18,7 @@ pub record Behaves {D T : Type 0} (f : Face D) (old new : D) (result : Result T 
   pub chosen : f.choice new ≡ f.choice old
   pub powered : f.cuts new ≡ f.cuts old
   pub cut : IsErrOf result Cut → f.fused old ≡ true
+  pub burned : IsErrOf result Cut → f.burned new ≡ true
   pub unburned : OnOk result (f.burns new ≡ f.burns old)
   pub unset : f.fused old ≡ false → f.burns new ≡ f.burns old
 

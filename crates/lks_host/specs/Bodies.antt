@@ -1,21 +1,16 @@
 -- A journal as it lies on a disk.
-use Rattle.std.specs.Prelude.{◌≡◌, ◌≤◌, ◌-◌, ℕ, List, [], ◌∷◌, ◌++◌, length, Option, Some, None, unwrap_or, slice_get, Result, Ok, Err, map}
+use Rattle.std.specs.Prelude.{◌≡◌, ◌-◌, ℕ, List, [], ◌∷◌, ◌++◌, length, Option, Some, None, unwrap_or, slice_get, Result, Ok, Err, map}
 use Rattle.lks_base.specs.declared.records.Record.{Record}
 use Rattle.lks_record.specs.Reading.{decode_of}
-use Rattle.lks_record.specs.Sizes.{most_batch_bytes}
 use Rattle.lks_record.specs.declared.fault.RecFault.{RecFault}
 use Rattle.lks_record.specs.Spelling.{batch_spelling}
+use Rattle.lks_sort.specs.Fits.{IsSpelled}
 
 -- one body a batch
 abbrev pub bodies_of : List (List Record) → List (List ℕ)
 bodies_of batches = map batch_spelling batches
 
--- a batch is read back from its spelling, which isn't longer than it may be
-pub record IsSpelled (batch : List Record) : Type 0 where
-  pub read : decode_of (batch_spelling batch) ≡ Ok batch
-  pub short : length (batch_spelling batch) ≤ most_batch_bytes batch
-
--- so are these records, if there are any
+-- these records, if there are any, are read back
 abbrev pub ReadBack : List Record → Type 0
 ReadBack records = (records ≡ [] → ⊥) → IsSpelled records
 

@@ -1,9 +1,8 @@
 -- A peer whose journal is on its disk.
-use Rattle.std.specs.Prelude.{◌≡◌, ◌≤◌, ◌⊎◌, ℕ, Some, None, List, [], ◌∷◌, length, take, map, Result, Ok, Err, option_map}
+use Rattle.std.specs.Prelude.{◌≡◌, ◌≤◌, ◌⊎◌, ℕ, Some, None, List, ◌++◌, length, take, map, Result, Ok, Err, option_map}
 use Rattle.lks_base.specs.Checking.{plan_fault}
 use Rattle.lks_base.specs.declared.plans.Plan.{Plan}
 use Rattle.lks_base.specs.declared.records.Record.{Record}
-use Rattle.lks_disk.specs.Counts.{raised}
 use Rattle.lks_disk.specs.Face.{Face}
 use Rattle.lks_field.specs.Frames.{HoldsBodies}
 use Rattle.lks_host.specs.Bodies.{bodies_of, AreRead}
@@ -19,14 +18,12 @@ use Rattle.lks_law.specs.World.{station_of, honest_peer}
 pub record StandsFor {D : Type 0} (f : Face D) (host : Host D) (batches : List (List Record)) : Type 0 where
   pub state : host.peer.state ≡ state_of host.peer.own (together batches)
   pub disk : IsSettled f host.journal (bodies_of batches)
-  pub count : host.count ≡ length batches
   pub read : AreRead batches
   pub fit : AreFitting host.peer.own (blank host.peer.own) (together batches)
 
--- the disk holds a batch for each of these records, which reads back
-pub record Holds {D : Type 0} (f : Face D) (host : Host D) (list : List Record) : Type 0 where
-  pub disk : IsSettled f host.journal (bodies_of (map alone list))
-  pub count : host.count ≡ length list
+-- the disk holds these batches, and behind them one for each of these records, which reads back
+pub record Holds {D : Type 0} (f : Face D) (host : Host D) (before : List (List Record)) (list : List Record) : Type 0 where
+  pub disk : IsSettled f host.journal (bodies_of (before ++ map alone list))
   pub read : AreRead (map alone list)
 
 -- a peer's disk holds these batches, which read back, and whose records fit
@@ -43,11 +40,6 @@ pub record HasFront {D : Type 0} (f : Face D) (batches : List (List Record)) (di
 pub record IsMadeBy (plan : Plan) (own : Station) : Type 0 where
   pub good : plan_fault plan ≡ None
   pub made : option_map (station_of plan) (honest_peer own.id plan) ≡ Some own
-
--- how many batches there are after these records were added as one
-abbrev pub count_after : ℕ → List Record → ℕ
-count_after count [] = count
-count_after count (r ∷ rs) = raised count
 
 -- what is left of a call that takes a disk: the disk
 abbrev pub disk_hosted : {D F : Type 0} → Result (Host D) (D × F) → D

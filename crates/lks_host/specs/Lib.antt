@@ -1,3 +1,4 @@
+pub mod Adopting
 pub mod Behaving
 pub mod Bodies
 pub mod Cutting

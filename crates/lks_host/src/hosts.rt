@@ -1,7 +1,7 @@
 //! Hosts.
 
 ghost use Rattle.std.specs.List.{filter_map};
-ghost use Rattle.std.specs.Prelude.{◌≡◌, ◌≤◌, ◌+◌, ◌-◌, [], List, true, false, Some, None, Err, IfOk, OnErr, IsSome, IsErrOf, map, option_map, slice_get};
+ghost use Rattle.std.specs.Prelude.{◌≡◌, ◌≤◌, ◌+◌, ◌-◌, ◌*◌, [], ℕ, List, length, true, false, Some, None, Err, IfOk, OnErr, IsSome, IsErrOf, map, option_map, slice_get};
 ghost use Rattle.lks_base.specs.Checking.{plan_fault};
 ghost use Rattle.lks_base.specs.declared.records.Record.{Record as Recorded};
 ghost use Rattle.lks_disk.specs.Face.{HasFuse, HasLost};
@@ -9,14 +9,13 @@ ghost use Rattle.lks_host.specs.Behaving.{Behaves};
 ghost use Rattle.lks_base.specs.declared.plans.PeerPlan.{PeerPlan as Planned};
 ghost use Rattle.lks_host.specs.Bodies.{bodies_of};
 ghost use Rattle.lks_host.specs.Faults.{as_journal, is_refused};
-ghost use Rattle.lks_host.specs.Hosted.{count_after};
 ghost use Rattle.lks_journal.specs.Adding.{KeepsOrAdds};
 ghost use Rattle.lks_law.specs.Batches.{with_batch, alone};
 ghost use Rattle.lks_law.specs.Entries.{note_with};
 ghost use Rattle.lks_law.specs.Facts.{IsHeard};
 ghost use Rattle.lks_law.specs.Table.{react_on};
 ghost use Rattle.lks_law.specs.Turning.{ready_on, turns_on, has_inner_in};
-ghost use Rattle.lks_law.specs.World.{standing_of, honest_peer};
+ghost use Rattle.lks_law.specs.World.{deposits, station_of, standing_of, honest_peer};
 ghost use Rattle.lks_peer.specs.Knows.{knowing_of};
 
 use crate::deposits::write_each;
@@ -29,20 +28,9 @@ use lks_blocks::BlockPool;
 use lks_disk::{CrashDisk, Disk};
 use lks_journal::Journal;
 use lks_peer::Peer;
-use lks_sort::begin_peer;
+use lks_sort::{begin_peer, missing_deposits};
 use std::alloc::Global;
 use std::sync::Wait;
-
-/// How many batches there are after these records were added as one.
-fn count_with(count: u64, records: &[Record]) -> u64
-    ensures { result ≡ count_after count records.now }
-{
-    if records.is_empty() {
-        count
-    } else {
-        count.saturating_add(1)
-    }
-}
 
 /// A peer, and the journal on its disk. What the peer stands for is what the disk holds, until a call is refused.
 #[derive(Drop)]
@@ -50,8 +38,6 @@ pub struct Host<D: Disk> {
     alloc: Global,
     peer: Peer,
     journal: Journal<D>,
-    /// How many batches the journal holds.
-    count: u64,
     broken: bool,
 }
 
@@ -59,7 +45,10 @@ impl<D: Disk> Host<D> {
     ghost use Rattle.lks_sort.specs.Fits.{AreFirst};
     ghost use Rattle.lks_host.specs.declared.faults.HostFault.TheVariants.{Memory};
     ghost use Rattle.lks_disk.specs.Device.{Only};
+    ghost use Rattle.lks_host.specs.Adopting.{Adopts, IsReadAs, LeavesFront};
     ghost use Rattle.lks_host.specs.Hosted.{HasFront, Holds, StandsFor, answer_of, disk_hosted};
+    ghost use Rattle.lks_journal.specs.Settled.{IsSettled};
+    ghost use Rattle.lks_sort.specs.Owners.{Owns};
     ghost use Rattle.lks_host.specs.Stepping.{CanStep, Stepped, IsWritten};
 
     /// The honest peer `id` of a good plan, on an empty disk: its deposits are there, one batch each. Nothing is written
@@ -98,7 +87,7 @@ impl<D: Disk> Host<D> {
         requires fits { IfOk begun (λ p. AreFirst p.1.items) }
         ensures unmade { OnErr begun (result ≡ Err (disk, Memory)) }
         ensures peer { IfOk result (λ host. IfOk begun (λ p. host.peer ≡ p.0)) }
-        ensures holds { D.face.told disk → IfOk result (λ host. IfOk begun (λ p. Holds D.face host p.1.items)) }
+        ensures holds { D.face.told disk → IfOk result (λ host. IfOk begun (λ p. Holds D.face host [] p.1.items)) }
         ensures front { D.face.told disk → Only [] (D.face.may_leave disk) → OnErr result (IfOk begun (λ p. HasFront D.face (map alone p.1.items) (disk_hosted result))) }
         ensures whole { IfOk result (λ host. host.broken ≡ false) }
         ensures end { IfOk result (λ host. host.journal.end ≤ 33558580) }
@@ -108,19 +97,72 @@ impl<D: Disk> Host<D> {
             Ok(begun) => begun,
             Err(_) => return Err((disk, HostFault::Memory)),
         };
-        let mut journal = match Journal::create(alloc, disk) {
-            Ok(journal) => journal,
-            Err((disk, fault)) => return Err((disk, refusal(fault))),
-        };
-        match write_each(alloc, &mut journal, &list) {
+        match Journal::create(alloc, disk) {
+            Ok(journal) => Host::over(alloc, peer, journal, &list),
+            Err((disk, fault)) => Err((disk, refusal(fault))),
+        }
+    }
+
+    /// The host of this peer over a journal to which these records are appended, one batch each.
+    fn over(
+        alloc: Global,
+        peer: Peer,
+        journal: Journal<D>,
+        records: &[Record],
+    ) -> Result<Self, (D, HostFault)>
+        requires fits { AreFirst records.now }
+        requires low { (records.now ≡ [] → ⊥) → journal.end ≤ 33558580 }
+        requires settled { D.face.told journal.disk → (before : List (List Recorded)) × IsSettled D.face journal (bodies_of before) }
+        ensures peer { IfOk result (λ host. host.peer ≡ peer) }
+        ensures holds { D.face.told journal.disk → (before : List (List Recorded)) → IsSettled D.face journal (bodies_of before) → IfOk result (λ host. Holds D.face host before records.now) }
+        ensures front { D.face.told journal.disk → (before : List (List Recorded)) → IsSettled D.face journal (bodies_of before) →
+            OnErr result (LeavesFront D.face before (map alone records.now) (disk_hosted result)) }
+        ensures idle { records.now ≡ [] → IfOk result (λ host. host.journal ≡ journal) }
+        ensures whole { IfOk result (λ host. host.broken ≡ false) }
+        ensures end { IfOk result (λ host. host.journal.end ≤ journal.end + length records.now * 8389645) }
+        ensures behaves { Behaves D.face journal.disk (disk_hosted result) (as_journal (answer_of result)) }
+    {
+        let mut journal = journal;
+        match write_each(alloc, &mut journal, records) {
             Ok(()) => Ok(Host {
                 alloc,
                 peer,
                 journal,
-                count: list.len() as u64,
                 broken: false,
             }),
             Err(fault) => Err((journal.into_disk(), fault)),
+        }
+    }
+
+    /// The host of the honest peer `id` of a good plan over a journal of unknown origin that was found to be its own: it was
+    /// reopened, and its bodies were sorted, by which came this peer and these records. Where deposits are missing, they are
+    /// appended, one batch each; else no call of the disk is made. Nothing goes into the pool, where sorting put the peer's
+    /// blocks. Refused, it gives the disk back.
+    ///
+    /// Whose batches the disk holds was found out before, by sorting them; `recover` finds nothing out, and goes by what the
+    /// host itself wrote.
+    pub fn adopt(
+        alloc: Global,
+        plan: &Plan,
+        id: PeerId,
+        peer: Peer,
+        journal: Journal<D>,
+        list: &[Record],
+    ) -> Result<Self, (D, HostFault)>
+        requires good { plan_fault plan.now ≡ None }
+        requires honest { IsSome (honest_peer id plan.now) }
+        requires few { length list.now ≤ 1000000000 }
+        requires owned { (bodies : List (List ℕ)) × IsReadAs D.face journal bodies ×
+            ((p : Planned) → honest_peer id plan.now ≡ Some p → Owns (station_of plan.now p) plan.now.aus p.copies bodies list.now peer) }
+        ensures peer { IfOk result (λ host. host.peer ≡ peer) }
+        ensures adopts { (p : Planned) → honest_peer id plan.now ≡ Some p → Adopts D.face (deposits plan.now.aus p.copies) list.now journal result }
+        ensures whole { IfOk result (λ host. host.broken ≡ false) }
+        ensures end { IfOk result (λ host. host.journal.end ≤ journal.end + 33558580) }
+        ensures behaves { Behaves D.face journal.disk (disk_hosted result) (as_journal (answer_of result)) }
+    {
+        match missing_deposits(alloc, plan, id, list.len()) {
+            Ok(missing) => Host::over(alloc, peer, journal, &missing),
+            Err(_) => Err((journal.into_disk(), HostFault::Memory)),
         }
     }
 
@@ -154,10 +196,7 @@ impl<D: Disk> Host<D> {
             }
         };
         match keep(self.alloc, &mut self.journal, answer.records.as_slice()) {
-            Ok(()) => {
-                self.count = count_with(self.count, answer.records.as_slice());
-                Ok(answer)
-            }
+            Ok(()) => Ok(answer),
             Err(fault) => {
                 self.broken = true;
                 Err(fault)
@@ -203,9 +242,10 @@ impl<D: Disk> Host<D> {
 
     /// How many batches the journal holds.
     pub fn count(&self) -> u64
-        ensures { result ≡ self.now.count }
+        ensures count { result ≡ self.now.journal.count }
+        ensures all { (batches : List (List Recorded)) → StandsFor D.face self.now batches → result ≡ length batches }
     {
-        self.count
+        self.journal.count()
     }
 
     /// How many bytes may still stand in the journal, behind its closed gate.
@@ -242,7 +282,7 @@ impl<D: CrashDisk> Host<D> {
     /// Cuts the power of the disk, which picks one outcome of a crash. The host is broken until it is recovered.
     pub fn power_cut(&mut self)
         ensures peer { self.new.peer ≡ self.old.peer }
-        ensures count { self.new.count ≡ self.old.count }
+        ensures count { self.new.journal.count ≡ self.old.journal.count }
         ensures end { self.new.journal.end ≡ self.old.journal.end }
         ensures broken { self.new.broken ≡ true }
         ensures lost { HasLost D.face self.old.journal.disk self.new.journal.disk }
@@ -255,6 +295,9 @@ impl<D: CrashDisk> Host<D> {
 
     /// Reads the journal again after a call that was refused, or after a power cut, with the plan and the pool with which
     /// the host was made. At `Ok` the host stands for the batches that the disk held, and else it is broken, and can be recovered again.
+    ///
+    /// That the disk holds batches of this peer, which read back, is a condition: each disk does on which a host wrote. Of a disk
+    /// that may hold anything, `Journal::reopen`, sorting and `adopt` make a host.
     pub fn recover<R: Wait>(
         &mut self,
         rt: &R,
@@ -278,10 +321,9 @@ impl<D: CrashDisk> Host<D> {
         let (list, last) = read_journal(self.alloc, &bodies)?;
         let peer = Peer::restore(self.alloc, rt, pool, plan, self.peer.id(), &list)?;
         self.peer = peer;
-        self.count = bodies.len() as u64;
         self.broken = false;
         Ok(Recovered {
-            count: self.count,
+            count: self.journal.count(),
             last,
         })
     }

@@ -3,9 +3,9 @@
 ghost use Rattle.std.specs.Prelude.{◌≡◌, ◌+◌, ◌≤◌, ◌++◌, ◌∷◌, [], ℕ, List, Err, length, All, IsErrOf};
 ghost use Rattle.lks_base.specs.declared.records.Record.{Record as Recorded};
 ghost use Rattle.lks_host.specs.Behaving.{Behaves, CallsFor};
-ghost use Rattle.lks_host.specs.Bodies.{bodies_of, IsSpelled, ReadBack};
+ghost use Rattle.lks_host.specs.Bodies.{bodies_of, ReadBack};
 ghost use Rattle.lks_host.specs.Faults.{told_by, as_journal};
-ghost use Rattle.lks_sort.specs.Fits.{FitsBatch};
+ghost use Rattle.lks_sort.specs.Fits.{FitsBatch, IsSpelled};
 ghost use Rattle.lks_journal.specs.Adding.{KeepsOrAdds};
 ghost use Rattle.lks_journal.specs.Called.{Called};
 ghost use Rattle.lks_journal.specs.Faults.{IsOfDisk};

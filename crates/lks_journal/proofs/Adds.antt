@@ -1,10 +1,12 @@
 -- What the two writes of an append make of a journal, each of them done or not.
-use Rattle.std.proofs.Common.{◌≡◌, ◌<◌, ◌∙◌, inl, ℕ, true, List, [], ◌∷◌, ◌++◌, ◌+◌, length, sym, subst, arith}
+use Rattle.std.proofs.Common.{◌≡◌, ◌<◌, ◌∙◌, inl, ℕ, true, List, [], ◌∷◌, ◌++◌, ◌+◌, ◌≤◌, length, length-append, sym, subst, arith}
 use Rattle.std.specs.Prelude.{Result, Ok, Err, OnOk, IsErrOf}
+use Rattle.lks_disk.specs.Counts.{raised}
 use Rattle.lks_disk.proofs.Runs.{started, weaker, joined}
 use Rattle.lks_disk.specs.Face.{Face, AlwaysLeaves}
 use Rattle.lks_journal.specs.Adding.{HoldsEither, KeepsOrAdds}
 use Rattle.lks_journal.specs.Called.{Called}
+use Rattle.lks_field.proofs.Frames.{few_bodies}
 use Rattle.lks_field.specs.Frames.{HoldsBodies}
 use Rattle.lks_journal.specs.Tearing.{CanLeaveTorn}
 use Rattle.lks_journal.specs.Puts.{Puts}
@@ -37,12 +39,13 @@ module _ {D : Type 0} (f : Face D) (old new : Journal D) (mid : D) (bodies : Lis
   none P (Err e) never = tt
 
   -- the first write was cut short
-  pub adds_first : (result : Result (Unit {0}) JournalFault) → OnOk result ⊥ → new.end ≡ old.end → Puts f (old.end + 1) piece old.disk new.disk result → AlwaysLeaves f old.disk new.disk (CanLeaveTorn (f.may_leave old.disk) (old.end + 1) (length piece)) → KeepsOrAdds f old new bodies after result
-  adds_first result never end p run = record {
+  pub adds_first : (result : Result (Unit {0}) JournalFault) → OnOk result ⊥ → new.end ≡ old.end → new.count ≡ old.count → Puts f (old.end + 1) piece old.disk new.disk result → AlwaysLeaves f old.disk new.disk (CanLeaveTorn (f.may_leave old.disk) (old.end + 1) (length piece)) → KeepsOrAdds f old new bodies after result
+  adds_first result never end count p run = record {
     ok = none _ result never;
     memory = λ is. record {
       holds = subst (HoldsBodies bodies) (sym (p.memory is)) s.holds;
       end = end ∙ s.end;
+      count = count ∙ s.count;
       durable = λ c left. s.durable c (p.memory_crash is c left) ∙ sym (p.memory is);
     };
     crash = λ c left. inl (first_crash a (f.may_leave old.disk) s.durable c (p.crash c left));
@@ -60,18 +63,19 @@ module _ {D : Type 0} (f : Face D) (old new : Journal D) (mid : D) (bodies : Lis
         (weaker f.moment f.left_since old.disk mid _ (HoldsEither bodies after) (λ c left. inl (first_crash a (f.may_leave old.disk) s.durable c left)) first_run)
         (weaker f.moment f.left_since mid new.disk _ (HoldsEither bodies after) (second_crash a (f.seen mid) p.holds (f.may_leave mid) p.durable) second_run)
 
-    stays_held : new.end ≡ old.end → IsErrOf result Memory → IsSettled f new bodies
-    stays_held end is = record {
+    stays_held : new.end ≡ old.end → new.count ≡ old.count → IsErrOf result Memory → IsSettled f new bodies
+    stays_held end count is = record {
       holds = subst (HoldsBodies bodies) (sym (q.memory is)) (first_done a (f.seen mid) p.holds);
       end = end ∙ s.end;
+      count = count ∙ s.count;
       durable = λ c left. p.durable c (q.memory_crash is c left) ∙ sym (q.memory is);
     }
 
     -- the second write was cut short
-    pub adds_second : new.end ≡ old.end → Called {T = Unit {0}} f 2 old.disk mid (Ok tt) → Called f 2 mid new.disk result → OnOk result ⊥ → KeepsOrAdds f old new bodies after result
-    adds_second end first second never = record {
+    pub adds_second : new.end ≡ old.end → new.count ≡ old.count → Called {T = Unit {0}} f 2 old.disk mid (Ok tt) → Called f 2 mid new.disk result → OnOk result ⊥ → KeepsOrAdds f old new bodies after result
+    adds_second end count first second never = record {
       ok = none _ result never;
-      memory = stays_held end;
+      memory = stays_held end count;
       crash = crashed;
       any_moment = always;
       early = λ is few c left.
@@ -86,9 +90,14 @@ module _ {D : Type 0} (f : Face D) (old new : Journal D) (mid : D) (bodies : Lis
 
   -- both writes were made
   pub adds_both : Puts f (old.end + 1) piece old.disk mid (Ok tt) → Puts f old.end (165 ∷ []) mid new.disk (Ok tt)
-      → AlwaysLeaves f old.disk mid (CanLeaveTorn (f.may_leave old.disk) (old.end + 1) (length piece)) → AlwaysLeaves f mid new.disk (CanLeaveTorn (f.may_leave mid) (old.end) 1) → new.end ≡ old.end + (5 + length body) → KeepsOrAdds f old new bodies after (Ok tt)
-  adds_both p q first_run second_run end = record {
-    ok = record { holds = second_done a (f.seen mid) p.holds (f.seen new.disk) q.holds; end = end ∙ end_after a; durable = q.durable };
+      → AlwaysLeaves f old.disk mid (CanLeaveTorn (f.may_leave old.disk) (old.end + 1) (length piece)) → AlwaysLeaves f mid new.disk (CanLeaveTorn (f.may_leave mid) (old.end) 1) → new.end ≡ old.end + (5 + length body) → new.count ≡ raised old.count → old.end ≤ 2147483647 → KeepsOrAdds f old new bodies after (Ok tt)
+  adds_both p q first_run second_run end count low = record {
+    ok = record {
+      holds = second_done a (f.seen mid) p.holds (f.seen new.disk) q.holds;
+      end = end ∙ end_after a;
+      count = omega (arith, count, s.count, s.end, few_bodies bodies, low, length-append bodies (body ∷ []));
+      durable = q.durable;
+    };
     memory = λ is. absurd cc;
     crash = crashed p (Ok tt) q first_run second_run;
     any_moment = always p (Ok tt) q first_run second_run;

@@ -1,5 +1,6 @@
 -- A journal to which a body is added, or was to be.
 use Rattle.std.specs.Prelude.{◌≡◌, ◌⊎◌, ◌<◌, ◌+◌, ℕ, List, ◌∷◌, ◌++◌, length, take, drop, Result, Ok, Err, OnOk, IsErrOf}
+use Rattle.lks_disk.specs.Counts.{raised}
 use Rattle.lks_disk.specs.Face.{Face, AlwaysLeaves}
 use Rattle.lks_field.specs.Frames.{frame, HoldsBodies}
 use Rattle.lks_journal.specs.Settled.{IsSettled}
@@ -19,6 +20,11 @@ IsFramed body end old new = new ≡ take end old ++ frame body ++ 0 ∷ drop (en
 abbrev pub end_after : Result (Unit {0}) JournalFault → ℕ → ℕ → ℕ
 end_after (Ok _) end size = end + 5 + size
 end_after (Err fault) end size = end
+
+-- and how many there are
+abbrev pub count_after : Result (Unit {0}) JournalFault → ℕ → ℕ
+count_after (Ok _) count = raised count
+count_after (Err fault) count = count
 
 -- From these bodies a call went to those: at `Ok` they are there, and else one of the two, now and after a crash at any
 -- moment of it.

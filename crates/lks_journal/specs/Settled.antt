@@ -5,10 +5,11 @@ use Rattle.lks_disk.specs.Face.{Face}
 use Rattle.lks_field.specs.Frames.{frames, HoldsBodies}
 use Rattle.lks_journal.specs.declared.journals.Journal.{Journal}
 
--- the disk holds these bodies, the journal knows their end, and nothing waits for a sync
+-- the disk holds these bodies, the journal knows their end and how many they are, and nothing waits for a sync
 pub record IsSettled {D : Type 0} (f : Face D) (journal : Journal D) (bodies : List (List ℕ)) : Type 0 where
   pub holds : HoldsBodies bodies (f.seen journal.disk)
   pub end : journal.end ≡ length (frames bodies)
+  pub count : journal.count ≡ length bodies
   pub durable : Only (f.seen journal.disk) (f.may_leave journal.disk)
 
 -- what is left of a call that takes a disk: an answer without its values, and the disk

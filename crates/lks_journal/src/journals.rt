@@ -1,7 +1,7 @@
 //! Journals.
 ghost use Rattle.std.specs.Prelude.{◌≡◌, ◌↔◌, ◌+◌, ◌-◌, ◌<◌, ◌≤◌, ◌∷◌, ◌++◌, [], ℕ, List, length, IfOk, OnOk, IsErrOf};
 ghost use Rattle.lks_disk.specs.Face.{AlwaysLeaves, HasFuse, HasLost};
-ghost use Rattle.lks_journal.specs.Adding.{KeepsOrAdds, IsFramed, end_after};
+ghost use Rattle.lks_journal.specs.Adding.{KeepsOrAdds, IsFramed, end_after, count_after};
 ghost use Rattle.lks_journal.specs.Called.{Called};
 ghost use Rattle.lks_journal.specs.Faults.{IsOfDisk};
 ghost use Rattle.lks_field.specs.Frames.{frames};
@@ -20,12 +20,13 @@ use std::alloc::Global;
 /// The most bytes of a journal, with its closed gate.
 const MOST: u64 = 2_147_483_647;
 
-/// Bodies on a disk, one after another, and where the closed gate behind them stands.
+/// Bodies on a disk, one after another, where the closed gate behind them stands, and how many they are.
 #[derive(Drop)]
 pub struct Journal<D: Disk> {
     alloc: Global,
     disk: D,
     end: u64,
+    count: u64,
 }
 
 /// Reads the bodies of a disk, and where their end stands.
@@ -45,6 +46,7 @@ impl<D: Disk> Journal<D> {
         requires empty { D.face.told disk → D.face.seen disk ≡ [] }
         ensures ok { D.face.told disk → IfOk result (λ journal. IsSettled D.face journal [] × (D.face.seen journal.disk ≡ 0 ∷ [])) }
         ensures end { IfOk result (λ journal. journal.end ≡ 0) }
+        ensures count { IfOk result (λ journal. journal.count ≡ 0) }
         ensures memory { D.face.told disk → IsErrOf (plain result) JournalFault.Memory →
             (D.face.seen (disk_made result) ≡ []) × ((c : List ℕ) → D.face.may_leave (disk_made result) c → D.face.may_leave disk c) }
         ensures any_moment { D.face.told disk → AlwaysLeaves D.face disk (disk_made result) (CanLeaveTorn (D.face.may_leave disk) 0 1) }
@@ -57,6 +59,7 @@ impl<D: Disk> Journal<D> {
                 alloc,
                 disk,
                 end: 0,
+                count: 0,
             }),
             Err(fault) => Err((disk, fault)),
         }
@@ -66,13 +69,23 @@ impl<D: Disk> Journal<D> {
     pub fn reopen(alloc: Global, disk: D) -> Result<(Self, Vec<Bytes>), (D, JournalFault)>
         ensures settled { D.face.told disk → IfOk result (λ p. IsSettled D.face p.0 p.1.items) }
         ensures end { IfOk result (λ p. p.0.end ≡ length (frames p.1.items)) }
+        ensures count { IfOk result (λ p. p.0.count ≡ length p.1.items) }
         ensures found { D.face.told disk → Reopens D.face disk (disk_read result) (bodies_with (λ p. p.1.items) result) }
         ensures full { IsErrOf (plain result) JournalFault.Full → ⊥ }
         ensures called { Called D.face 1 disk (disk_read result) (plain result) }
     {
         let mut disk = disk;
         match read_again(alloc, &mut disk) {
-            Ok((bodies, end)) => Ok((Journal { alloc, disk, end }, bodies)),
+            Ok((bodies, end)) => {
+                let count = bodies.len() as u64;
+                let journal = Journal {
+                    alloc,
+                    disk,
+                    end,
+                    count,
+                };
+                Ok((journal, bodies))
+            }
             Err(fault) => Err((disk, fault)),
         }
     }
@@ -81,12 +94,14 @@ impl<D: Disk> Journal<D> {
     pub fn recover(&mut self) -> Result<Vec<Bytes>, JournalFault>
         ensures settled { D.face.told self.old.disk → IfOk result (λ bodies. IsSettled D.face self.new bodies.items) }
         ensures end { IfOk result (λ bodies. self.new.end ≡ length (frames bodies.items)) }
+        ensures count { IfOk result (λ bodies. self.new.count ≡ length bodies.items) }
         ensures found { D.face.told self.old.disk → Reopens D.face self.old.disk self.new.disk (bodies_in (λ bodies. bodies.items) result) }
         ensures full { IsErrOf result JournalFault.Full → ⊥ }
         ensures called { Called D.face 1 self.old.disk self.new.disk result }
     {
         let (bodies, end) = read_again(self.alloc, &mut self.disk)?;
         self.end = end;
+        self.count = bodies.len() as u64;
         Ok(bodies)
     }
 
@@ -99,6 +114,7 @@ impl<D: Disk> Journal<D> {
         ensures full { IsErrOf result JournalFault.Full ↔ (MOST < self.old.end + 6 + length body.now) }
         ensures full_same { IsErrOf result JournalFault.Full → self.new ≡ self.old }
         ensures end { self.new.end ≡ end_after result self.old.end (length body.now) }
+        ensures count { self.new.count ≡ count_after result self.old.count }
         ensures damaged { (offset : ℕ) → IsErrOf result (JournalFault.Damaged offset) → ⊥ }
         ensures called { Called D.face 4 self.old.disk self.new.disk result }
     {
@@ -110,7 +126,16 @@ impl<D: Disk> Journal<D> {
         put(&mut self.disk, self.end + 1, &piece)?;
         put(&mut self.disk, self.end, &[OPEN])?;
         self.end += 5 + body.len() as u64;
+        self.count = self.count.saturating_add(1);
         Ok(())
+    }
+
+    /// How many bodies there are.
+    pub fn count(&self) -> u64
+        ensures count { result ≡ self.now.count }
+        ensures all { (bodies : List (List ℕ)) → IsSettled D.face self.now bodies → result ≡ length bodies }
+    {
+        self.count
     }
 
     /// How many bytes may still stand behind the closed gate.
@@ -135,6 +160,7 @@ impl<D: CrashDisk> Journal<D> {
     pub fn fuse(&mut self, calls: u32, choice: u64)
         ensures settled { (bodies : List (List ℕ)) → IsSettled D.face self.old bodies → IsSettled D.face self.new bodies }
         ensures end { self.new.end ≡ self.old.end }
+        ensures count { self.new.count ≡ self.old.count }
         ensures fused { HasFuse D.face calls choice self.old.disk self.new.disk }
     {
         self.disk.fuse(calls, choice);
@@ -143,6 +169,7 @@ impl<D: CrashDisk> Journal<D> {
     /// Cuts the power of the disk, which picks one outcome of a crash. The journal is to be recovered.
     pub fn power_cut(&mut self)
         ensures end { self.new.end ≡ self.old.end }
+        ensures count { self.new.count ≡ self.old.count }
         ensures lost { HasLost D.face self.old.disk self.new.disk }
     {
         self.disk.power_cut();

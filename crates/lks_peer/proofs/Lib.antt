@@ -1,5 +1,6 @@
 pub mod Asking
 pub mod Counting
+pub mod Handing
 pub mod Knowing
 pub mod Listing
 pub mod Pinning

@@ -1,18 +1,10 @@
 -- A session pins the blocks of its AU.
-use Rattle.std.proofs.Common.{◌≡◌, ◌∙◌, ap, sym, subst, ℕ, Bool, true, false, cond, eqb, List, [], ◌∷◌, refl}
-use Rattle.std.specs.Prelude.{Option, Some, None, All, option_map, find, ◌==◌}
-use Rattle.std.specs.Option.{option_copied}
-use Rattle.std.proofs.lemmas.List.Elements.{All-head, All-tail}
-use Rattle.lks_audit.specs.Copied.{copy_of, copies_of, IsOf}
-use Rattle.lks_audit.specs.declared.copies.Held.{Held}
+use Rattle.std.proofs.Common.{◌≡◌, ◌∙◌, ℕ, List, refl}
+use Rattle.std.specs.Prelude.{Option, Some, None, option_map}
 use Rattle.lks_base.specs.declared.names.PollName.{PollName}
-use Rattle.lks_blocks.specs.Block.{Block, AllOf, all_none, bytes_of}
 use Rattle.lks_law.specs.Fitting.{Where}
-use Rattle.lks_law.specs.State.{Copy, copy_at, blocks_in, blocks_at}
 use Rattle.lks_law.specs.Taking.{Session, session_at}
 use Rattle.lks_sessions.specs.Sendable.{PinsBlocks}
-use Rattle.lks_versions.specs.Shelf.{newest_of, current_of, version_of}
-use Rattle.lks_versions.specs.Each.{each_newest}
 
 -- what a joined session is committed to
 pub pins : (q : PollName) (blocks : ℕ → List (List ℕ)) (refs : List (List ℕ)) (ss : List Session) (au : Option ℕ) → au ≡ option_map (λ (s : Session). s.au) (session_at q ss)

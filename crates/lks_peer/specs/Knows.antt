@@ -1,5 +1,5 @@
 -- What a peer knows, as the code keeps it.
-use Rattle.std.specs.Prelude.{◌≡◌, ◌≤◌, ℕ, Option, List, length, All}
+use Rattle.std.specs.Prelude.{◌≡◌, ◌≤◌, ℕ, Option, List, [], length, All}
 use Rattle.lks_base.specs.declared.limits.TheConstants.{LAST_BLOCK, MOST_AUS, MOST_CIRCLE, MOST_PROOF_BYTES}
 use Rattle.lks_law.specs.Fitting.{Where, IsSound}
 use Rattle.lks_law.specs.Polls.{Station}
@@ -12,6 +12,7 @@ use Rattle.lks_peer.specs.Keeping.{nothing_kept}
 use Rattle.lks_audit.specs.Copied.{copies_of, IsOf}
 use Rattle.lks_audit.specs.Kept.{Kept}
 use Rattle.lks_audit.specs.Seen.{polls_of, IsOn}
+use Rattle.lks_versions.specs.declared.places.Place.{Place}
 use Rattle.lks_sessions.specs.Kept.{voter_of}
 use Rattle.lks_sessions.specs.Kept as sessions
 
@@ -65,13 +66,15 @@ pub record IsMade (own : Station) (k : Known) : Type 0 where
 unfoldable pub AsksSmall : Option Poll → Type 0
 AsksSmall o = Where o (λ p. Where p.request (λ r. r.block ≤ LAST_BLOCK))
 
--- what a peer goes by, the pool of its blocks, the state in which it is, and for how many blocks its running polls keep hashes
+-- What a peer goes by, the pool of its blocks, the state in which it is, and for how many blocks its running polls keep hashes.
+-- Where its deposits stand in the pool isn't seen until a job or a result asks for it, and is then seen for good.
 pub record Knowing : Type 0 where
   pub own : Station
   pub pool : List ℕ
   pub state : State
   pub kept : List Kept
+  pub places : List Place
 
--- a peer with this journal, whose blocks are in this pool, and whose polls keep nothing yet
+-- a peer with this journal, whose blocks are in this pool, whose polls keep nothing yet, and which told no place
 abbrev pub knowing_of : List ℕ → Standing → Knowing
-knowing_of pool s = let state = law.state_of s.own s.journal in record { own = s.own; pool = pool; state = state; kept = nothing_kept state.polls }
+knowing_of pool s = let state = law.state_of s.own s.journal in record { own = s.own; pool = pool; state = state; kept = nothing_kept state.polls; places = [] }

@@ -1,11 +1,12 @@
 //! A peer as others see it: what it goes by, and the state in which it is.
 
-ghost use Rattle.std.specs.Prelude.{◌≡◌, ◌≤◌, ◌<◌, ◌++◌, ℕ, List, IfOk, IsSome, is_some, Some, None, OnOk, nat_lt, length, find, option_map, map, slice_get};
+ghost use Rattle.std.specs.Prelude.{◌≡◌, ◌≤◌, ◌<◌, ◌++◌, ℕ, List, IfOk, IfErr, IfSome, IsSome, is_some, Some, None, OnOk, nat_lt, length, find, option_map, map, slice_get};
 ghost use Rattle.std.specs.List.{list_all, filter_map};
 ghost use Rattle.std.specs.Option.{option_copied};
 ghost use Rattle.lks_audit.specs.Kept.{kept_at, kept_of};
 ghost use Rattle.lks_audit.specs.Seen.{poll_of, polls_of};
 ghost use Rattle.lks_base.specs.Checking.{plan_fault};
+ghost use Rattle.lks_blocks.specs.Block.{AllOf};
 ghost use Rattle.lks_base.specs.declared.events.PeerStep.TheVariants as steps;
 ghost use Rattle.lks_base.specs.declared.plans.PeerPlan.{PeerPlan as Planned};
 ghost use Rattle.lks_law.specs.Due as due;
@@ -18,13 +19,18 @@ ghost use Rattle.lks_law.specs.Table.{react_on};
 ghost use Rattle.lks_law.specs.State.{after, after_all, blank, poll_at};
 ghost use Rattle.lks_law.specs.Turning.{ready_in, turn_in, ready_on, turns_on, has_inner_in};
 ghost use Rattle.lks_law.specs.World.{station_of, is_honest_at, honest_peer};
+ghost use Rattle.lks_peer.specs.Accepting.{input_of, is_ready_for, tag_for, IsJobOf, IsRefused, StaysTold, WhereStale};
 ghost use Rattle.lks_peer.specs.Keeping.{Keeps, kept_after, kept_after_all};
 ghost use Rattle.lks_peer.specs.Knows.{state_of, IsFit, IsWell, IsMade, knowing_of};
 ghost use Rattle.lks_sessions.specs.Kept.{voter_of};
+ghost use Rattle.lks_work.specs.Names.{name_of, refs_of, refs_done, tag_done};
 
+use crate::faults::AcceptFault;
+use crate::jobs;
+use crate::jobs::{is_tag, places_of};
 use crate::known::{Known, apply};
 use crate::notes::notes;
-use crate::reacting::react;
+use crate::reacting::{react, react_done};
 use lks_audit::{Copies, Held, Polls, Station, find_poll};
 use lks_base::{
     Input, Note, Numbers, OutOfMemory, PeerId, PeerPlan, PeerStep, Plan, Reaction, Record, Seq,
@@ -34,6 +40,8 @@ use lks_blocks::{BlockPool, PoolMark};
 use lks_poller::PollSession;
 use lks_refs::References;
 use lks_sessions::Sessions;
+use lks_versions::Place;
+use lks_work::{Job, JobDone, JobName};
 use std::alloc::Global;
 use std::marker::Model;
 use std::sync::Wait;
@@ -200,6 +208,8 @@ pub struct Peer {
     own: Station,
     mark: PoolMark,
     known: Known,
+    // Where its deposits stand in the pool, once it was asked for.
+    places: Seq<Place>,
 }
 
 impl Model for Peer {
@@ -208,7 +218,7 @@ impl Model for Peer {
 
     ghost Value = { Knowing };
 
-    ghost view = { λ a. record { own = a.own; pool = a.mark; state = state_of a.known; kept = kept_of a.known.polls } };
+    ghost view = { λ a. record { own = a.own; pool = a.mark; state = state_of a.known; kept = kept_of a.known.polls; places = a.places } };
 
     ghost invariant = { λ a. IsWell a.own a.mark a.known };
 }
@@ -232,6 +242,7 @@ impl Peer {
             own,
             mark: PoolMark::of(pool),
             known,
+            places: Seq::from_vec(Vec::new(alloc)),
         })
     }
 
@@ -274,6 +285,7 @@ impl Peer {
         ensures kept { IfOk result (λ r. Keeps self.old.own self.old.state input.now r.records self.old.kept self.new.kept) }
         ensures own { self.new.own ≡ self.old.own }
         ensures pool { self.new.pool ≡ self.old.pool }
+        ensures places { self.new.places ≡ self.old.places }
     {
         if !has_room(&self.known) {
             return Err(OutOfMemory);
@@ -281,6 +293,101 @@ impl Peer {
         let reaction = react(self.alloc, &self.own, pool, &mut self.known, tick, input)?;
         let records = reaction.records.as_slice();
         apply_all(self.alloc, rt, pool, &self.own, &mut self.known, records)?;
+        Ok(reaction)
+    }
+
+    /// Has it known where the deposits stand in the pool.
+    #[tactic(auto, using(crate::proofs::Handing::told_first, crate::proofs::Handing::told_same))]
+    fn tell(&mut self) -> Result<(), OutOfMemory>
+        ensures same { self.new ≡ record self.old { places = self.new.places } }
+        ensures told { StaysTold self.old.places self.new.places }
+        ensures fit { IsFit self.old.own self.old.state }
+    {
+        if self.places.as_slice().is_empty() {
+            self.places = places_of(self.alloc, self.known.copies.as_slice())?;
+        }
+        Ok(())
+    }
+
+    /// The work of this name as a job, to be hashed elsewhere: a vote over the version to which the peer committed, or the
+    /// votes of a poll of its own with the newest version of its copy. `None` exactly where the peer isn't ready for it.
+    pub fn job(&mut self, name: &JobName) -> Result<Option<Job>, OutOfMemory>
+        ensures ready { IfOk result (λ o. is_some o ≡ is_ready_for self.old.own self.old.state name.now) }
+        ensures name { IfOk result (λ o. IfSome o (λ j. name_of j ≡ name.now)) }
+        ensures job { IfOk result (λ o. IfSome o (IsJobOf self.old.own self.old.state self.old.kept self.new.places name.now)) }
+        ensures of { IfOk result (λ o. IfSome o (λ j. AllOf self.old.pool (refs_of j))) }
+        ensures same { self.new ≡ record self.old { places = self.new.places } }
+        ensures told { StaysTold self.old.places self.new.places }
+    {
+        self.tell()?;
+        jobs::job(
+            self.alloc,
+            &self.own,
+            &self.known,
+            self.places.as_slice(),
+            name,
+        )
+    }
+
+    fn take<R: Wait>(
+        &mut self,
+        rt: &R,
+        pool: &BlockPool,
+        tick: u32,
+        done: JobDone,
+    ) -> Result<Reaction, OutOfMemory>
+        requires pool { pool.now ≡ self.old.pool }
+        requires refs { AllOf pool.now (refs_done done) }
+        ensures reaction { IfOk result (λ r. r ≡ react_on self.old.own self.old.state tick (input_of done)) }
+        ensures state { IfOk result (λ r. self.new.state ≡ after_all self.old.own self.old.state r.records) }
+        ensures fits { IfOk result (λ r. AreFitting self.old.own self.old.state r.records) }
+        ensures fit { IsFit self.old.own self.old.state }
+        ensures kept { IfOk result (λ r. Keeps self.old.own self.old.state (input_of done) r.records self.old.kept self.new.kept) }
+        ensures own { self.new.own ≡ self.old.own }
+        ensures pool { self.new.pool ≡ self.old.pool }
+        ensures places { self.new.places ≡ self.old.places }
+    {
+        if !has_room(&self.known) {
+            return Err(OutOfMemory);
+        }
+        let reaction = react_done(self.alloc, &self.own, pool, &mut self.known, tick, done)?;
+        let records = reaction.records.as_slice();
+        apply_all(self.alloc, rt, pool, &self.own, &mut self.known, records)?;
+        Ok(reaction)
+    }
+
+    /// What the peer adds to its journal and sends at this tick for work that was hashed elsewhere: what `step` does for this
+    /// work. Where the result isn't of the session or poll as it is now, though it is of the same version, the peer hashes for
+    /// itself. `Stale` exactly where it isn't ready for such work, or is so for another version, and nothing changes then.
+    /// After want of memory it is to be restored.
+    pub fn accept<R: Wait>(
+        &mut self,
+        rt: &R,
+        pool: &BlockPool,
+        tick: u32,
+        done: JobDone,
+    ) -> Result<Reaction, AcceptFault>
+        requires pool { pool.now ≡ self.old.pool }
+        requires refs { AllOf pool.now (refs_done done) }
+        ensures reaction { IfOk result (λ r. r ≡ react_on self.old.own self.old.state tick (input_of done)) }
+        ensures state { IfOk result (λ r. self.new.state ≡ after_all self.old.own self.old.state r.records) }
+        ensures fits { IfOk result (λ r. AreFitting self.old.own self.old.state r.records) }
+        ensures fit { IsFit self.old.own self.old.state }
+        ensures kept { IfOk result (λ r. Keeps self.old.own self.old.state (input_of done) r.records self.old.kept self.new.kept) }
+        ensures own { self.new.own ≡ self.old.own }
+        ensures pool { self.new.pool ≡ self.old.pool }
+        ensures told { StaysTold self.old.places self.new.places }
+        ensures ready { IfOk result (λ _. tag_for self.old.state self.new.places done ≡ Some (tag_done done)) }
+        ensures stale { IfErr result (λ fault. IsRefused (tag_for self.old.state self.new.places done) (tag_done done) fault) }
+        ensures same { IfErr result (λ fault. WhereStale fault (self.new ≡ record self.old { places = self.new.places })) }
+    {
+        self.tell()?;
+        let expected = jobs::tag_for(&self.known, self.places.as_slice(), &done);
+        let found = done.tag();
+        if !is_tag(expected, found) {
+            return Err(AcceptFault::Stale { expected, found });
+        }
+        let reaction = self.take(rt, pool, tick, done)?;
         Ok(reaction)
     }
 

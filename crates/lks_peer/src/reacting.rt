@@ -6,8 +6,11 @@ ghost use Rattle.lks_law.specs.Table.{react_on, receive_in};
 ghost use Rattle.lks_law.specs.Voting as voting;
 ghost use Rattle.lks_law.specs.Voting.{named, on_tune};
 ghost use Rattle.lks_audit.specs.Kept.{kept_of};
+ghost use Rattle.lks_blocks.specs.Block.{AllOf};
+ghost use Rattle.lks_peer.specs.Accepting.{input_of};
 ghost use Rattle.lks_peer.specs.Keeping.{kept_deciding};
 ghost use Rattle.lks_peer.specs.Knows.{state_of, IsTied, IsWell};
+ghost use Rattle.lks_work.specs.Names.{refs_done};
 
 use crate::known::Known;
 use crate::opening::open;
@@ -19,7 +22,8 @@ use lks_base::{
     obeys_quorum_rule,
 };
 use lks_blocks::BlockPool;
-use lks_sessions::{answer_invitation, answer_proof, answer_request, end, work};
+use lks_sessions::{accept, answer_invitation, answer_proof, answer_request, end, work};
+use lks_work::JobDone;
 use std::alloc::Global;
 
 /// What it adds and sends for a message.
@@ -165,5 +169,31 @@ pub fn react(
             message,
             judged,
         } => hear(alloc, own, pool, known, tick, *from, message, *judged),
+    }
+}
+
+/// What it adds and sends for work that was done elsewhere, and whose blocks are of this pool.
+#[tactic(auto, unfolding(lks_law::specs::Table::react_on), using(crate::proofs::Sending::sendable))]
+pub fn react_done(
+    alloc: Global,
+    own: &Station,
+    pool: &BlockPool,
+    known: &mut Known,
+    tick: u32,
+    done: JobDone,
+) -> Result<Reaction, OutOfMemory>
+    requires well { IsWell own.now pool.now known.old }
+    requires refs { AllOf pool.now (refs_done done) }
+    ensures reaction { IfOk result (λ r. r ≡ react_on own.now (state_of known.old) tick (input_of done)) }
+    ensures seen { state_of known.new ≡ state_of known.old }
+    ensures kept { kept_of known.new.polls ≡ kept_deciding own.now (state_of known.old) (input_of done) (kept_of known.old.polls) }
+    ensures tied { IsTied own.now.id pool.now known.new }
+{
+    match done {
+        JobDone::Vote(done) => accept(alloc, pool, own, &known.sessions, done),
+        JobDone::Tally(done) => {
+            let copies = &known.copies;
+            known.polls.accept(alloc, own, pool, copies, tick, done)
+        }
     }
 }

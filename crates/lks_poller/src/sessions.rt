@@ -1,6 +1,6 @@
 //! The state of a poll.
 
-ghost use Rattle.std.specs.Prelude.{◌≡◌, ◌<◌, ◌≤◌, ◌↔◌, ℕ, List, [], true, false, length, unwrap_or, option_copied, if◌then◌else◌, IfOk, OnOk, OnErr, IsNone};
+ghost use Rattle.std.specs.Prelude.{◌≡◌, ◌<◌, ◌≤◌, ◌↔◌, IsTrue, ℕ, List, [], true, false, length, unwrap_or, option_copied, if◌then◌else◌, IfOk, OnOk, OnErr, IsNone};
 ghost use Rattle.lks_base.specs.Checking.{has_member as is_member};
 ghost use Rattle.lks_base.specs.declared.limits.TheConstants.{MOST_CIRCLE};
 ghost use Rattle.lks_base.specs.declared.names.Limits.{Limits as LimitsOf};
@@ -216,6 +216,19 @@ impl PollSession {
         ensures { result ≡ self.now.tally.kept }
     {
         self.tally.kept()
+    }
+
+    /// For how many blocks they would be kept once the votes are counted with this verdict.
+    pub fn kept_by(&self, v: Verdict) -> usize
+        ensures { result ≡ kept_after v self.now.tally.kept self.now.tally.ballot.count }
+    {
+        match v {
+            Verdict::Inquorate => self.tally.kept() as usize,
+            Verdict::Agreed => self.tally.ballot().count as usize,
+            Verdict::Loss { block } | Verdict::Split { block } => {
+                (self.tally.kept() as usize).max(block as usize + 1)
+            }
+        }
     }
 
     /// The block and the voter of the request that isn't answered, or `None` where nobody is waited for.
@@ -462,8 +475,16 @@ impl PollSession {
     pub fn tally(&self) -> Result<Tally, OutOfMemory>
         ensures same { IfOk result (λ t. t ≡ roomed_as t self.now.tally) }
         ensures reserved { IfOk result (λ t. IsReserved t) }
+        ensures few { length self.now.tally.votes ≤ MOST_CIRCLE }
     {
         self.tally.copy(self.alloc)
+    }
+
+    /// Whether a tally is of the same poll as the session's, with the same AU, kind of hash, nonce, count, numbers and votes.
+    pub fn is_same(&self, t: &Tally) -> bool
+        ensures { IsTrue result ↔ IsSame t.now self.now.tally }
+    {
+        t.same(&self.tally)
     }
 
     /// Puts a tally of the same votes in the place of the session's.

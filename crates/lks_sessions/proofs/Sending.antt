@@ -1,11 +1,11 @@
 -- What a peer sends as a voter.
-use Rattle.std.proofs.Common.{◌≡◌, ◌≤◌, ap, sym, subst, ℕ, zero, suc, Bool, true, false, cond, not, List, [], ◌∷◌, length, refl, arith}
+use Rattle.std.proofs.Common.{◌≡◌, ◌≤◌, ◌∙◌, ap, sym, subst, ℕ, zero, suc, Bool, true, false, cond, not, List, [], ◌∷◌, length, refl, arith}
 use Rattle.std.specs.Prelude.{Some, nat_lt, nat_le, find, map, slice_get, All}
 use Rattle.std.proofs.lemmas.Bool.Decides.{nat_tests}
 use Rattle.std.proofs.lemmas.List.Elements.{All-head, All-tail}
 use Rattle.lks_base.specs.Checking.{has_member}
 use Rattle.lks_base.specs.Kinds.{is_second}
-use Rattle.lks_base.specs.declared.limits.TheConstants.{MOST_BLOCK_BYTES}
+use Rattle.lks_base.specs.declared.limits.TheConstants.{MOST_BLOCKS, MOST_BLOCK_BYTES}
 use Rattle.lks_base.specs.declared.names.PollName.{PollName}
 use Rattle.lks_base.specs.declared.records.Record.TheVariants as records
 use Rattle.lks_blocks.proofs.Bytes.{bytes_count}
@@ -24,8 +24,11 @@ use Rattle.lks_sessions.specs.Kept.{Kept, pinned_of, cast_of, voter_of, IsPinned
 use Rattle.lks_sessions.specs.Sendable.{IsSendable}
 use Rattle.lks_sessions.specs.declared.stages.PinnedSession.{PinnedSession}
 use Rattle.lks_sessions.specs.declared.stages.CastSession.{CastSession}
+use Rattle.lks_sessions.specs.Working.{IsJobOf}
 use Rattle.lks_voter.specs.Voting.{answer_of}
 use Rattle.lks_voter.specs.declared.commitments.Serve.TheVariants.{First, Again, Spent}
+use Rattle.lks_work.specs.Asked.{vote_of}
+use Rattle.lks_work.specs.declared.jobs.VoteJob.{VoteJob}
 
 -- What is true of each session is true of one that is found.
 
@@ -61,17 +64,23 @@ cast_from pool q k c is of = found_so (IsCastOf pool) (λ (c : CastSession). is_
 
 -- The vote.
 
-pub hashes_seen : (own : Station) (p : PinnedSession)
-    → hashes_of (is_second p.committed.kind) (key_of (is_second p.committed.kind) p.committed.joined.poll.poller p.committed.joined.poll.number p.committed.nonce own.id p.committed.joined.au (length p.refs)) (bytes_of p.refs)
-    ≡ hashes_for own (pinned_of p)
+-- a vote that is of the session, over its blocks
+pub vote_seen : (own : Station) (p : PinnedSession) (j : VoteJob) (hashes : List (List ℕ)) → IsJobOf own p p.refs j → hashes ≡ vote_of j → hashes ≡ hashes_for own (pinned_of p)
 unfolding hashes_for vote_hashes
-hashes_seen own p =
-    ap (λ n. hashes_of (is_second p.committed.kind) (key_of (is_second p.committed.kind) p.committed.joined.poll.poller p.committed.joined.poll.number p.committed.nonce own.id p.committed.joined.au n) (bytes_of p.refs))
+vote_seen own p j hashes job is =
+    is
+    ∙ (λ i. hashes_of (is_second (job.kind i)) (key_of (is_second (job.kind i)) (job.poll i).poller (job.poll i).number (job.nonce i) (job.peer i) (job.au i) (length (job.refs i))) (bytes_of (job.refs i)))
+    ∙ ap (λ n. hashes_of (is_second p.committed.kind) (key_of (is_second p.committed.kind) p.committed.joined.poll.poller p.committed.joined.poll.number p.committed.nonce own.id p.committed.joined.au n) (bytes_of p.refs))
     (sym (bytes_count p.refs))
 
-pub hashes_count : (own : Station) (p : PinnedSession) → length (hashes_for own (pinned_of p)) ≡ length (bytes_of p.refs)
+-- has a hash for each of them
+pub vote_count : (own : Station) (p : PinnedSession) (hashes : List (List ℕ)) → hashes ≡ hashes_for own (pinned_of p) → IsPinnedWell (pinned_of p) → length hashes ≤ MOST_BLOCKS
 unfolding hashes_for vote_hashes
-hashes_count own p = hashes_length (is_second p.committed.kind) _ (bytes_of p.refs)
+vote_count own p hashes is well =
+    let same : length hashes ≡ length (bytes_of p.refs) = ap length is ∙ hashes_length (is_second p.committed.kind) _ (bytes_of p.refs) in
+    let counted = well.0 in
+    let few = counted.1 in
+    omega (arith, same, few)
 
 -- A repair.
 

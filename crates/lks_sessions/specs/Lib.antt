@@ -1,3 +1,4 @@
 pub mod Giving
 pub mod Kept
 pub mod Sendable
+pub mod Working

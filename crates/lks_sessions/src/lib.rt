@@ -8,6 +8,7 @@
 
 mod draws;
 mod invitations;
+mod jobs;
 mod marks;
 mod moves;
 mod repairs;
@@ -16,6 +17,7 @@ mod stages;
 mod votes;
 
 pub use invitations::answer_invitation;
+pub use jobs::{accept, job, tag_waiting};
 pub use repairs::{answer_request, end};
 pub use sessions::Sessions;
 pub use votes::{answer_proof, work};

@@ -4,7 +4,7 @@ ghost use Rattle.std.specs.Prelude.{◌≡◌, ◌≤◌, ◌∷◌, [], None, S
 ghost use Rattle.lks_base.specs.declared.limits.TheConstants.{MOST_BLOCKS, MOST_PROOF_BYTES};
 ghost use Rattle.lks_base.specs.declared.messages.Message.TheVariants as message;
 ghost use Rattle.lks_blocks.specs.Block.{AllOf};
-ghost use Rattle.lks_law.specs.Answering.{hashes_for, proof_in, version_at, work_in};
+ghost use Rattle.lks_law.specs.Answering.{hashes_for, proof_in, work_in};
 ghost use Rattle.lks_law.specs.Fitting.{IsCastWell, IsPinnedWell};
 ghost use Rattle.lks_law.specs.Reaction.{letter};
 ghost use Rattle.lks_law.specs.Voting as law;
@@ -14,29 +14,21 @@ ghost use Rattle.lks_sessions.specs.Kept.{cast_of, commitment_of, pinned_of, vot
 ghost use Rattle.lks_sessions.specs.Sendable.{IsSendable};
 
 use crate::draws::pick_nominees;
+use crate::jobs::job_of;
 use crate::sessions::Sessions;
 use crate::stages::{CastSession, PinnedSession};
 use lks_audit::letters::write;
 use lks_audit::reactions::{adding, no_reaction, no_sends, sending, telling};
-use lks_audit::{Held, Station, find_copy};
+use lks_audit::{Held, Station, version_of};
 use lks_base::{
-    AuId, HashKind, Hashes, Judged, Message, OutOfMemory, Outgoing, PeerId, PollName, Reaction,
-    Record, Seq,
+    HashKind, Hashes, Judged, Message, OutOfMemory, Outgoing, PeerId, PollName, Reaction, Record,
+    Seq,
 };
 use lks_blocks::BlockPool;
 use lks_versions::PinTag;
 use lks_voter::Committed;
-use lks_work::{VoteJob, hash_vote};
+use lks_work::hash_vote;
 use std::alloc::Global;
-
-fn version_of(copies: &[Held], au: AuId) -> u32
-    ensures { result ≡ version_at au (copies_of copies.now) }
-{
-    match find_copy(copies, au) {
-        Some(held) => held.versions.current(),
-        None => 0,
-    }
-}
 
 fn write_nomination(
     alloc: Global,
@@ -199,7 +191,7 @@ pub fn answer_proof(
 }
 
 /// The hashes of the vote in a committed session, over the blocks that it keeps.
-#[tactic(auto, unfolding(lks_law::specs::Answering::hashes_for), using(lks_blocks::proofs::Bytes::bytes_count))]
+#[tactic(auto, unfolding(lks_law::specs::Answering::hashes_for), using(lks_blocks::proofs::Bytes::bytes_count, crate::proofs::Sending::vote_seen, crate::proofs::Sending::vote_count))]
 fn hash_pinned(
     alloc: Global,
     pool: &BlockPool,
@@ -211,26 +203,35 @@ fn hash_pinned(
     ensures hashes { IfOk result (λ hashes. hashes ≡ hashes_for own.now (pinned_of session.now)) }
     ensures few { IfOk result (λ hashes. length hashes ≤ MOST_BLOCKS) }
 {
-    let committed = &session.committed;
-    let job = VoteJob {
-        peer: own.id,
-        poll: committed.joined().poll(),
-        au: committed.joined().au(),
-        kind: committed.kind(),
-        nonce: *committed.nonce(),
-        tag: PinTag {
-            first: 0,
-            version: committed.version(),
-        },
-        refs: session.refs.clone()?,
+    let tag = PinTag {
+        first: 0,
+        version: session.committed.version(),
     };
+    let job = job_of(own, session, tag, session.refs.clone()?);
     match hash_vote(alloc, pool, job) {
         Ok(done) => Ok(done.hashes),
         Err(_job) => Err(OutOfMemory),
     }
 }
 
-fn vote(
+/// Votes with these hashes.
+pub(crate) fn vote_with(
+    alloc: Global,
+    own: &Station,
+    poll: PollName,
+    hashes: Hashes,
+) -> Result<Reaction, OutOfMemory>
+    requires few { length hashes ≤ MOST_BLOCKS }
+    requires proof { length own.now.proof ≤ MOST_PROOF_BYTES }
+    ensures { IfOk result (λ r. r ≡ votes_with own.now poll hashes) }
+{
+    let mut sends = Vec::new(alloc);
+    sends.push(write_vote(alloc, own, poll, &hashes)?)?;
+    adding(alloc, Record::Voted { poll, hashes }, Seq::from_vec(sends))
+}
+
+/// Votes in this session with the hashes of the blocks that it keeps.
+pub(crate) fn vote(
     alloc: Global,
     pool: &BlockPool,
     own: &Station,
@@ -243,9 +244,7 @@ fn vote(
     ensures { IfOk result (λ r. r ≡ votes_with own.now poll (hashes_for own.now (pinned_of session.now))) }
 {
     let hashes = hash_pinned(alloc, pool, own, session)?;
-    let mut sends = Vec::new(alloc);
-    sends.push(write_vote(alloc, own, poll, &hashes)?)?;
-    adding(alloc, Record::Voted { poll, hashes }, Seq::from_vec(sends))
+    vote_with(alloc, own, poll, hashes)
 }
 
 /// Votes in a committed session.

@@ -48,13 +48,20 @@ place_few own begun bodies place alike fails =
     let whole = sum_by-take-drop length bodies (length begun) in
     omega (arith, count, front, part, first, same, whole)
 
+-- a slice to the end
+pub rest_is : (count : ℕ) (bodies : List (List ℕ)) → take (length bodies - count) (drop count bodies) ≡ drop count bodies
+rest_is count bodies = let left : length (drop count bodies) ≡ length bodies - count = length-drop count bodies in take_all (length bodies - count) (drop count bodies) (omega (arith, left))
+
+-- one that fails among those behind the deposits
+pub fails_behind : (own : Station) (begun list : List Record) (bodies : List (List ℕ)) (count place : ℕ) (o : Option ℕ) → count ≡ length begun → o ≡ Some place
+    → TakesAll own begun (take (length bodies - count) (drop count bodies)) list o → FailsAt own begun (drop (length begun) bodies) place
+fails_behind own begun list bodies count place o same some takes =
+    let found : TakesAll own begun (take (length bodies - count) (drop count bodies)) list (Some place) = subst (TakesAll own begun (take (length bodies - count) (drop count bodies)) list) some takes in
+    let failed : FailsAt own begun (drop count bodies) place = subst (λ (bs : List (List ℕ)). FailsAt own begun bs place) (rest_is count bodies) found in
+    subst (λ (n : ℕ). FailsAt own begun (drop n bodies) place) same failed
+
 pub count_few : (own : Station) (begun list : List Record) (bodies : List (List ℕ)) (count place : ℕ) (o : Option ℕ) → count ≡ length begun → o ≡ Some place
     → TakesAll own begun (take (length bodies - count) (drop count bodies)) list o → take (length begun) bodies ≡ spelled_each begun → count + place ≤ sum_by length bodies
 count_few own begun list bodies count place o same some takes alike =
-    let left : length (drop count bodies) ≡ length bodies - count = length-drop count bodies in
-    let slice : take (length bodies - count) (drop count bodies) ≡ drop count bodies = take_all (length bodies - count) (drop count bodies) (omega (arith, left)) in
-    let found : TakesAll own begun (take (length bodies - count) (drop count bodies)) list (Some place) = subst (TakesAll own begun (take (length bodies - count) (drop count bodies)) list) some takes in
-    let failed : FailsAt own begun (drop count bodies) place = subst (λ (bs : List (List ℕ)). FailsAt own begun bs place) slice found in
-    let behind : FailsAt own begun (drop (length begun) bodies) place = subst (λ (n : ℕ). FailsAt own begun (drop n bodies) place) same failed in
-    let few = place_few own begun bodies place alike behind in
+    let few = place_few own begun bodies place alike (fails_behind own begun list bodies count place o same some takes) in
     omega (arith, few, same)

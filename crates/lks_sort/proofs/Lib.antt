@@ -4,6 +4,7 @@ pub mod Few
 pub mod Fitting
 pub mod Lacking
 pub mod Listing
+pub mod Owners
 pub mod Starting
 pub mod Taking
 pub mod Calls

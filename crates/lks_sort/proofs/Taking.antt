@@ -19,8 +19,10 @@ use Rattle.lks_law.specs.World.{deposits}
 use Rattle.lks_law.proofs.Sorting.{latest_both, state_follows, journal_more}
 use Rattle.lks_law.proofs.Writing.{written_of}
 use Rattle.lks_law.proofs.VoterRows.{law as react_is}
+use Rattle.lks_record.proofs.Laws.{spelling_read}
+use Rattle.lks_record.proofs.Sizes.{short_batch}
 use Rattle.lks_record.specs.Reading.{decode_of}
-use Rattle.lks_record.specs.Spelling.{IsBatch, IsInLimits}
+use Rattle.lks_record.specs.Spelling.{batch_spelling, IsBatch, IsInLimits}
 use Rattle.lks_record.specs.declared.fault.RecFault.{RecFault}
 use Rattle.lks_sort.specs.Adding.{IsAdded}
 use Rattle.lks_sort.specs.Naming.{IsAsked, Names}
@@ -80,11 +82,11 @@ journal_with : (own : Station) (begun js batch : List Record) → IsBatch batch 
 journal_with own begun js [] is journal stands = absurd stands
 journal_with own begun js (r ∷ rs) is journal stands = journal_more own begun js r rs journal stands (heard_named js r (All-head IsInLimits r rs is.1).0)
 
-pub taken_so : (old new : Sorter) (items batch : List Record) (body : List ℕ) (named : Named) (added : Bool) → items ≡ batch → IsBatch batch → decode_of body ≡ Ok batch
+pub taken_so : (old new : Sorter) (items batch : List Record) (body : List ℕ) (named : Named) (added : Bool) → items ≡ batch → IsBatch batch → decode_of body ≡ Ok batch → body ≡ batch_spelling batch
     → IsAsked old.list.items batch named → added ≡ true → (IsTrue added ↔ AddsFor old.peer.own old.list.items (record { tick = named.tick; input = named.input }) items)
     → (IsTrue added → new.peer.state ≡ state_of old.peer.own (old.list.items ++ items))
     → new.peer.own ≡ old.peer.own → new.list.items ≡ old.list.items ++ batch → new.last ≡ max old.last (latest batch) → new.tuned ≡ (old.tuned || was_tuned batch) → TakenAs body old new true
-taken_so old new items batch body named added same is read asked granted said state own goes last tunes = (
+taken_so old new items batch body named added same is read spelled asked granted said state own goes last tunes = (
   batch,
   read,
   stands,
@@ -97,6 +99,8 @@ taken_so old new items batch body named added same is read asked granted said st
         (subst (λ (o : Station). IsJournalOf o (deposits aus copies) (latest (old.list.items ++ batch)) (old.list.items ++ batch)) (sym own)
         (journal_with old.peer.own (deposits aus copies) old.list.items batch is upto.journal stands));
   },
+  record { count = is.0; read = spelling_read batch is; short = short_batch batch is },
+  spelled,
 )
   where
     stands : StandsBehind old.peer.own old.list.items batch

@@ -12,6 +12,7 @@ use Rattle.lks_law.specs.State.{state_of}
 use Rattle.lks_law.specs.World.{deposits}
 use Rattle.lks_record.specs.Reading.{decode_of}
 use Rattle.lks_record.specs.Spelling.{batch_spelling}
+use Rattle.lks_sort.specs.Fits.{IsSpelled}
 use Rattle.lks_sort.specs.declared.sorting.JournalSort.{JournalSort}
 use Rattle.lks_sort.specs.declared.sorting.JournalSort.TheVariants.{Whole, Begun, Foreign}
 use Rattle.lks_sort.specs.declared.sorting.Sorter.{Sorter}
@@ -31,7 +32,7 @@ IsSamePeer old new = (new.peer.own ≡ old.peer.own) × (new.peer.pool ≡ old.p
 abbrev pub TakenAs : List ℕ → Sorter → Sorter → Bool → Type 0
 TakenAs body old new true =
     (batch : List Record) × (decode_of body ≡ Ok batch) × StandsBehind old.peer.own old.list.items batch × (new.list.items ≡ old.list.items ++ batch)
-    × ((aus : List AuPlan) (copies : List Holding) → IsUpTo aus copies old → IsUpTo aus copies new)
+    × ((aus : List AuPlan) (copies : List Holding) → IsUpTo aus copies old → IsUpTo aus copies new) × IsSpelled batch × (body ≡ batch_spelling batch)
 TakenAs body old new false = (batch : List Record) → decode_of body ≡ Ok batch → StandsBehind old.peer.own old.list.items batch → ⊥
 
 -- behind these records the bodies are batches, each of which stands behind those before it, and together they make this list

@@ -11,6 +11,6 @@ mod laws;
 mod naming;
 mod sorting;
 
-pub use deposits::begin_peer;
+pub use deposits::{begin_peer, missing_deposits};
 pub use laws::{every_journal_is_whole, every_sort_is_the_only_one};
-pub use sorting::{JournalSort, sort_journal};
+pub use sorting::{JournalSort, PeerSort, sort_journal, sort_with_peer};

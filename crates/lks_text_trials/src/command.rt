@@ -1,7 +1,7 @@
 //! Which words name which command.
 
 use lks_base::OutOfMemory;
-use lks_command::{Command, parse};
+use lks_command::{Command, Play, parse};
 use std::alloc::Global;
 use std::test::*;
 
@@ -13,14 +13,27 @@ fn owned(alloc: Global, words: &[&str]) -> Result<Vec<String>, OutOfMemory> {
     Ok(owned)
 }
 
-const ROWS: [(&[&str], Option<Command>); 16] = [
-    (&["replay"], Some(Command::Replay)),
-    (&["drill", "0"], Some(Command::Drill { seed: 0 })),
-    (&["drill", "1"], Some(Command::Drill { seed: 1 })),
+const ROWS: [(&[&str], Option<Command>); 23] = [
+    (&["replay"], Some(Command::Play(Play::Replay))),
+    (
+        &["drill", "0"],
+        Some(Command::Play(Play::Drill { seed: 0 })),
+    ),
+    (
+        &["drill", "1"],
+        Some(Command::Play(Play::Drill { seed: 1 })),
+    ),
     (
         &["drill", "18446744073709551615"],
-        Some(Command::Drill { seed: u64::MAX }),
+        Some(Command::Play(Play::Drill { seed: u64::MAX })),
     ),
+    (&["journals"], Some(Command::Play(Play::Journals))),
+    (&["evidence"], Some(Command::Evidence)),
+    (&["journals", "1"], None),
+    (&["evidence", ""], None),
+    (&["evidence", "--"], None),
+    (&["-evidence"], None),
+    (&["journals", "evidence", "1"], None),
     (&["drill", "18446744073709551616"], None),
     (&["drill", "01"], None),
     (&["drill", "-1"], None),

@@ -1,4 +1,5 @@
 pub mod Each
 pub mod Pins
+pub mod Places
 pub mod Shelf
 pub mod Whole

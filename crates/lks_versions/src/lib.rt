@@ -19,7 +19,9 @@
 #![tactic(auto)]
 
 mod newest;
+mod places;
 mod versions;
 
 pub use newest::Newest;
+pub use places::{Place, tag_at};
 pub use versions::{PinTag, Versions};

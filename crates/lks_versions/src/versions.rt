@@ -119,7 +119,8 @@ impl Versions {
         Newest::new(pool, self.newest_refs())
     }
 
-    fn newest_refs(&self) -> &[BlockRef]
+    /// References to the blocks of the newest version.
+    pub fn newest_refs(&self) -> &[BlockRef]
         ensures newest { result.now ≡ newest_of self.now }
         ensures few { length result.now ≤ 65535 }
     {

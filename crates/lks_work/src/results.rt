@@ -7,6 +7,7 @@ ghost use Rattle.lks_work.specs.Asked.{verdict_of, vote_of};
 use crate::jobs::{TallyJob, VoteJob};
 use lks_base::Hashes;
 use lks_tally::Verdict;
+use lks_versions::PinTag;
 
 /// A vote that was hashed.
 #[derive(Drop)]
@@ -32,4 +33,18 @@ pub struct TallyDone {
 pub enum JobDone {
     Vote(VoteDone),
     Tally(TallyDone),
+}
+
+impl JobDone {
+    ghost use Rattle.lks_work.specs.Names.{tag_done};
+
+    /// The name of the version that was hashed.
+    pub fn tag(&self) -> PinTag
+        ensures { result ≡ tag_done self.now }
+    {
+        match self {
+            JobDone::Vote(done) => done.job.tag,
+            JobDone::Tally(done) => done.job.tag,
+        }
+    }
 }

@@ -11,7 +11,7 @@ use Rattle.lks_base.specs.declared.records.Record.{Record}
 use Rattle.lks_disk.specs.Face.{Face}
 use Rattle.lks_field.specs.Frames.{HoldsBodies}
 use Rattle.lks_host.proofs.Fronts.{front_none}
-use Rattle.lks_host.specs.Bodies.{bodies_of}
+use Rattle.lks_host.specs.Bodies.{bodies_of, AreRead}
 use Rattle.lks_host.specs.Hosted.{HasFront}
 use Rattle.lks_host.specs.declared.hosts.Host.{Host}
 use Rattle.lks_law.specs.Batches.{alone, batches_at}
@@ -121,6 +121,7 @@ module _ {D : Type 0} (f : Face D) (pool : List ℕ) (plan : Plan) (first : List
       record {
         holds = subst (λ bs. HoldsBodies (bodies_of bs) (f.seen h.journal.disk)) (sym is) has.stands.disk.holds;
         durable = has.stands.disk.durable;
+        read = subst AreRead (sym is) has.stands.read;
       }
 
   earlier : (i : ℕ) (disk : D) → slice_get (disks_of hosts) i ≡ Some disk → HoldsBatches f plan [] i disk

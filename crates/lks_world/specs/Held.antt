@@ -8,16 +8,17 @@ use Rattle.lks_base.specs.declared.events.PeerStep.{PeerStep}
 use Rattle.lks_base.specs.declared.plans.Plan.{Plan}
 use Rattle.lks_disk.specs.Device.{Only}
 use Rattle.lks_host.specs.Cutting.{Falls}
-use Rattle.lks_host.specs.Bodies.{bodies_of}
+use Rattle.lks_host.specs.Bodies.{bodies_of, AreRead}
 use Rattle.lks_host.specs.Hosted.{HasFront}
 use Rattle.lks_field.specs.Frames.{HoldsBodies}
 use Rattle.lks_law.specs.Batches.{batches_at}
 use Rattle.lks_world.specs.Disks.{honest_disks}
 
--- the disk of the honest peer at each place holds the batches of its journal, and every crash leaves it so
+-- the disk of the honest peer at each place holds the batches of its journal, which read back, and every crash leaves it so
 pub record HoldsBatches {D : Type 0} (f : Face D) (plan : Plan) (history : List Event) (place : ℕ) (disk : D) : Type 0 where
   pub holds : HoldsBodies (bodies_of (batches_at place plan history)) (f.seen disk)
   pub durable : Only (f.seen disk) (f.may_leave disk)
+  pub read : AreRead (batches_at place plan history)
 
 abbrev pub HaveBatches : {D : Type 0} → Face D → Plan → List Event → List D → Type 0
 HaveBatches {D} f plan history disks =

@@ -6,10 +6,10 @@ use Rattle.lks_script.specs.declared.faults.ScriptFault.TheVariants as script
 use Rattle.lks_world.specs.declared.faults.WorldFault.TheVariants as world
 use Rattle.lockss.specs.declared.ends.End.{End}
 use Rattle.lockss.specs.declared.ends.End.TheVariants as end
-use Rattle.lockss.specs.declared.ends.Played.TheVariants.{Stopped, Told, Unmade}
+use Rattle.lockss.specs.declared.ends.Played.TheVariants.{Stopped, Told, Unmade, Untold}
 use Rattle.lockss.specs.declared.ends.Unscripted.TheVariants.{Unread, Unsaid}
 use Rattle.lockss.specs.declared.statuses.Status.{Status}
-use Rattle.lockss.specs.declared.statuses.Status.TheVariants.{Done, Alarmed, Usage, BadScript, ReadFault, WriteFault, DiskFault, NoMemory, TooLong}
+use Rattle.lockss.specs.declared.statuses.Status.TheVariants.{Done, Alarmed, Usage, BadScript, ReadFault, WriteFault, DiskFault, NoMemory, TooLong, Doubted}
 
 abbrev pub status_of : End → Status
 status_of end.Unnamed = Usage
@@ -23,10 +23,16 @@ status_of (end.Played (Unmade (world.Disk peer))) = DiskFault peer
 status_of (end.Played (Unmade world.Memory)) = NoMemory
 status_of (end.Played (Stopped (world.Disk peer))) = DiskFault peer
 status_of (end.Played (Stopped world.Memory)) = NoMemory
+status_of (end.Played (Untold (world.Disk peer))) = DiskFault peer
+status_of (end.Played (Untold world.Memory)) = NoMemory
 status_of (end.Played (Told (Ok false))) = Done
 status_of (end.Played (Told (Ok true))) = Alarmed
 status_of (end.Played (Told (Err writing.Failed))) = WriteFault
 status_of (end.Played (Told (Err writing.Memory))) = NoMemory
+status_of (end.Examined (Ok false)) = Done
+status_of (end.Examined (Ok true)) = Doubted
+status_of (end.Examined (Err writing.Failed)) = WriteFault
+status_of (end.Examined (Err writing.Memory)) = NoMemory
 
 abbrev pub code_of : Status → ℕ
 code_of Done = 0
@@ -38,3 +44,4 @@ code_of WriteFault = 5
 code_of (DiskFault peer) = 6
 code_of NoMemory = 7
 code_of TooLong = 8
+code_of Doubted = 9

@@ -3,7 +3,7 @@ use Rattle.std.specs.Prelude.{◌≡◌, ◌≤◌, ◌<◌, ℕ, List, [], leng
 use Rattle.lks_alarm.specs.declared.alarms.Alarm.{Alarm}
 use Rattle.lks_base.specs.declared.limits.TheConstants.{MOST_PEERS}
 use Rattle.lks_command.specs.declared.commands.Command.{Command}
-use Rattle.lks_command.specs.declared.commands.Command.TheVariants.{Replay, Drill}
+use Rattle.lks_command.specs.declared.commands.Command.TheVariants.{Play, Evidence}
 use Rattle.lks_disk.specs.Face.{Face}
 use Rattle.lks_watch.specs.Watching.{Ears}
 use Rattle.lks_world.specs.Held.{AreFresh}
@@ -41,8 +41,9 @@ pub record AreGiven {D K J B : Type 0} (e : Senses D K J B) (given : Devices D K
   pub unasked : (j : J) × (given.judge ≡ Some j) × (e.ears.heard j ≡ [])
   pub silent : All (IsSilent e.ears.rung e.ears.limit) given.bells
 
--- What a command asks of it: those that play a script all of this. Words that name no command ask nothing.
+-- What a command asks of it: those that play a script all of this. Journals are examined without it, and words that name no command
+-- ask nothing.
 abbrev pub AreGivenFor : {D K J B : Type 0} → Option Command → Senses D K J B → Devices D K J B → Type 0
 AreGivenFor None e given = Unit {0}
-AreGivenFor (Some Replay) e given = AreGiven e given
-AreGivenFor (Some (Drill seed)) e given = AreGiven e given
+AreGivenFor (Some Evidence) e given = Unit {0}
+AreGivenFor (Some (Play play)) e given = AreGiven e given

@@ -1,6 +1,9 @@
 pub mod Codes
 pub mod Complete
 pub mod Deeds
+pub mod Filed
+pub mod Findings
 pub mod Handed
 pub mod Playing
 pub mod Promise
+pub mod ReadingBack

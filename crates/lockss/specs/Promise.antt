@@ -1,14 +1,23 @@
 -- What the program promises of each run, from the bytes that it read to those that it wrote, whatever source and sink tell of them.
-use Rattle.std.specs.Prelude.{◌≡◌, ◌≤◌, ℕ, List, [], ◌++◌, length, map, Bool, true, false, Option, Some, None, Result, Ok, Err}
+use Rattle.std.specs.Prelude.{◌≡◌, ◌≤◌, ◌↔◌, ℕ, List, [], ◌++◌, length, map, slice_get, Bool, true, false, Option, Some, None, Result, Ok, Err}
 use Rattle.lks_alarm.specs.Bells.{left_of, seen}
 use Rattle.lks_base.specs.Checking.{plan_fault}
 use Rattle.lks_base.specs.declared.events.Event.{Event}
 use Rattle.lks_base.specs.declared.events.PeerStep.{PeerStep}
 use Rattle.lks_command.specs.declared.commands.Command.{Command}
+use Rattle.lks_command.specs.declared.commands.Command.TheVariants.{Play, Evidence}
+use Rattle.lks_evidence.specs.Holding.{IsYes, SetHolds}
+use Rattle.lks_evidence.specs.Rules.{journals_on}
+use Rattle.lks_evidence.specs.Search.{finding}
+use Rattle.lks_evidence.specs.declared.findings.Shelf.{Shelf}
+use Rattle.lks_gather.specs.Sets.{said_by, set_of}
+use Rattle.lks_gather.specs.declared.gathered.Gathered.{Gathered}
 use Rattle.lks_law.specs.Alarms.{alarms}
 use Rattle.lks_law.specs.Histories.{IsHistory}
+use Rattle.lks_law.specs.Journal.{EachRepair}
 use Rattle.lks_law.specs.Questions.{questions}
-use Rattle.lks_law.specs.Safe.{Safe}
+use Rattle.lks_law.specs.Safe.{HasEvidence, Safe}
+use Rattle.lks_law.specs.Snapshots.{Restores}
 use Rattle.lks_law.specs.World.{world}
 use Rattle.lks_outside.specs.Counts.{Rose}
 use Rattle.lks_outside.specs.Streams.{AddsFront, ReadEnds}
@@ -28,11 +37,12 @@ use Rattle.lks_world.specs.Watched.{asked_next}
 use Rattle.lks_world.specs.declared.faults.WorldFault.{WorldFault}
 use Rattle.lockss.specs.Codes.{status_of}
 use Rattle.lockss.specs.Deeds.{Deed, deed_of}
+use Rattle.lockss.specs.Findings.{finding_text, is_doubt}
 use Rattle.lockss.specs.Handed.{Devices, Senses}
 use Rattle.lockss.specs.declared.ends.End.{End}
 use Rattle.lockss.specs.declared.ends.End.TheVariants as end
 use Rattle.lockss.specs.declared.ends.Played.{Played}
-use Rattle.lockss.specs.declared.ends.Played.TheVariants.{Stopped, Told, Unmade}
+use Rattle.lockss.specs.declared.ends.Played.TheVariants.{Stopped, Told, Unmade, Untold}
 use Rattle.lockss.specs.declared.ends.Unscripted.{Unscripted}
 use Rattle.lockss.specs.declared.ends.Unscripted.TheVariants.{Unread, Unsaid}
 use Rattle.lockss.specs.declared.runs.TheConstants.{MOST_BYTES}
@@ -44,23 +54,26 @@ module _ {S X : Type 0} (left : S → Option (List ℕ)) (failed : S → ℕ) (s
   AreRead false bytes = (bytes ≡ []) × (after ≡ source)
   AreRead true bytes = (length bytes ≤ MOST_BYTES) × ((all : List ℕ) → left source ≡ Some all → (all ≡ bytes) × (left after ≡ Some []))
 
-  -- these are a script
+  -- these say what the command asks for, a script or journals
   pub record Finds (x : X) : Type 0 where
     pub bytes : List ℕ
     pub read : AreRead reads bytes
     pub script : said bytes ≡ Ok x
 
-  -- Or none was found: reading stopped, or the bytes are no script from this line on; want of memory says nothing of them.
+  -- Or none was found: reading stopped, or the bytes say no such thing from this line on; want of memory says nothing of them.
   abbrev pub FindsNone : Unscripted → Type 0
   FindsNone (Unread stop) =
       (reads ≡ true) × (stop ≡ reading.Failed → Rose (failed source) (failed after)) × ((all : List ℕ) → left source ≡ Some all → ReadEnds MOST_BYTES all (left after) (Err stop))
   FindsNone (Unsaid fault) = (bytes : List ℕ) × AreRead reads bytes × ((line : ℕ) → fault ≡ BadLine line → said bytes ≡ Err line)
 
 -- A sink that tells took all of the text (with an alarm or none), or a front of it and not all; at its fault its count rose.
+abbrev pub Writes : {K : Type 0} → (K → Option (List ℕ)) → (K → ℕ) → List ℕ → Bool → K → K → Result Bool WriteStop → Type 0
+Writes took failed text alarmed sink after (Ok told) = (told ≡ alarmed) × ((taken : List ℕ) → took sink ≡ Some taken → took after ≡ Some (taken ++ text))
+Writes took failed text alarmed sink after (Err stop) =
+    (stop ≡ writing.Failed → Rose (failed sink) (failed after)) × ((taken : List ℕ) → took sink ≡ Some taken → AddsFront taken text (took after))
+
 abbrev pub Tells : {D K J B : Type 0} → Senses D K J B → List ℕ → Bool → K → K → Result Bool WriteStop → Type 0
-Tells e text alarmed sink after (Ok told) = (told ≡ alarmed) × ((taken : List ℕ) → e.taken sink ≡ Some taken → e.taken after ≡ Some (taken ++ text))
-Tells e text alarmed sink after (Err stop) =
-    (stop ≡ writing.Failed → Rose (e.failed sink) (e.failed after)) × ((taken : List ℕ) → e.taken sink ≡ Some taken → AddsFront taken text (e.taken after))
+Tells e = Writes e.taken e.failed
 
 module _ {D K J B : Type 0} (e : Senses D K J B) (c : Deed) (s : Script) (before after : Devices D K J B) where
   -- The plan breaks no rule, and what happened is a history of it and safe. A disk that isn't an honest peer's is as it was; one that
@@ -82,17 +95,18 @@ module _ {D K J B : Type 0} (e : Senses D K J B) (c : Deed) (s : Script) (before
 
   -- The script was played to its end: what happened follows its steps by the verdicts of the judge, and goes on as the command says.
   -- Each honest peer's disk holds the batches of its journal, and so it does after every crash. From the disks that the peers made
-  -- when they began, each line cost what it says: a step that it cuts off, a fuse of its calls and choice.
-  pub record Plays : Type 0 where
+  -- when they began to those of the end, each line cost what it says: a step that it cuts off, a fuse of its calls and choice.
+  pub record Plays (fault : Option WorldFault) : Type 0 where
     pub done : List Event
     pub history : List Event
-    pub kept : Kept None None history
+    pub kept : Kept fault None history
     pub follows : Follows (e.ears.verdict kept.last) s.plan [] s.steps done
     pub goes_on : c.goes_on (e.ears.verdict kept.last) s.plan done history
     pub held : HaveBatches e.face s.plan history after.disks
     pub made : List D
+    pub there : List D
     pub calm : map (power_of e.face) made ≡ map (power_of e.face) before.disks
-    pub spent : AreSpent e.face (e.ears.verdict kept.last) s.plan [] made s.steps done after.disks
+    pub spent : AreSpent e.face (e.ears.verdict kept.last) s.plan [] made s.steps done there
 
   -- A fault stopped it in one of its steps: what happened follows those before, and goes on to a front of what this one makes of it.
   -- A crash leaves of each honest peer's disk the batches of its journal; of the one whose step was begun these, or this step's too.
@@ -117,21 +131,40 @@ module _ {D K J B : Type 0} (e : Senses D K J B) (c : Deed) (s : Script) (before
     pub power : map (power_of e.face) after.disks ≡ map (power_of e.face) before.disks
     pub same : after ≡ record before { disks = after.disks }
 
+  -- Where the command reads the disks back, a fault may come then: all was played, and nothing was written. Else no call is made of
+  -- them after the last line.
   abbrev pub PlaysTo : Played → Type 0
-  PlaysTo (Told told) = (run : Plays) × Tells e (c.told s.plan run.history) (has_any (alarms s.plan run.history)) before.sink after.sink told
+  PlaysTo (Told told) = (run : Plays None) × (c.reads_back ≡ false → after.disks ≡ run.there) × Tells e (c.told s.plan run.history) (has_any (alarms s.plan run.history)) before.sink after.sink told
+  PlaysTo (Untold fault) = (c.reads_back ≡ true) × Plays (Some fault) × (after.sink ≡ before.sink)
   PlaysTo (Stopped fault) = Halts fault
   PlaysTo (Unmade fault) = NeverBegins fault
 
+module _ {D K J B : Type 0} (e : Senses D K J B) (before after : Devices D K J B) (g : Gathered) where
+  -- Journals were examined, whoever wrote them, and what they are found to be is written in one line: a doubt exactly where they don't
+  -- hold. Where they hold, each replaced block has its evidence; and where more than a minority of its poll's voters have journals
+  -- there that commit them to some blocks up to it, the copy is these up to there, or two inputs of a hash collide.
+  pub record Examines (told : Result Bool WriteStop) : Type 0 where
+    pub tells : Tells e (finding_text (finding g.plan g.set.items)) (is_doubt (finding g.plan g.set.items)) before.sink after.sink told
+    pub holds : IsYes (finding g.plan g.set.items) ↔ SetHolds g.plan g.set.items
+    pub evidence : SetHolds g.plan g.set.items → (k : ℕ) (s : Shelf) → slice_get g.set.items k ≡ Some s → HasEvidence g.plan.rules s.peer s.list.items
+    pub restored : SetHolds g.plan g.set.items → (k : ℕ) (s : Shelf) → slice_get g.set.items k ≡ Some s → EachRepair (Restores (journals_on g.set.items) g.plan.rules s.peer) s.list.items
+    pub same : after ≡ record before { sink = after.sink }
+
 module _ {S D K J B : Type 0} (left : S → Option (List ℕ)) (failed : S → ℕ) (e : Senses D K J B) (source source_after : S) (before after : Devices D K J B) where
-  -- How far a run came. Before a script was found nothing was written, no disk was called, nobody was asked, and no bell rang.
+  -- How far a run came. Before a script or journals were found nothing was written, no disk was called, nobody was asked, and no bell rang.
   abbrev pub Comes : Option Command → End → Type 0
   Comes command end.Unnamed = (command ≡ None) × (source_after ≡ source) × (after ≡ before)
   Comes command end.Unbegun = (source_after ≡ source) × (after ≡ before)
   Comes None (end.Unscripted none) = ⊥
   Comes None (end.Played played) = ⊥
-  Comes (Some command) (end.Unscripted none) = FindsNone left failed source source_after (deed_of command).reads (deed_of command).script none × (after ≡ before)
-  Comes (Some command) (end.Played played) =
-      (s : Script) × Finds left failed source source_after (deed_of command).reads (deed_of command).script s × PlaysTo e (deed_of command) s before after played
+  Comes None (end.Examined told) = ⊥
+  Comes (Some (Play play)) (end.Unscripted none) = FindsNone left failed source source_after (deed_of play).reads (deed_of play).script none × (after ≡ before)
+  Comes (Some (Play play)) (end.Played played) =
+      (s : Script) × Finds left failed source source_after (deed_of play).reads (deed_of play).script s × PlaysTo e (deed_of play) s before after played
+  Comes (Some (Play play)) (end.Examined told) = ⊥
+  Comes (Some Evidence) (end.Unscripted none) = FindsNone left failed source source_after true set_of none × (after ≡ before)
+  Comes (Some Evidence) (end.Played played) = ⊥
+  Comes (Some Evidence) (end.Examined told) = (g : Gathered) × Finds left failed source source_after true set_of (said_by g) × Examines e before after g told
 
   -- The answer says how far the run came, and no count of faults falls.
   pub record Promise (command : Option Command) (answer : Status) : Type 0 where

@@ -18,16 +18,18 @@ pub enum Played {
     Unmade(WorldFault),
     /// A fault stopped it in one of its steps.
     Stopped(WorldFault),
+    /// All steps were done, but a journal wasn't read back, or no memory was there for what is told.
+    Untold(WorldFault),
     /// All steps were done and all was told, and whether an alarm was raised; or less than all was told.
     Told(Result<bool, WriteStop>),
 }
 
-/// Why a run found no script.
+/// Why a run found no script, or no journals.
 #[derive(Clone, Copy)]
 pub enum Unscripted {
     /// Reading stopped.
     Unread(ReadStop),
-    /// The bytes are none, or no memory was there for it.
+    /// The bytes are none, or no memory was there for them.
     Unsaid(ScriptFault),
 }
 
@@ -64,6 +66,8 @@ pub enum End {
     Unbegun,
     Unscripted(Unscripted),
     Played(Played),
+    /// Journals were examined and all was told, and whether one is doubted; or less than all was told.
+    Examined(Result<bool, WriteStop>),
 }
 
 impl End {
@@ -84,10 +88,16 @@ impl End {
             End::Played(Played::Unmade(WorldFault::Memory)) => Status::NoMemory,
             End::Played(Played::Stopped(WorldFault::Disk { peer })) => Status::DiskFault { peer },
             End::Played(Played::Stopped(WorldFault::Memory)) => Status::NoMemory,
+            End::Played(Played::Untold(WorldFault::Disk { peer })) => Status::DiskFault { peer },
+            End::Played(Played::Untold(WorldFault::Memory)) => Status::NoMemory,
             End::Played(Played::Told(Ok(false))) => Status::Done,
             End::Played(Played::Told(Ok(true))) => Status::Alarmed,
             End::Played(Played::Told(Err(WriteStop::Failed))) => Status::WriteFault,
             End::Played(Played::Told(Err(WriteStop::Memory))) => Status::NoMemory,
+            End::Examined(Ok(false)) => Status::Done,
+            End::Examined(Ok(true)) => Status::Doubted,
+            End::Examined(Err(WriteStop::Failed)) => Status::WriteFault,
+            End::Examined(Err(WriteStop::Memory)) => Status::NoMemory,
         }
     }
 }

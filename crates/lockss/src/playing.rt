@@ -1,6 +1,6 @@
 //! A script is played on disks, and what is told of its history is written.
 
-ghost use Rattle.std.specs.Prelude.{◌≡◌, ◌≤◌, ◌++◌, ℕ, List, true, Some, None, IfErr, OnOk, OnErr, IsErrOf};
+ghost use Rattle.std.specs.Prelude.{◌≡◌, ◌≤◌, ◌++◌, ℕ, List, true, false, Some, None, IfErr, OnOk, OnErr, IsErrOf};
 ghost use Rattle.lks_base.specs.Checking.{plan_fault};
 ghost use Rattle.lks_base.specs.declared.events.Event.{Event};
 ghost use Rattle.lks_law.specs.Alarms.{alarms};
@@ -14,15 +14,17 @@ ghost use Rattle.lks_world.specs.Counts.{fault_in, ServesHonest};
 ghost use Rattle.lks_world.specs.Follows.{Follows};
 ghost use Rattle.lks_world.specs.Spending.{AreSpent, AreSpentUpTo};
 ghost use Rattle.lockss.specs.Handed.{devices, senses, AreGiven};
-ghost use Rattle.lockss.specs.Playing.{CountsPower, IsLeftOff, PlaysIn};
+ghost use Rattle.lockss.specs.Playing.{ComesIn, CountsPower, GoesOn, IfOpen, IsLeftOff, TellsFirst};
 ghost use Rattle.lockss.specs.Deeds.{deed_of};
 ghost use Rattle.lockss.specs.Promise.{PlaysTo, Tells};
+ghost use Rattle.lockss.specs.ReadingBack.{CanRead};
 
 use crate::ends::Played;
+use crate::journals::{Preface, begin_journals, tell_journals};
 use lks_alarm::Bell;
 use lks_base::{Entry, Plan};
 use lks_blocks::BlockPool;
-use lks_command::Command;
+use lks_command::Play;
 use lks_disk::CrashDisk;
 use lks_effort::EffortJudge;
 use lks_outside::{Sink, WriteStop};
@@ -32,6 +34,15 @@ use lks_world::{Parts, World, WorldFault};
 use std::alloc::Global;
 use std::mem;
 use std::sync::Wait;
+
+/// How far a world was played before its disks are given back.
+#[derive(Drop)]
+pub enum Course {
+    /// It is over.
+    Over(Played),
+    /// All steps were done, and the journals are to be told.
+    Open(Preface),
+}
 
 fn perform_all<R: Wait, D: CrashDisk + Drop, J: EffortJudge, B: Bell>(
     rt: &R,
@@ -58,11 +69,12 @@ fn perform_all<R: Wait, D: CrashDisk + Drop, J: EffortJudge, B: Bell>(
 
 fn write<K: Sink>(
     alloc: Global,
-    command: Command,
+    command: Play,
     plan: &Plan,
     history: &[Entry],
     sink: &mut K,
 ) -> Result<(), WriteStop>
+    requires told { (deed_of command).reads_back ≡ false }
     ensures whole { (events : List Event) → history.now ≡ entries plan.now events → (bytes : List ℕ) → K.taken sink.old ≡ Some bytes →
         OnOk result (K.taken sink.new ≡ Some (bytes ++ (deed_of command).told plan.now events)) }
     ensures part { (events : List Event) → history.now ≡ entries plan.now events → (bytes : List ℕ) → K.taken sink.old ≡ Some bytes →
@@ -71,18 +83,20 @@ fn write<K: Sink>(
     ensures count { K.faults sink.old ≤ K.faults sink.new }
 {
     match command {
-        Command::Replay => report(alloc, plan, history, sink),
-        Command::Drill { seed } => summary(alloc, seed, history, sink),
+        Play::Replay => report(alloc, plan, history, sink),
+        Play::Drill { seed } => summary(alloc, seed, history, sink),
+        Play::Journals => unreachable!(),
     }
 }
 
 /// Tells what happened in the world, and answers whether an alarm was raised in it.
 fn tell<K: Sink, D: CrashDisk + Drop, J: EffortJudge, B: Bell>(
     alloc: Global,
-    command: Command,
+    command: Play,
     world: &World<'_, D, J, B>,
     sink: &mut K,
 ) -> Result<bool, WriteStop>
+    requires told { (deed_of command).reads_back ≡ false }
     ensures tells { Tells (senses D.face (ears J.heard J.verdict B.rung B.limit) K.taken K.faults) ((deed_of command).told world.now.plan world.now.history) (has_any (alarms world.now.plan world.now.history)) sink.old sink.new result }
     ensures count { K.faults sink.old ≤ K.faults sink.new }
 {
@@ -93,24 +107,45 @@ fn tell<K: Sink, D: CrashDisk + Drop, J: EffortJudge, B: Bell>(
     }
 }
 
-/// Does the steps in a world, and tells what happened.
+/// Tells what happened in the world, or what is told before its journals.
+fn tell_first<K: Sink, D: CrashDisk + Drop, J: EffortJudge, B: Bell>(
+    alloc: Global,
+    command: Play,
+    world: &World<'_, D, J, B>,
+    sink: &mut K,
+) -> Course
+    ensures tells { TellsFirst (senses D.face (ears J.heard J.verdict B.rung B.limit) K.taken K.faults) command world.now.plan world.now.history sink.old sink.new result }
+    ensures count { K.faults sink.old ≤ K.faults sink.new }
+{
+    match command {
+        Play::Replay | Play::Drill { .. } => {
+            Course::Over(Played::Told(tell(alloc, command, world, sink)))
+        }
+        Play::Journals => match begin_journals(alloc, world.plan(), world.history()) {
+            Ok(preface) => Course::Open(preface),
+            Err(_) => Course::Over(Played::Untold(WorldFault::Memory)),
+        },
+    }
+}
+
+/// Does the steps in a world, and tells what happened, or what is told before its journals.
 fn play_in<R: Wait, K: Sink, D: CrashDisk + Drop, J: EffortJudge, B: Bell>(
     alloc: Global,
     rt: &R,
-    command: Command,
+    command: Play,
     world: &mut World<'_, D, J, B>,
     steps: &[Step],
     sink: &mut K,
-) -> Played
+) -> Course
     requires running { world.old.stopped ≡ None }
     requires legal { are_steps_of world.old.plan steps.now ≡ true }
     ensures plan { world.new.plan ≡ world.old.plan }
-    ensures plays { PlaysIn (senses D.face (ears J.heard J.verdict B.rung B.limit) K.taken K.faults) command steps.now world.old world.new sink.old sink.new result }
+    ensures comes { ComesIn (senses D.face (ears J.heard J.verdict B.rung B.limit) K.taken K.faults) command steps.now world.old world.new sink.old sink.new result }
     ensures count { K.faults sink.old ≤ K.faults sink.new }
 {
     match perform_all(rt, world, steps) {
-        Ok(()) => Played::Told(tell(alloc, command, world, sink)),
-        Err(fault) => Played::Stopped(fault),
+        Ok(()) => tell_first(alloc, command, world, sink),
+        Err(fault) => Course::Over(Played::Stopped(fault)),
     }
 }
 
@@ -130,12 +165,29 @@ fn hand_back<D: Drop, J: Drop, B: Drop>(
     *bells = parts.bells;
 }
 
+/// Reads the journals back and tells them, where they are to be told.
+fn go_on<K: Sink, D: CrashDisk + Drop>(
+    alloc: Global,
+    course: Course,
+    sink: &mut K,
+    disks: &mut Vec<D>,
+) -> Played
+    requires can { IfOpen course (λ p. CanRead D.face p.owners.items disks.old.items) }
+    ensures goes { GoesOn D.face K.taken K.faults course disks.old.items disks.new.items sink.old sink.new result }
+    ensures count { K.faults sink.old ≤ K.faults sink.new }
+{
+    match course {
+        Course::Over(played) => played,
+        Course::Open(preface) => tell_journals(alloc, preface, sink, disks),
+    }
+}
+
 /// Plays a script on disks, which are back in their places afterwards, as are the judge and the bells that want more, and
 /// tells what happened.
 pub fn play<R: Wait, K: Sink, D: CrashDisk + Drop, J: EffortJudge, B: Bell>(
     alloc: Global,
     rt: &R,
-    command: Command,
+    command: Play,
     script: Script,
     sink: &mut K,
     disks: &mut Vec<D>,
@@ -164,7 +216,7 @@ pub fn play<R: Wait, K: Sink, D: CrashDisk + Drop, J: EffortJudge, B: Bell>(
             return Played::Unmade(fault);
         }
     };
-    let played = play_in(alloc, rt, command, &mut world, steps.as_slice(), sink);
+    let course = play_in(alloc, rt, command, &mut world, steps.as_slice(), sink);
     hand_back(world.into_parts(), disks, judge, bells);
-    played
+    go_on(alloc, course, sink, disks)
 }

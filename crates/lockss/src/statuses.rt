@@ -8,21 +8,23 @@ use lks_base::PeerId;
 /// The answer of a run.
 #[derive(Clone, Copy, Debug, PartialEq, Eq)]
 pub enum Status {
-    /// The run was made, and its history has no alarm.
+    /// The run was made, and its history has no alarm; or the journals that were examined hold.
     Done,
     /// The run was made, and its history has an alarm.
     Alarmed,
     /// The words aren't a command.
     Usage,
-    /// The bytes aren't a script. `line` is the first bad line, counted from 1.
+    /// The bytes aren't a script, or a script and journals. `line` is the first bad line, counted from 1.
     BadScript { line: u32 },
     ReadFault,
     WriteFault,
     /// The count of faults of this peer's disk rose.
     DiskFault { peer: PeerId },
     NoMemory,
-    /// The script has more than 16,777,216 bytes.
+    /// More than 16,777,216 bytes came.
     TooLong,
+    /// The journals that were examined don't hold.
+    Doubted,
 }
 
 impl Status {
@@ -40,6 +42,7 @@ impl Status {
             Status::DiskFault { .. } => 6,
             Status::NoMemory => 7,
             Status::TooLong => 8,
+            Status::Doubted => 9,
         }
     }
 }

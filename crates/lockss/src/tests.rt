@@ -3,6 +3,7 @@
 mod crashes;
 mod disks;
 mod drills;
+mod evidence;
 mod lists;
 mod peers;
 mod sessions;
@@ -13,7 +14,7 @@ ghost use Rattle.std.specs.Prelude.{◌≤◌, length};
 ghost use Rattle.lks_world.specs.Held.{AreFresh};
 
 use super::*;
-use Status::{Alarmed, Done};
+use Status::{Alarmed, Done, Doubted};
 use lks_disk::{Disk, MemDisk};
 use lks_outside::{MemSink, MemSource};
 use std::alloc::Global;
@@ -613,7 +614,7 @@ fn reports(rt: HostRuntime) -> Result<(), Fail> {
 }
 
 /// Words that name no command: a run by them reads nothing and writes nothing.
-const MISUSED: [&[&str]; 8] = [
+const MISUSED: [&[&str]; 11] = [
     &[],
     &["replay", "x"],
     &["race", "0"],
@@ -622,6 +623,9 @@ const MISUSED: [&[&str]; 8] = [
     &["drill", "007"],
     &["drill", "18446744073709551616"],
     &["--help"],
+    &["journals", "x"],
+    &["evidence", "x"],
+    &["-evidence"],
 ];
 
 #[test]

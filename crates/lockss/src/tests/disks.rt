@@ -32,21 +32,22 @@ fn failing_disks(alloc: Global, fail: &[u32], fail_reads: &[u32]) -> Result<Vec<
     Ok(disks)
 }
 
-/// The answer to a script whose first peer's disk fails at these calls, and that disk.
+/// The answer to a script whose first peer's disk fails at these calls, that disk, and what was written.
 fn replay_on<R: Wait>(
     alloc: Global,
     rt: &R,
+    words: &[&str],
     script: &[&str],
     fail: &[u32],
     fail_reads: &[u32],
-) -> Result<(Status, Option<MemDisk>), Fail> {
-    let words = words_of(alloc, REPLAY)?;
+) -> Result<(Status, Option<MemDisk>, Vec<u8>), Fail> {
+    let words = words_of(alloc, words)?;
     let mut source = MemSource::new(alloc, joined(alloc, script)?, [].to_vec(alloc)?);
     let mut sink = MemSink::new(alloc, [].to_vec(alloc)?);
     let mut disks = failing_disks(alloc, fail, fail_reads)?;
     let status = run_plainly(alloc, rt, &words, &mut source, &mut sink, &mut disks)?;
     disks.truncate(1);
-    Ok((status, disks.pop()))
+    Ok((status, disks.pop(), sink.bytes().to_vec(alloc)?))
 }
 
 /// The batches that a disk holds.
@@ -63,7 +64,7 @@ fn batches_on(alloc: Global, disk: Option<MemDisk>) -> Result<Vec<Bytes>, Fail> 
 #[test]
 fn deposits_first(rt: HostRuntime) -> Result<(), Fail> {
     let alloc = rt.alloc();
-    let (status, disk) = replay_on(alloc, &rt, &[HEAD], &[], &[])?;
+    let (status, disk, _written) = replay_on(alloc, &rt, REPLAY, &[HEAD], &[], &[])?;
     assert_eq!(rt; status, Status::Done);
     let Some(disk) = disk else {
         return Err("a disk".into());
@@ -77,13 +78,20 @@ fn deposits_first(rt: HostRuntime) -> Result<(), Fail> {
 #[test]
 fn each_call_fails(rt: HostRuntime) -> Result<(), Fail> {
     let alloc = rt.alloc();
-    let (status, _disk) = replay_on(alloc, &rt, &[HEAD, AGREED], &[31], &[])?;
+    let (status, _disk, _written) = replay_on(alloc, &rt, REPLAY, &[HEAD, AGREED], &[31], &[])?;
     assert_eq!(rt; status, Status::Done);
-    let (_status, disk) = replay_on(alloc, &rt, &[HEAD, AGREED], &[], &[])?;
+    let (_status, disk, _written) = replay_on(alloc, &rt, REPLAY, &[HEAD, AGREED], &[], &[])?;
     let whole = batches_on(alloc, disk)?;
     assert_eq!(rt; whole.len(), 7);
     for call in 1..31u32 {
-        let (status, disk) = replay_on(alloc, &rt, &[HEAD, AGREED], &[call], &[])?;
+        let (status, disk, _written) = replay_on(
+            alloc,
+            &rt,
+            REPLAY,
+            &[HEAD, AGREED],
+            &[call],
+            &[],
+        )?;
         assert_eq!(rt; status, Status::DiskFault { peer: 1 }, "call {call}");
         if call < 3 {
             continue;
@@ -104,8 +112,50 @@ fn each_call_fails(rt: HostRuntime) -> Result<(), Fail> {
 fn a_read_fails_at_the_reopening(rt: HostRuntime) -> Result<(), Fail> {
     let alloc = rt.alloc();
     for lines in ["cut 0 0 next\nagain 7\nsettle\n", "crash 1\nsettle\n"] {
-        let (status, _disk) = replay_on(alloc, &rt, &[HEAD, ASKED, lines], &[], &[1])?;
+        let (status, _disk, _written) = replay_on(
+            alloc,
+            &rt,
+            REPLAY,
+            &[HEAD, ASKED, lines],
+            &[],
+            &[1],
+        )?;
         assert_eq!(rt; status, Status::DiskFault { peer: 1 }, "{lines}");
     }
+    Ok(())
+}
+
+// All steps are done by 30 calls. The 31st is that of reading the journal back, where a read may fail too: nothing is written, and
+// the disk holds its batches.
+#[test]
+fn a_journal_is_not_read_back(rt: HostRuntime) -> Result<(), Fail> {
+    let alloc = rt.alloc();
+    for (fail, fail_reads) in [
+        ([31u32].as_slice(), [].as_slice()),
+        (&[], &[1]),
+        (&[], &[2]),
+    ] {
+        let (status, disk, written) = replay_on(
+            alloc,
+            &rt,
+            &["journals"],
+            &[HEAD, AGREED],
+            fail,
+            fail_reads,
+        )?;
+        assert_eq!(rt; status, Status::DiskFault { peer: 1 });
+        assert!(rt; written.is_empty());
+        assert_eq!(rt; batches_on(alloc, disk)?.len(), 7);
+    }
+    let (status, _disk, written) = replay_on(
+        alloc,
+        &rt,
+        &["journals"],
+        &[HEAD, AGREED],
+        &[32],
+        &[3],
+    )?;
+    assert_eq!(rt; status, Status::Done);
+    assert!(rt; !written.is_empty());
     Ok(())
 }

@@ -2,7 +2,7 @@
 
 use super::*;
 
-const PEERS: &str = "\
+pub const PEERS: &str = "\
 lockss 1
 rules inner 3 quorum 3 minority 1 outer 0 repairs 2 pace 0 refractory 0 overdue 100 unknown 100 debt 100 churn 0
 au 1 12

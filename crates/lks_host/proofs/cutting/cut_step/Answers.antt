@@ -127,7 +127,7 @@ returns-then-found-before-clause-cuts g c = λ batches at.
     let records = (answered c.fuse.new.self.peer c.args.tick c.args.input.now).records in
     let read = cut_read g.D.Disk.face c.recover-in-Err-Cut.new.self batches records c.args.calls c.in_ok-found-in-Err-Cut.found c.power_cut.new.self c.fuse.new.self.peer.own (same_own g cut) (some_added g cut) (lies_cut g cut batches at)
     c.in_ok-found-in-Err-Cut.ensures.recovers in
-    let kept = kept_by_count g.D.Disk.face c.recover-in-Err-Cut.new.self batches records c.args.calls c.in_ok-found-in-Err-Cut.found c.count-before.result read (c.count-before.ensures ∙ at.count) c.if-found-before.true in (
+    let kept = kept_by_count g.D.Disk.face c.recover-in-Err-Cut.new.self batches records c.args.calls c.in_ok-found-in-Err-Cut.found c.count-before.result read (c.count-before.ensures.all batches at) c.if-found-before.true in (
       kept.last ∙ ap (λ (r : Reaction). r.records) still,
       short_fuse g cut,
       kept.two,
@@ -143,7 +143,7 @@ returns-then-found-before-clause-end g c =
     let records = (answered c.fuse.new.self.peer c.args.tick c.args.input.now).records in
     let read = cut_read g.D.Disk.face c.recover-in-Err-Cut.new.self batches records c.args.calls c.in_ok-found-in-Err-Cut.found c.power_cut.new.self c.fuse.new.self.peer.own (same_own g cut) (some_added g cut) (lies_cut g cut batches stands.1)
     c.in_ok-found-in-Err-Cut.ensures.recovers in
-    let kept = kept_by_count g.D.Disk.face c.recover-in-Err-Cut.new.self batches records c.args.calls c.in_ok-found-in-Err-Cut.found c.count-before.result read (c.count-before.ensures ∙ stands.1.count) c.if-found-before.true in
+    let kept = kept_by_count g.D.Disk.face c.recover-in-Err-Cut.new.self batches records c.args.calls c.in_ok-found-in-Err-Cut.found c.count-before.result read (c.count-before.ensures.all batches stands.1) c.if-found-before.true in
     let told = c.step-done.ensures.read (enough g cut) in
     let short : (records ≡ [] → ⊥) → length (batch_spelling records) ≤ 32763 = λ more. omega (arith, (told.read more).short, told.batch.short) in
     let longer = little_longer g.D.Disk.face c.fuse.new.self c.recover-in-Err-Cut.new.self batches records (c.fuse.ensures.stands batches stands.1) kept.stands short in
@@ -155,7 +155,7 @@ returns-else-found-before-clause-cuts g c = λ batches at.
     let records = (answered c.fuse.new.self.peer c.args.tick c.args.input.now).records in
     let read = cut_read g.D.Disk.face c.recover-in-Err-Cut.new.self batches records c.args.calls c.in_ok-found-in-Err-Cut.found c.power_cut.new.self c.fuse.new.self.peer.own (same_own g cut) (some_added g cut) (lies_cut g cut batches at)
     c.in_ok-found-in-Err-Cut.ensures.recovers in
-    let lost = lost_by_count g.D.Disk.face c.recover-in-Err-Cut.new.self batches records c.args.calls c.in_ok-found-in-Err-Cut.found c.count-before.result read (c.count-before.ensures ∙ at.count) (omega (arith, c.if-found-before.false)) in
+    let lost = lost_by_count g.D.Disk.face c.recover-in-Err-Cut.new.self batches records c.args.calls c.in_ok-found-in-Err-Cut.found c.count-before.result read (c.count-before.ensures.all batches at) (omega (arith, c.if-found-before.false)) in
     (short_fuse g cut, lost.stands, raised_between _ _ _ _ refl (burned g cut) (c.in_ok-found-in-Err-Cut.ensures.behaves.unset c.power_cut.ensures.lost.unfused ∙ c.power_cut.ensures.lost.burns))
 
 pub returns-else-found-before-clause-end : goal.returns-else-found-before-clause-end
@@ -167,7 +167,7 @@ returns-else-found-before-clause-end g c =
     let records = (answered c.fuse.new.self.peer c.args.tick c.args.input.now).records in
     let read = cut_read g.D.Disk.face c.recover-in-Err-Cut.new.self batches records c.args.calls c.in_ok-found-in-Err-Cut.found c.power_cut.new.self c.fuse.new.self.peer.own (same_own g cut) (some_added g cut) (lies_cut g cut batches stands.1)
     c.in_ok-found-in-Err-Cut.ensures.recovers in
-    let lost = lost_by_count g.D.Disk.face c.recover-in-Err-Cut.new.self batches records c.args.calls c.in_ok-found-in-Err-Cut.found c.count-before.result read (c.count-before.ensures ∙ stands.1.count) (omega (arith, c.if-found-before.false)) in
+    let lost = lost_by_count g.D.Disk.face c.recover-in-Err-Cut.new.self batches records c.args.calls c.in_ok-found-in-Err-Cut.found c.count-before.result read (c.count-before.ensures.all batches stands.1) (omega (arith, c.if-found-before.false)) in
     omega (arith, lost.stands.disk.end, stood.disk.end, c.fuse.ensures.end)
 
 -- Of one that failed: whatever was done of it, a crash leaves the batches from before, or the new one too.

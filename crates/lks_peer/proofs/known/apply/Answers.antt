@@ -1,7 +1,5 @@
-use Rattle.std.proofs.Common.{◌≡◌, subst, sym, refl}
-use Rattle.lks_base.specs.declared.records.Record.{Record}
+use Rattle.std.proofs.Common.{subst}
 use Rattle.lks_law.specs.Fitting.{Fits}
-use Rattle.lks_law.specs.State.{after}
 use Rattle.lks_peer.specs.Knows.{state_of}
 use Rattle.lks_sessions.specs.Sendable.{MayServe}
 use Rattle.lks_peer.proofs.Knowing.{vote_fits, ask_fits, replace_fits, tied_on}

@@ -1,11 +1,6 @@
-use Rattle.std.proofs.Common.{◌∙◌, ap}
 use Rattle.lks_audit.specs.Copied.{copies_of}
-use Rattle.lks_base.specs.declared.records.Record.TheVariants as record_of
-use Rattle.lks_law.specs.Polls.{Station}
 use Rattle.lks_law.specs.State.{after, blocks_at}
-use Rattle.lks_law.specs.Taking.{voter_after}
 use Rattle.lks_peer.specs.Knows.{state_of}
-use Rattle.lks_sessions.specs.Kept.{voter_of}
 use Rattle.lks_peer.proofs.known.end_session.Goals as goal
 
 pub returns-clause-state : goal.returns-clause-state

@@ -1,4 +1,4 @@
-use Rattle.std.proofs.Common.{◌∙◌, ap, ℕ, List}
+use Rattle.std.proofs.Common.{◌∙◌, ap}
 use Rattle.lks_audit.specs.Copied.{copies_of}
 use Rattle.lks_audit.specs.Seen.{polls_of}
 use Rattle.lks_base.specs.declared.records.Record.TheVariants as record_of

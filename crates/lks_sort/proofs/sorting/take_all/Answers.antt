@@ -3,6 +3,7 @@ use Rattle.lks_base.specs.declared.plans.AuPlan.{AuPlan}
 use Rattle.lks_base.specs.declared.plans.Holding.{Holding}
 use Rattle.lks_sort.specs.Sorted.{AreTaken, IsUpTo}
 use Rattle.lks_sort.proofs.Listing.{step_taken}
+use Rattle.lks_sort.proofs.Owners.{spell_next}
 use Rattle.lks_sort.proofs.sorting.take_all.Goals as goal
 
 pub loop-place-preserved : goal.loop-place-preserved
@@ -17,4 +18,7 @@ loop-place-preserved g c =
       pool = c.in_ok-take_body.ensures.same.1 ∙ c.loop-place.invariant.pool;
       taken = next.0;
       upto = λ aus copies before. next.1 aus copies (c.loop-place.invariant.upto aus copies before);
+      spell = λ front before.
+          spell_next c.loop-place.sorter c.take_body.new.sorter c.args.batches.now c.loop-place.place c.index-batches-place.result c.as_slice.result.now c.in_ok-take_body.field-0
+          few c.index-batches-place.is c.as_slice.ensures c.if-not-branch.false c.in_ok-take_body.ensures.taken front (c.loop-place.invariant.spell front before);
     }

@@ -23,5 +23,5 @@ returns-clause-taken g c =
     let last : c.latest_with-sorter.result ≡ max old.last (latest c.args.batch.items) = search rules in
     let tunes : c.tuned_with-sorter.result ≡ (old.tuned || was_tuned c.args.batch.items) = search rules in
     taken_so old new c.deref-3.result.now c.args.batch.items c.args.body.now c.in-Some.named c.in_ok-add_batch.field-0
-    c.deref-3.ensures.value c.requires.spells.is c.requires.spells.read asked granted c.in_ok-add_batch.ensures.added c.in_ok-add_batch.ensures.state
+    c.deref-3.ensures.value c.requires.spells.is c.requires.spells.read c.requires.spells.spelled asked granted c.in_ok-add_batch.ensures.added c.in_ok-add_batch.ensures.state
     c.in_ok-add_batch.ensures.same.0 goes last tunes

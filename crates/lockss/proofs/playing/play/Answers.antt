@@ -1,11 +1,11 @@
-use Rattle.std.proofs.Common.{◌≡◌, ◌∙◌, ap, sym, subst, arith, length}
+use Rattle.std.proofs.Common.{◌≡◌, ◌∙◌, ap, sym, subst, arith, length, refl}
 use Rattle.std.specs.Prelude.{Some, map}
 use Rattle.lks_base.proofs.PlanBounds.{few_peers}
 use Rattle.lks_watch.specs.Watching.{ears}
 use Rattle.lks_world.specs.Counts.{ServesHonest}
-use Rattle.lks_world.specs.Held.{AreFresh, HaveBegunUpTo}
+use Rattle.lks_world.specs.Held.{AreFresh, AreUnfused, HaveBegunUpTo}
 use Rattle.lks_world.specs.Powers.{power_of}
-use Rattle.lockss.proofs.Played.{none_made, played_as}
+use Rattle.lockss.proofs.Played.{can_read_as, none_made, played_as}
 use Rattle.lockss.specs.Handed.{devices, senses}
 use Rattle.lockss.proofs.playing.play.Goals as goal
 
@@ -18,15 +18,27 @@ new-requires-4-clause-enough g c = λ κs lives.
 pub new-requires-4-clause-fresh : goal.new-requires-4-clause-fresh
 new-requires-4-clause-fresh g c = λ κs lives. subst (AreFresh g.D.Disk.face) (sym (ap (λ v. v.items) c.replace-handed.ensures.value)) c.requires.given.fresh
 
+pub go_on-requires-clause-can : goal.go_on-requires-clause-can
+go_on-requires-clause-can g c = λ κs lives.
+    let e = senses g.D.Disk.face (ears g.J.EffortJudge.heard g.J.EffortJudge.verdict g.B.Bell.rung g.B.Bell.limit) g.K.Sink.taken g.K.Sink.faults in
+    let before = devices c.args.disks.now.items c.args.sink.now c.args.judge.now c.args.bells.now.items in
+    let mid = devices c.hand_back-2.new.disks.items c.play_in-course.new.sink c.hand_back-2.new.judge c.hand_back-2.new.bells.items in
+    can_read_as e c.args.command c.args.script before mid c.in-Ok-new.world c.play_in-course.new.world c.as_slice.result.now c.in-Some.asked c.replace-hung.result.items c.replace-handed.result.items
+    c.requires.good c.requires.given (sym c.take.ensures.value ∙ c.in-Some.is) (ap (λ v. v.items) c.replace-hung.ensures.value) (ap (λ v. v.items) c.replace-handed.ensures.value) c.in-Ok-new.ensures.begins c.as_slice.ensures c.play_in-course.ensures.plan
+    (c.hand_back-2.ensures.disks ∙ c.into_parts.ensures.disks) (c.hand_back-2.ensures.judge ∙ ap Some c.into_parts.ensures.watched.0) (c.hand_back-2.ensures.bells ∙ c.into_parts.ensures.watched.1)
+    c.in-Ok-new.ensures.disks c.in-Ok-new.ensures.power c.into_parts.ensures.happened c.into_parts.ensures.holds c.play_in-course.result c.play_in-course.ensures.comes
+    (subst (AreUnfused g.D.Disk.face) (sym c.hand_back-2.ensures.disks) c.into_parts.ensures.unfused)
+
 pub returns-clause-plays : goal.returns-clause-plays
 returns-clause-plays g c =
     let e = senses g.D.Disk.face (ears g.J.EffortJudge.heard g.J.EffortJudge.verdict g.B.Bell.rung g.B.Bell.limit) g.K.Sink.taken g.K.Sink.faults in
     let before = devices c.args.disks.now.items c.args.sink.now c.args.judge.now c.args.bells.now.items in
-    let after = devices c.hand_back-2.new.disks.items c.play_in-played.new.sink c.hand_back-2.new.judge c.hand_back-2.new.bells.items in
-    played_as e c.args.command c.args.script before after c.in-Ok-new.world c.play_in-played.new.world c.as_slice.result.now c.in-Some.asked c.replace-hung.result.items c.replace-handed.result.items
-    c.requires.good c.requires.given (sym c.take.ensures.value ∙ c.in-Some.is) (ap (λ v. v.items) c.replace-hung.ensures.value) (ap (λ v. v.items) c.replace-handed.ensures.value) c.in-Ok-new.ensures.begins c.as_slice.ensures c.play_in-played.ensures.plan
+    let mid = devices c.hand_back-2.new.disks.items c.play_in-course.new.sink c.hand_back-2.new.judge c.hand_back-2.new.bells.items in
+    let after = devices c.go_on.new.disks.items c.go_on.new.sink c.hand_back-2.new.judge c.hand_back-2.new.bells.items in
+    played_as e c.args.command c.args.script before mid c.in-Ok-new.world c.play_in-course.new.world c.as_slice.result.now c.in-Some.asked c.replace-hung.result.items c.replace-handed.result.items
+    c.requires.good c.requires.given (sym c.take.ensures.value ∙ c.in-Some.is) (ap (λ v. v.items) c.replace-hung.ensures.value) (ap (λ v. v.items) c.replace-handed.ensures.value) c.in-Ok-new.ensures.begins c.as_slice.ensures c.play_in-course.ensures.plan
     (c.hand_back-2.ensures.disks ∙ c.into_parts.ensures.disks) (c.hand_back-2.ensures.judge ∙ ap Some c.into_parts.ensures.watched.0) (c.hand_back-2.ensures.bells ∙ c.into_parts.ensures.watched.1)
-    c.in-Ok-new.ensures.disks c.in-Ok-new.ensures.power c.into_parts.ensures.happened c.into_parts.ensures.holds c.play_in-played.result c.play_in-played.ensures.plays
+    c.in-Ok-new.ensures.disks c.in-Ok-new.ensures.power c.into_parts.ensures.happened c.into_parts.ensures.holds after refl refl c.play_in-course.result c.play_in-course.ensures.comes c.go_on.result c.go_on.ensures.goes
 
 pub returns-in_default-clause-plays : goal.returns-in_default-clause-plays
 returns-in_default-clause-plays g c =

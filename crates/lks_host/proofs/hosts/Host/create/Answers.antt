@@ -1,12 +1,12 @@
 use Rattle.std.proofs.Common.{◌∙◌, ap, refl, sym}
 use Rattle.std.specs.Prelude.{Some}
-use Rattle.lks_host.proofs.Beginning.{of_begun, option_at}
+use Rattle.lks_host.proofs.Beginning.{of_begun}
 use Rattle.lks_host.proofs.Fronts.{front_begun}
 use Rattle.lks_host.proofs.Standing.{stands_begun}
 use Rattle.lks_host.specs.declared.faults.HostFault.TheVariants.{Memory}
 use Rattle.lks_law.specs.World.{standing_of}
 use Rattle.lks_peer.specs.Knows.{knowing_of}
-use Rattle.lks_sort.proofs.Beginning.{begun_fitting}
+use Rattle.lks_sort.proofs.Beginning.{begun_fitting, option_at}
 use Rattle.lks_host.proofs.hosts.Host.create.Goals as goal
 
 pub returns-clause-peer : goal.returns-clause-peer
@@ -23,7 +23,7 @@ returns-clause-stands g c = λ told p there.
     (same ∙ option_at (λ q. knowing_of c.args.pool.now (standing_of plan q)) _ p begun.0 there peer)
     (option_at (λ q. (standing_of plan q).journal) _ p begun.1.items there list)
     (begun_fitting plan c.args.id p (standing_of plan p).journal c.requires.good there refl p there)
-    holds.count holds.disk holds.read)
+    holds.disk holds.read)
 
 pub returns-clause-front : goal.returns-clause-front
 returns-clause-front g c = λ told settled p there.

@@ -1,4 +1,4 @@
-use Rattle.std.proofs.Common.{◌≡◌, List, ap, subst, sym, arith}
+use Rattle.std.proofs.Common.{◌≡◌, List, ap, subst, sym}
 use Rattle.std.specs.Prelude.{Err}
 use Rattle.lks_base.specs.declared.reactions.Reaction.{Reaction}
 use Rattle.lks_base.specs.declared.records.Record.{Record}
@@ -6,7 +6,6 @@ use Rattle.lks_sort.proofs.Fitting.{reaction_fits}
 use Rattle.lks_host.proofs.Standing.{stands_after, read_more}
 use Rattle.lks_host.specs.Bodies.{bodies_of, ReadBack}
 use Rattle.lks_sort.specs.Fits.{FitsBatch}
-use Rattle.lks_host.specs.Hosted.{count_after}
 use Rattle.lks_host.specs.Stepping.{IsWritten}
 use Rattle.lks_host.specs.declared.faults.HostFault.TheVariants.{Memory}
 use Rattle.lks_host.specs.declared.hosts.Host.{Host}
@@ -16,13 +15,11 @@ use Rattle.lks_host.proofs.hosts.Host.step.Goals as goal
 
 pub returns-in-Ok-keep-clause-stands : goal.returns-in-Ok-keep-clause-stands
 returns-in-Ok-keep-clause-stands g c = λ told batches stood.
-    let host : Host g.row.D.Denot = record { alloc = c.args.self.now.alloc; peer = c.step.new.self; journal = c.keep.new.journal; count = c.count_with-self.result; broken = c.args.self.now.broken } in
+    let host : Host g.row.D.Denot = record { alloc = c.args.self.now.alloc; peer = c.step.new.self; journal = c.keep.new.journal; broken = c.args.self.now.broken } in
     let records = c.in-Ok.answer.records in
     stands_after g.D.Disk.face c.args.self.now host batches records stood c.in-Ok.ensures.own c.in-Ok.ensures.state c.in-Ok.ensures.fits
     (subst (λ (records : List Record). IsSettled g.D.Disk.face c.keep.new.journal (bodies_of (with_batch batches records))) c.as_slice.ensures (c.in-Ok-keep.ensures.adds told batches stood.disk).ok)
     (read_more batches records stood.read (subst ReadBack c.as_slice.ensures (c.in-Ok-keep.ensures.read (λ e. absurd cc))))
-    (omega (arith, c.requires.can.room))
-    (subst (λ (records : List Record). c.count_with-self.result ≡ count_after c.args.self.now.count records) c.as_slice-in-Ok-keep.ensures c.count_with-self.ensures)
 
 pub keep-requires-clause-fits : goal.keep-requires-clause-fits
 keep-requires-clause-fits g c =

@@ -1,4 +1,4 @@
-use Rattle.std.proofs.Common.{◌∙◌, ap}
+use Rattle.std.proofs.Common.{◌≡◌, ◌∙◌, ap, [], rules}
 use Rattle.lks_audit.specs.Kept.{kept_of}
 use Rattle.lks_law.specs.State.{State, after_all, blank}
 use Rattle.lks_law.specs.State as law
@@ -21,4 +21,5 @@ returns g c =
     ∙ ap (λ (s : State). kept_after_all c.args.own s c.args.list.now (kept_of known.polls)) made
     ∙ ap (kept_after_all c.args.own (blank c.args.own) c.args.list.now) (kept_none known.polls (ap (λ (s : State). s.polls) made))
     ∙ nothing_after_all c.args.own (blank c.args.own) c.args.list.now in
-    λ i. record { own = c.args.own; pool = c.of.ensures i; state = state i; kept = kept i }
+    let places : c.from_vec.result ≡ [] = search rules in
+    λ i. record { own = c.args.own; pool = c.of.ensures i; state = state i; kept = kept i; places = places i }
