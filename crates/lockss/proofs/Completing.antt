@@ -72,7 +72,7 @@ module _ {S D K J B : Type 0} (left : S → Option (List ℕ)) (failed : S → �
   completes_played c s (Stopped world.Memory) is = inr (inr refl)
   completes_played c s (Told (Ok false)) is = inl refl
   completes_played c s (Told (Ok true)) is = inr (inl refl)
-  completes_played c s (Told (Err writing.Failed)) is = absurd (no_write (is.2.0 refl))
+  completes_played c s (Told (Err writing.Failed)) is = absurd (no_write (is.3.0 refl))
   completes_played c s (Told (Err writing.Memory)) is = inr (inr refl)
 
   completes_at : (c : Play) (bytes : List ℕ) (s : Script) → AreThere (deed_of c).reads bytes (left source) → (deed_of c).script bytes ≡ Ok s → (came : End) → Comes left failed e source source_after before after (Some (command.Play c)) came → Completes (status_of came)

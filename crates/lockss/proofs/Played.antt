@@ -12,7 +12,7 @@ use Rattle.lks_base.specs.declared.plans.Plan.{Plan}
 use Rattle.std.specs.List.{flat_map}
 use Rattle.std.proofs.lemmas.List.{length-map}
 use Rattle.lks_disk.specs.Face.{Face}
-use Rattle.lks_gather.specs.Texts.{Filed, journal_text, set_text}
+use Rattle.lks_gather.specs.Texts.{Filed, IsSaidPlan, journal_text, set_text}
 use Rattle.lks_law.specs.World.{is_honest, world}
 use Rattle.lks_outside.specs.declared.sinks.WriteStop.TheVariants as writing
 use Rattle.lks_print.specs.Scripts.{plan_text}
@@ -20,6 +20,7 @@ use Rattle.lks_print.specs.Steps.{line_of}
 use Rattle.lks_world.specs.Seats.{id_for}
 use Rattle.lockss.proofs.Begun.{nothing_added}
 use Rattle.lockss.proofs.ReadBack.{can_read, held_read, journals_are, power_read, serves_read}
+use Rattle.lockss.proofs.ToldAgain.{told_again}
 use Rattle.lockss.specs.Filed.{filed_from, journals_text}
 use Rattle.lockss.specs.ReadingBack.{AreOn, CanRead, IsPreface, ReadsBack, TellsJournals}
 use Rattle.lockss.specs.declared.journals.Preface.{Preface}
@@ -55,7 +56,7 @@ use Rattle.lks_world.specs.declared.faults.WorldFault.{WorldFault}
 use Rattle.lockss.specs.Handed.{AreGiven, Devices, IsSilent, Senses}
 use Rattle.lockss.specs.Playing.{ComesIn, CountsPower, GoesOn, IfOpen, IsPlayed, IsStopped, TellsFirst}
 use Rattle.lockss.specs.Deeds.{Deed, deed_of}
-use Rattle.lockss.specs.Promise.{Halts, Kept, NeverBegins, Plays, PlaysTo, Tells, Writes}
+use Rattle.lockss.specs.Promise.{Halts, Kept, NeverBegins, Plays, PlaysTo, ReadsAgain, Tells, Writes}
 use Rattle.lockss.specs.declared.ends.Played.{Played}
 use Rattle.lockss.specs.declared.ends.Played.TheVariants.{Stopped, Told, Unmade, Untold}
 
@@ -159,7 +160,7 @@ comes_first {K = K} e command steps first now before after course is played = by
         )
 
     by_course : (course : Course) → TellsFirst e command first.plan now.history before after course → ComesIn e command steps first now before after course
-    by_course (Over (Told told)) is = played told is
+    by_course (Over (Told told)) is = (is.0, played told is.1)
     by_course (Over (Untold fault)) is = (is.0, is.1, is.2, untold is.0 is.2)
     by_course (Over (Stopped fault)) is = absurd is
     by_course (Over (Unmade fault)) is = absurd is
@@ -176,6 +177,13 @@ tells_all e Journals reads plan history p journals preface are sink after told w
     subst (λ (b : Bool). Writes e.taken e.failed (plan_text plan ++ flat_map journal_text (filed_from plan history 0 (filter is_honest plan.peers))) b sink after told) preface.alarmed
     (subst (λ (js : List Filed). Writes e.taken e.failed (plan_text plan ++ flat_map journal_text js) p.alarmed sink after told) are
     (subst (λ (t : List ℕ). Writes e.taken e.failed (t ++ flat_map journal_text journals) p.alarmed sink after told) preface.text writes))
+
+-- what reads the disks back tells journals
+reads_again : (command : Play) → (deed_of command).reads_back ≡ true → (plan : Plan) (history : List Event) → ReadsAgain plan history (journals_text plan history)
+    → (deed_of command).reads_back ≡ true → ReadsAgain plan history ((deed_of command).told plan history)
+reads_again Replay reads plan history again also = absurd cc
+reads_again (Drill seed) reads plan history again also = absurd cc
+reads_again Journals reads plan history again also = again
 
 -- the world began with the script's plan and no events, and did its steps
 module _ {D K J B : Type 0} (e : Senses D K J B) (command : Play) (s : Script) (before after : Devices D K J B) (first now : Seen D J B) (steps : List Step) (asked : J) (hung : List B) (handed : List D)
@@ -292,7 +300,7 @@ module _ {D K J B : Type 0} (e : Senses D K J B) (command : Play) (s : Script) (
   -- how it ends, where its journals aren't to be told
   over_as : (played : Played) → ComesIn e command steps first now before.sink after.sink (Over played) → PlaysTo e (deed_of command) s before after played
   unfolding played_whole halted
-  over_as (Told told) is = (played_whole told is, λ none. refl, told_as told is)
+  over_as (Told told) is = (played_whole told is.1, λ none. refl, λ reads. let both : true ≡ false = sym reads ∙ is.0 in absurd cc, told_as told is.1)
   over_as (Untold fault) is = (
     is.0,
     subst (λ (w : WorldFault). Plays e (deed_of command) s before after (Some w)) (sym is.1) (plays_wanting e (deed_of command) s before after (played_whole (Err writing.Memory) is.3)),
@@ -302,7 +310,7 @@ module _ {D K J B : Type 0} (e : Senses D K J B) (command : Play) (s : Script) (
   over_as (Unmade fault) is = absurd is
 
   -- and where they are
-  module _ (last : Devices D K J B) (same_judge : last.judge ≡ after.judge) (same_bells : last.bells ≡ after.bells) where
+  module _ (last : Devices D K J B) (same_judge : last.judge ≡ after.judge) (same_bells : last.bells ≡ after.bells) (said : (deed_of command).reads_back ≡ true → IsSaidPlan s.plan) where
     open_as : (p : Preface) → ComesIn e command steps first now before.sink after.sink (Open p) → (played : Played)
         → TellsJournals e.face e.taken e.failed p after.disks last.disks after.sink last.sink played → PlaysTo e (deed_of command) s before last played
     unfolding played_whole plays_again plays_with_disks
@@ -310,11 +318,13 @@ module _ {D K J B : Type 0} (e : Senses D K J B) (command : Play) (s : Script) (
         let preface = preface_as p is.1 in
         let run = played_whole (Err writing.Memory) is.3 in
         let read = subst (λ (owners : List (Option ℕ)). ReadsBack e.face owners after.disks last.disks None) preface.owners tells.0 in
-        let on = subst (λ (owners : List (Option ℕ)). AreOn e.face owners after.disks tells.1.0) preface.owners tells.1.1 in (
+        let on = subst (λ (owners : List (Option ℕ)). AreOn e.face owners after.disks tells.1.0) preface.owners tells.1.1 in
+        let again = told_again s.plan now.history e.face after.disks tells.1.0 run.held on tells.1.2 (said is.0) in (
           plays_again e (deed_of command) s before after last None same_judge same_bells read run,
           λ none. let both : true ≡ false = sym is.0 ∙ none in absurd cc,
+          reads_again command is.0 s.plan now.history again,
           tells_all e command is.0 s.plan now.history p tells.1.0 preface (journals_are e.face s.plan now.history after.disks tells.1.0 run.held on) before.sink last.sink told
-              (subst (λ (k : K). Writes e.taken e.failed (p.text.items ++ flat_map journal_text tells.1.0) p.alarmed k last.sink told) is.2 tells.1.2),
+              (subst (λ (k : K). Writes e.taken e.failed (p.text.items ++ flat_map journal_text tells.1.0) p.alarmed k last.sink told) is.2 tells.1.3),
         )
     open_as p is (Untold fault) tells =
         let preface = preface_as p is.1 in

@@ -1,5 +1,5 @@
 -- How the steps of a script are done in a world, and told.
-use Rattle.std.specs.Prelude.{◌≡◌, ℕ, Bool, true, List, Option, Some, None, Result, Err}
+use Rattle.std.specs.Prelude.{◌≡◌, ℕ, Bool, true, false, List, Option, Some, None, Result, Err}
 use Rattle.lks_base.specs.declared.events.Event.{Event}
 use Rattle.lks_base.specs.declared.events.PeerStep.{PeerStep}
 use Rattle.lks_base.specs.declared.plans.Plan.{Plan}
@@ -63,7 +63,8 @@ pub record IsStopped {D K J B : Type 0} (e : Senses D K J B) (steps : List Step)
 
 -- what was told first of a world in which all steps were done: all that is told, or what is told before its journals and nothing yet
 abbrev pub TellsFirst : {D K J B : Type 0} → Senses D K J B → Play → Plan → List Event → K → K → Course → Type 0
-TellsFirst e command plan history before after (Over (Told told)) = Tells e ((deed_of command).told plan history) (has_any (alarms plan history)) before after told
+TellsFirst e command plan history before after (Over (Told told)) =
+    ((deed_of command).reads_back ≡ false) × Tells e ((deed_of command).told plan history) (has_any (alarms plan history)) before after told
 TellsFirst e command plan history before after (Over (Untold fault)) = ((deed_of command).reads_back ≡ true) × (fault ≡ Memory) × (after ≡ before)
 TellsFirst e command plan history before after (Over (Stopped fault)) = ⊥
 TellsFirst e command plan history before after (Over (Unmade fault)) = ⊥
@@ -71,7 +72,8 @@ TellsFirst e command plan history before after (Open preface) = ((deed_of comman
 
 -- how far the steps were played in a world that was made; where its journals are to be told, nothing is told yet
 abbrev pub ComesIn : {D K J B : Type 0} → Senses D K J B → Play → List Step → Seen D J B → Seen D J B → K → K → Course → Type 0
-ComesIn e command steps first now before after (Over (Told told)) = IsPlayed e command steps first now before after told
+ComesIn e command steps first now before after (Over (Told told)) =
+    ((deed_of command).reads_back ≡ false) × IsPlayed e command steps first now before after told
 ComesIn e command steps first now before after (Over (Untold fault)) =
     ((deed_of command).reads_back ≡ true) × (fault ≡ Memory) × (after ≡ before) × IsPlayed e command steps first now before after (Err writing.Memory)
 ComesIn e command steps first now before after (Over (Stopped fault)) = IsStopped e steps first now before after fault

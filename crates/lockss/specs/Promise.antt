@@ -4,6 +4,7 @@ use Rattle.lks_alarm.specs.Bells.{left_of, seen}
 use Rattle.lks_base.specs.Checking.{plan_fault}
 use Rattle.lks_base.specs.declared.events.Event.{Event}
 use Rattle.lks_base.specs.declared.events.PeerStep.{PeerStep}
+use Rattle.lks_base.specs.declared.plans.Plan.{Plan}
 use Rattle.lks_command.specs.declared.commands.Command.{Command}
 use Rattle.lks_command.specs.declared.commands.Command.TheVariants.{Play, Evidence}
 use Rattle.lks_evidence.specs.Holding.{IsYes, SetHolds}
@@ -11,6 +12,7 @@ use Rattle.lks_evidence.specs.Rules.{journals_on}
 use Rattle.lks_evidence.specs.Search.{finding}
 use Rattle.lks_evidence.specs.declared.findings.Shelf.{Shelf}
 use Rattle.lks_gather.specs.Sets.{said_by, set_of}
+use Rattle.lks_gather.specs.Worlds.{books_of}
 use Rattle.lks_gather.specs.declared.gathered.Gathered.{Gathered}
 use Rattle.lks_law.specs.Alarms.{alarms}
 use Rattle.lks_law.specs.Histories.{IsHistory}
@@ -75,6 +77,10 @@ Writes took failed text alarmed sink after (Err stop) =
 abbrev pub Tells : {D K J B : Type 0} → Senses D K J B → List ℕ → Bool → K → K → Result Bool WriteStop → Type 0
 Tells e = Writes e.taken e.failed
 
+-- a text reads as this plan and the journals of its honest peers in this history
+abbrev pub ReadsAgain : Plan → List Event → List ℕ → Type 0
+ReadsAgain plan history text = set_of text ≡ Ok (record { plan = plan; set = books_of (world plan history).peers })
+
 module _ {D K J B : Type 0} (e : Senses D K J B) (c : Deed) (s : Script) (before after : Devices D K J B) where
   -- The plan breaks no rule, and what happened is a history of it and safe. A disk that isn't an honest peer's is as it was; one that
   -- is blamed has failed. Each honest peer's counted the fuses that burned there and the cuts of its power. The judge is the same, and heard what the history asks, and what the step asks that was begun, if one was.
@@ -131,10 +137,11 @@ module _ {D K J B : Type 0} (e : Senses D K J B) (c : Deed) (s : Script) (before
     pub power : map (power_of e.face) after.disks ≡ map (power_of e.face) before.disks
     pub same : after ≡ record before { disks = after.disks }
 
-  -- Where the command reads the disks back, a fault may come then: all was played, and nothing was written. Else no call is made of
-  -- them after the last line.
+  -- Where the command reads the disks back, what is told reads as the journals on them; a fault may come then: all was played, and
+  -- nothing was written. Else no call is made of them after the last line.
   abbrev pub PlaysTo : Played → Type 0
-  PlaysTo (Told told) = (run : Plays None) × (c.reads_back ≡ false → after.disks ≡ run.there) × Tells e (c.told s.plan run.history) (has_any (alarms s.plan run.history)) before.sink after.sink told
+  PlaysTo (Told told) =
+      (run : Plays None) × (c.reads_back ≡ false → after.disks ≡ run.there) × (c.reads_back ≡ true → ReadsAgain s.plan run.history (c.told s.plan run.history)) × Tells e (c.told s.plan run.history) (has_any (alarms s.plan run.history)) before.sink after.sink told
   PlaysTo (Untold fault) = (c.reads_back ≡ true) × Plays (Some fault) × (after.sink ≡ before.sink)
   PlaysTo (Stopped fault) = Halts fault
   PlaysTo (Unmade fault) = NeverBegins fault

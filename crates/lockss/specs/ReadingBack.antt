@@ -6,7 +6,7 @@ use Rattle.lks_base.specs.declared.plans.Plan.{Plan}
 use Rattle.lks_disk.specs.Counts.{Rose}
 use Rattle.lks_disk.specs.Face.{Face}
 use Rattle.lks_field.specs.Frames.{HoldsBodies}
-use Rattle.lks_gather.specs.Texts.{Filed, journal_text}
+use Rattle.lks_gather.specs.Texts.{AreFiles, Filed, journal_text}
 use Rattle.lks_law.specs.Alarms.{alarms}
 use Rattle.lks_print.specs.Scripts.{plan_text}
 use Rattle.lks_report.specs.Alarms.{has_any}
@@ -93,7 +93,7 @@ pub record IsPreface (plan : Plan) (history : List Event) (p : Preface) : Type 0
 abbrev pub TellsJournals : {D K : Type 0} → Face D → (K → Option (List ℕ)) → (K → ℕ) → Preface → List D → List D → K → K → Played → Type 0
 TellsJournals f taken failed p disks after sink sink_after (Told told) =
     ReadsBack f p.owners.items disks after None
-    × ((journals : List Filed) × AreOn f p.owners.items disks journals × Writes taken failed (p.text.items ++ flat_map journal_text journals) p.alarmed sink sink_after told)
+    × ((journals : List Filed) × AreOn f p.owners.items disks journals × AreFiles journals × Writes taken failed (p.text.items ++ flat_map journal_text journals) p.alarmed sink sink_after told)
 TellsJournals f taken failed p disks after sink sink_after (Untold fault) = ReadsBack f p.owners.items disks after (Some fault) × (sink_after ≡ sink)
 TellsJournals f taken failed p disks after sink sink_after (Stopped fault) = ⊥
 TellsJournals f taken failed p disks after sink sink_after (Unmade fault) = ⊥

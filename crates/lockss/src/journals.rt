@@ -4,7 +4,7 @@ ghost use Rattle.std.specs.Prelude.{◌≡◌, ◌≤◌, ◌<◌, ◌≢◌, �
 ghost use Rattle.std.specs.List.{flat_map, insert};
 ghost use Rattle.lks_disk.specs.Counts.{Rose};
 ghost use Rattle.lks_field.specs.Frames.{HoldsBodies, AreBodies};
-ghost use Rattle.lks_gather.specs.Texts.{Filed as Written, journal_text};
+ghost use Rattle.lks_gather.specs.Texts.{AreFiles, Filed as Written, journal_text};
 ghost use Rattle.lks_journal.specs.Faults.{IsOfDisk};
 ghost use Rattle.lks_print.specs.Scripts.{plan_text};
 ghost use Rattle.lks_report.specs.Alarms.{is_alarmed};
@@ -151,7 +151,7 @@ fn put_each<D: CrashDisk + Drop>(
     disks: &mut Vec<D>,
 ) -> Result<(), WorldFault>
     requires can { CanRead D.face owners.now disks.old.items }
-    ensures lines { OnOk result ((journals : List Written) × AreOn D.face owners.now disks.old.items journals × (text.new.items ≡ text.old.items ++ flat_map journal_text journals)) }
+    ensures lines { OnOk result ((journals : List Written) × AreOn D.face owners.now disks.old.items journals × AreFiles journals × (text.new.items ≡ text.old.items ++ flat_map journal_text journals)) }
     ensures disks { ReadsBack D.face owners.now disks.old.items disks.new.items (fault_in result) }
 {
     let journals = read_each(alloc, owners, disks)?;

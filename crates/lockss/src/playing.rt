@@ -3,6 +3,7 @@
 ghost use Rattle.std.specs.Prelude.{◌≡◌, ◌≤◌, ◌++◌, ℕ, List, true, false, Some, None, IfErr, OnOk, OnErr, IsErrOf};
 ghost use Rattle.lks_base.specs.Checking.{plan_fault};
 ghost use Rattle.lks_base.specs.declared.events.Event.{Event};
+ghost use Rattle.lks_gather.specs.Texts.{IsSaidPlan};
 ghost use Rattle.lks_law.specs.Alarms.{alarms};
 ghost use Rattle.lks_law.specs.Entries.{entries};
 ghost use Rattle.lks_outside.specs.Counts.{Rose};
@@ -196,6 +197,7 @@ pub fn play<R: Wait, K: Sink, D: CrashDisk + Drop, J: EffortJudge, B: Bell>(
 ) -> Played
     requires good { plan_fault script.plan ≡ None }
     requires legal { are_steps_of script.plan script.steps ≡ true }
+    requires said { (deed_of command).reads_back ≡ true → IsSaidPlan script.plan }
     requires given { AreGiven (senses D.face (ears J.heard J.verdict B.rung B.limit) K.taken K.faults) (devices disks.old.items sink.old judge.old bells.old.items) }
     ensures plays { PlaysTo (senses D.face (ears J.heard J.verdict B.rung B.limit) K.taken K.faults) (deed_of command) script (devices disks.old.items sink.old judge.old bells.old.items) (devices disks.new.items sink.new judge.new bells.new.items) result }
     ensures count { K.faults sink.old ≤ K.faults sink.new }

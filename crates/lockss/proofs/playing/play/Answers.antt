@@ -38,7 +38,7 @@ returns-clause-plays g c =
     played_as e c.args.command c.args.script before mid c.in-Ok-new.world c.play_in-course.new.world c.as_slice.result.now c.in-Some.asked c.replace-hung.result.items c.replace-handed.result.items
     c.requires.good c.requires.given (sym c.take.ensures.value ∙ c.in-Some.is) (ap (λ v. v.items) c.replace-hung.ensures.value) (ap (λ v. v.items) c.replace-handed.ensures.value) c.in-Ok-new.ensures.begins c.as_slice.ensures c.play_in-course.ensures.plan
     (c.hand_back-2.ensures.disks ∙ c.into_parts.ensures.disks) (c.hand_back-2.ensures.judge ∙ ap Some c.into_parts.ensures.watched.0) (c.hand_back-2.ensures.bells ∙ c.into_parts.ensures.watched.1)
-    c.in-Ok-new.ensures.disks c.in-Ok-new.ensures.power c.into_parts.ensures.happened c.into_parts.ensures.holds after refl refl c.play_in-course.result c.play_in-course.ensures.comes c.go_on.result c.go_on.ensures.goes
+    c.in-Ok-new.ensures.disks c.in-Ok-new.ensures.power c.into_parts.ensures.happened c.into_parts.ensures.holds after refl refl c.requires.said c.play_in-course.result c.play_in-course.ensures.comes c.go_on.result c.go_on.ensures.goes
 
 pub returns-in_default-clause-plays : goal.returns-in_default-clause-plays
 returns-in_default-clause-plays g c =
