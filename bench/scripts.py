@@ -6,8 +6,12 @@ small N  N polls of eight voters, one after another, on one block of one byte: 3
 hash N   N polls of three voters, one after another, on 128 blocks of 16 KiB
 wide N   32 honest peers with 512 blocks of 128 bytes, one block of two of them damaged: N rounds in which each of them
          opens a poll of eight inner voters and everything due is done, as far as 4,096 events go
+together N
+         N honest peers on 128 blocks of 16 KiB, each of which opens a poll whose voters are all others; the votes of all
+         polls are hashed in one step, and the tallies of all in another
 """
 
+import argparse
 import sys
 
 
@@ -49,22 +53,32 @@ def small(count):
     return polls(count, 8, ["41"])
 
 
+def large_blocks():
+    return [f"{block:02x}*16384" for block in range(128)]
+
+
 def large(count):
-    return polls(count, 3, [f"{block:02x}*16384" for block in range(128)])
+    return polls(count, 3, large_blocks())
 
 
-def wide(rounds):
-    peers = range(1, 33)
+def honest(peers, rules, blocks):
+    """Honest peers that all know one another and hold these blocks."""
     yield "lockss 1\n"
-    yield "rules inner 8 quorum 5 minority 2 outer 2 repairs 4 pace 0 refractory 0 overdue 1000000 unknown 100 debt 100 churn 1\n"
-    yield "au 1 512\n"
+    yield f"rules {rules} pace 0 refractory 0 overdue 1000000 unknown 100 debt 100 churn 1\n"
+    yield f"au 1 {len(blocks)}\n"
     for peer in peers:
         yield f"peer {peer} honest {peer:02x} 01\n"
     for peer in peers:
         yield f"refs {peer} {' '.join(str(other) for other in peers if other != peer)}\n"
-    yield f"copy 1 1 {','.join(f'{block % 256:02x}*128' for block in range(512))}\n"
+    yield f"copy 1 1 {','.join(blocks)}\n"
     for peer in peers[1:]:
         yield f"copy {peer} 1 like 1\n"
+
+
+def wide(rounds):
+    peers = range(1, 33)
+    blocks = [f"{block % 256:02x}*128" for block in range(512)]
+    yield from honest(peers, "inner 8 quorum 5 minority 2 outer 2 repairs 4", blocks)
     for peer in peers[15::16]:
         yield f"damage {peer} 1 {peer * 8} ff*128\n"
     for _ in range(rounds):
@@ -72,8 +86,20 @@ def wide(rounds):
             yield f"open {peer} 1\nfinish\n"
 
 
-FAMILIES = {"mend": mend, "small": small, "hash": large, "wide": wide}
+def together(count):
+    peers = range(1, count + 1)
+    yield from honest(peers, f"inner {count - 1} quorum 3 minority 1 outer 0 repairs 4", large_blocks())
+    yield from (f"open {peer} 1\n" for peer in peers)
+    yield "settle\n"
+    yield from (f"shut {peer} 1\n" for peer in peers)
+    yield "settle\n"
+
+
+FAMILIES = {"mend": mend, "small": small, "hash": large, "wide": wide, "together": together}
 
 if __name__ == "__main__":
-    family, size = sys.argv[1:]
-    sys.stdout.writelines(FAMILIES[family](int(size)))
+    parser = argparse.ArgumentParser(description=__doc__, formatter_class=argparse.RawDescriptionHelpFormatter)
+    parser.add_argument("family", choices=FAMILIES)
+    parser.add_argument("size", type=int)
+    asked = parser.parse_args()
+    sys.stdout.writelines(FAMILIES[asked.family](asked.size))
