@@ -1,9 +1,8 @@
 //! What peer 2 sends to peer 1 about poll 7, as the input of peer 1.
 
-ghost use Rattle.std.specs.Prelude.{◌≡◌, ◌≤◌, IfOk, IfSome, length, [], ◌∷◌};
+ghost use Rattle.std.specs.Prelude.{◌≡◌, ◌≤◌, IfOk, IfSome, length, []};
 ghost use Rattle.lks_effort.specs.Verdicts.{first_byte};
 ghost use Rattle.lks_law.specs.Facts.{IsHeard};
-ghost use Rattle.lks_message.specs.Spelling.{IsWithin};
 
 use lks_base::{Bytes, HashKind, Input, Judged, Message, OutOfMemory, PeerId, Seq};
 use lks_effort::{EffortJudge, FirstByteJudge, Question};

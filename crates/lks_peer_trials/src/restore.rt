@@ -1,7 +1,7 @@
 //! Peer 1 restored from a journal whose openings lack their numbers, as journals from before any could be tuned do, and from one
 //! that has them: it holds the blocks `41` and `42` of AU 1, polls 2, 3 and 4 on it, and has committed to vote in poll 1 of 5.
 
-ghost use Rattle.std.specs.Prelude.{◌≡◌, ◌≤◌, None, IfOk, IsSome, length};
+ghost use Rattle.std.specs.Prelude.{◌≡◌, None, IfOk, IsSome};
 ghost use Rattle.lks_base.specs.Checking.{plan_fault};
 ghost use Rattle.lks_law.specs.Facts.{IsHeard};
 ghost use Rattle.lks_law.specs.World.{honest_peer};

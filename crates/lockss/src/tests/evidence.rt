@@ -249,10 +249,7 @@ fn each_bit_turned(rt: HostRuntime) -> Result<(), Fail> {
             let bytes = with_turned(alloc, &text, at, bit)?;
             let (status, _line) = found(alloc, &rt, &bytes)?;
             assert_eq!(rt; status, examined(alloc, &bytes)?, "{at} {bit}");
-            assert!(rt;
-                status != Done || at < block || at >= block + 2,
-                "{at} {bit}"
-            );
+            assert!(rt; status != Done || at < block || at >= behind, "{at} {bit}");
         }
     }
     Ok(())
