@@ -1,3 +1,4 @@
+pub mod Batching
 pub mod Closing
 pub mod Gathering
 pub mod Holding

@@ -1,3 +1,4 @@
+pub mod Batches
 pub mod Entries
 pub mod Ends
 pub mod Seats

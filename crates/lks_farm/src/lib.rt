@@ -17,6 +17,7 @@
 //! ```
 #![tactic(auto)]
 
+mod batches;
 mod entries;
 mod farms;
 mod jobs;
@@ -24,6 +25,7 @@ mod queues;
 mod rule;
 mod seats;
 
+pub use batches::{SHARED_BYTES, hash_batch, hash_job};
 pub use farms::{Farm, FarmEnd, FarmSet};
 pub use jobs::{FarmDone, FarmJob, JobNumber};
 pub use seats::Seat;

@@ -5,6 +5,7 @@ use Rattle.lks_base.specs.declared.records.Record.{Record}
 use Rattle.lks_disk.specs.Counts.{Rose, raised}
 use Rattle.lks_disk.specs.Face.{Face}
 use Rattle.lks_host.specs.Bodies.{bodies_of}
+use Rattle.lks_host.specs.Faults.{IsFresh}
 use Rattle.lks_host.specs.Hosted.{StandsFor}
 use Rattle.lks_journal.specs.Adding.{HoldsEither}
 use Rattle.lks_host.specs.declared.faults.HostFault.{HostFault}
@@ -50,3 +51,4 @@ pub record IsBack {D T : Type 0} (f : Face D) (old new : Host D) (result : Resul
   pub failed : IsErrOf result Failed → Rose (f.faults old.journal.disk) (f.faults new.journal.disk)
   pub ok : OnOk result (f.faults new.journal.disk ≡ f.faults old.journal.disk)
   pub no_cut : IsErrOf result Cut → ⊥
+  pub fresh : IsFresh result

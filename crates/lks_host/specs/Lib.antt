@@ -7,3 +7,4 @@ pub mod Hosted
 pub mod Journals
 pub mod Recovering
 pub mod Stepping
+pub mod Working

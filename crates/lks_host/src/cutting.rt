@@ -79,5 +79,6 @@ pub fn cut_step<R: Wait, D: CrashDisk>(
         }
         Err(HostFault::Failed) => Err(HostFault::Failed),
         Err(HostFault::Memory) => Err(HostFault::Memory),
+        Err(HostFault::Stale { .. }) => unreachable!(),
     }
 }

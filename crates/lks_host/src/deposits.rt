@@ -6,7 +6,7 @@ ghost use Rattle.lks_base.specs.declared.records.Record.{Record as Recorded};
 ghost use Rattle.lks_host.specs.Adopting.{LeavesFront};
 ghost use Rattle.lks_host.specs.Behaving.{Behaves};
 ghost use Rattle.lks_host.specs.Bodies.{bodies_of, AreRead};
-ghost use Rattle.lks_host.specs.Faults.{as_journal};
+ghost use Rattle.lks_host.specs.Faults.{as_journal, IsFresh};
 ghost use Rattle.lks_journal.specs.Settled.{IsSettled};
 ghost use Rattle.lks_law.specs.Batches.{alone};
 ghost use Rattle.lks_record.specs.Spelling.{IsWithin};
@@ -37,6 +37,7 @@ pub fn write_each<D: Disk>(
     ensures end { OnOk result (journal.new.end ≤ journal.old.end + length records.now * 8389645) }
     ensures idle { records.now ≡ [] → OnOk result (journal.new ≡ journal.old) }
     ensures behaves { Behaves D.face journal.old.disk journal.new.disk (as_journal result) }
+    ensures fresh { IsFresh result }
 {
     for item in records {
         write(alloc, journal, slice::from_ref(item))?;

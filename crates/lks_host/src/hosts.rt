@@ -1,14 +1,14 @@
 //! Hosts.
 
 ghost use Rattle.std.specs.List.{filter_map};
-ghost use Rattle.std.specs.Prelude.{◌≡◌, ◌≤◌, ◌+◌, ◌-◌, ◌*◌, [], ℕ, List, length, true, false, Some, None, Err, IfOk, OnErr, IsSome, IsErrOf, map, option_map, slice_get};
+ghost use Rattle.std.specs.Prelude.{◌≡◌, ◌≤◌, ◌+◌, ◌-◌, ◌*◌, [], ℕ, List, length, true, false, Some, None, Err, IfErr, IfOk, IfSome, OnErr, IsSome, is_some, IsErrOf, map, option_map, slice_get};
 ghost use Rattle.lks_base.specs.Checking.{plan_fault};
 ghost use Rattle.lks_base.specs.declared.records.Record.{Record as Recorded};
 ghost use Rattle.lks_disk.specs.Face.{HasFuse, HasLost};
 ghost use Rattle.lks_host.specs.Behaving.{Behaves};
 ghost use Rattle.lks_base.specs.declared.plans.PeerPlan.{PeerPlan as Planned};
 ghost use Rattle.lks_host.specs.Bodies.{bodies_of};
-ghost use Rattle.lks_host.specs.Faults.{as_journal, is_refused};
+ghost use Rattle.lks_host.specs.Faults.{as_journal, is_refused, IsFresh};
 ghost use Rattle.lks_journal.specs.Adding.{KeepsOrAdds};
 ghost use Rattle.lks_law.specs.Batches.{with_batch, alone};
 ghost use Rattle.lks_law.specs.Entries.{note_with};
@@ -16,8 +16,12 @@ ghost use Rattle.lks_law.specs.Facts.{IsHeard};
 ghost use Rattle.lks_law.specs.Table.{react_on};
 ghost use Rattle.lks_law.specs.Turning.{ready_on, turns_on, has_inner_in};
 ghost use Rattle.lks_law.specs.World.{deposits, station_of, standing_of, honest_peer};
+ghost use Rattle.lks_blocks.specs.Block.{AllOf};
+ghost use Rattle.lks_peer.specs.Accepting.{input_of, is_ready_for, tag_for, IsJobOf, StaysTold};
 ghost use Rattle.lks_peer.specs.Knows.{knowing_of};
+ghost use Rattle.lks_work.specs.Names.{name_of, refs_of, refs_done, tag_done};
 
+use crate::answering::{answer, work_of};
 use crate::deposits::write_each;
 use crate::faults::HostFault;
 use crate::outcomes::Recovered;
@@ -27,8 +31,10 @@ use lks_base::{Input, Note, OutOfMemory, PeerId, PeerStep, Plan, Reaction, Recor
 use lks_blocks::BlockPool;
 use lks_disk::{CrashDisk, Disk};
 use lks_journal::Journal;
-use lks_peer::Peer;
+use lks_peer::{AcceptFault, Peer};
 use lks_sort::{begin_peer, missing_deposits};
+use lks_versions::PinTag;
+use lks_work::{Job, JobDone, JobName};
 use std::alloc::Global;
 use std::sync::Wait;
 
@@ -50,6 +56,7 @@ impl<D: Disk> Host<D> {
     ghost use Rattle.lks_journal.specs.Settled.{IsSettled};
     ghost use Rattle.lks_sort.specs.Owners.{Owns};
     ghost use Rattle.lks_host.specs.Stepping.{CanStep, Stepped, IsWritten};
+    ghost use Rattle.lks_host.specs.Working.{Expected, IsResultOf, IsSamePeer, MayBeStale};
 
     /// The honest peer `id` of a good plan, on an empty disk: its deposits are there, one batch each. Nothing is written
     /// before the peer is made.
@@ -72,6 +79,7 @@ impl<D: Disk> Host<D> {
         ensures whole { IfOk result (λ host. host.broken ≡ false) }
         ensures end { IfOk result (λ host. host.journal.end ≤ 33558580) }
         ensures behaves { Behaves D.face disk (disk_hosted result) (as_journal (answer_of result)) }
+        ensures fresh { IsFresh (answer_of result) }
     {
         Host::found(alloc, begin_peer(alloc, rt, pool, plan, id), disk)
     }
@@ -92,6 +100,7 @@ impl<D: Disk> Host<D> {
         ensures whole { IfOk result (λ host. host.broken ≡ false) }
         ensures end { IfOk result (λ host. host.journal.end ≤ 33558580) }
         ensures behaves { Behaves D.face disk (disk_hosted result) (as_journal (answer_of result)) }
+        ensures fresh { IsFresh (answer_of result) }
     {
         let (peer, list) = match begun {
             Ok(begun) => begun,
@@ -121,6 +130,7 @@ impl<D: Disk> Host<D> {
         ensures whole { IfOk result (λ host. host.broken ≡ false) }
         ensures end { IfOk result (λ host. host.journal.end ≤ journal.end + length records.now * 8389645) }
         ensures behaves { Behaves D.face journal.disk (disk_hosted result) (as_journal (answer_of result)) }
+        ensures fresh { IsFresh (answer_of result) }
     {
         let mut journal = journal;
         match write_each(alloc, &mut journal, records) {
@@ -159,10 +169,53 @@ impl<D: Disk> Host<D> {
         ensures whole { IfOk result (λ host. host.broken ≡ false) }
         ensures end { IfOk result (λ host. host.journal.end ≤ journal.end + 33558580) }
         ensures behaves { Behaves D.face journal.disk (disk_hosted result) (as_journal (answer_of result)) }
+        ensures fresh { IsFresh (answer_of result) }
     {
         match missing_deposits(alloc, plan, id, list.len()) {
             Ok(missing) => Host::over(alloc, peer, journal, &missing),
             Err(_) => Err((journal.into_disk(), HostFault::Memory)),
+        }
+    }
+
+    /// What the peer adds to its journal and sends at this tick: for the input, or for a result of such work, if there is one. It
+    /// is handed out once the records are on the disk, as one batch.
+    fn act<R: Wait>(
+        &mut self,
+        rt: &R,
+        pool: &BlockPool,
+        tick: u32,
+        input: &Input,
+        done: Option<JobDone>,
+    ) -> Result<Reaction, HostFault>
+        requires can { CanStep D.face pool.now self.old }
+        requires heard { IsHeard input.now }
+        requires done { IfSome done (IsResultOf pool.now input.now) }
+        ensures stepped { Stepped D.face self.old self.new (react_on self.old.peer.own self.old.peer.state tick input.now) result }
+        ensures stands { D.face.told self.old.journal.disk → (batches : List (List Recorded)) → StandsFor D.face self.old batches →
+            IfOk result (λ r. StandsFor D.face self.new (with_batch batches r.records)) }
+        ensures adds { D.face.told self.old.journal.disk → (batches : List (List Recorded)) → StandsFor D.face self.old batches →
+            KeepsOrAdds D.face self.old.journal self.new.journal (bodies_of batches)
+            (bodies_of (with_batch batches (react_on self.old.peer.own self.old.peer.state tick input.now).records)) (as_journal result) }
+        ensures read { IsFresh result → (IsErrOf result HostFault.Memory → ⊥) → IsWritten self.old.peer.own self.old.peer.state (react_on self.old.peer.own self.old.peer.state tick input.now).records }
+        ensures expected { IfOk result (λ _. Expected self.old.peer self.new.peer done) }
+        ensures stale { IfErr result (MayBeStale self.old self.new done) }
+    {
+        let reaction = match answer(rt, pool, &mut self.peer, tick, input, done) {
+            Ok(reaction) => reaction,
+            Err(AcceptFault::Stale { expected, found }) => {
+                return Err(HostFault::Stale { expected, found });
+            }
+            Err(AcceptFault::Memory) => {
+                self.broken = true;
+                return Err(HostFault::Memory);
+            }
+        };
+        match keep(self.alloc, &mut self.journal, reaction.records.as_slice()) {
+            Ok(()) => Ok(reaction),
+            Err(fault) => {
+                self.broken = true;
+                Err(fault)
+            }
         }
     }
 
@@ -187,21 +240,60 @@ impl<D: Disk> Host<D> {
             KeepsOrAdds D.face self.old.journal self.new.journal (bodies_of batches)
             (bodies_of (with_batch batches (react_on self.old.peer.own self.old.peer.state tick input.now).records)) (as_journal result) }
         ensures read { (IsErrOf result HostFault.Memory → ⊥) → IsWritten self.old.peer.own self.old.peer.state (react_on self.old.peer.own self.old.peer.state tick input.now).records }
+        ensures fresh { IsFresh result }
     {
-        let answer = match self.peer.step(rt, pool, tick, input) {
-            Ok(answer) => answer,
-            Err(_) => {
-                self.broken = true;
-                return Err(HostFault::Memory);
-            }
-        };
-        match keep(self.alloc, &mut self.journal, answer.records.as_slice()) {
-            Ok(()) => Ok(answer),
-            Err(fault) => {
-                self.broken = true;
-                Err(fault)
-            }
-        }
+        self.act(rt, pool, tick, input, None)
+    }
+
+    /// What the peer adds to its journal and sends at this tick for work that was hashed elsewhere: what `step` does for this
+    /// work. `Stale` exactly where the peer isn't ready for such work, or is so for another version, and nothing changes then.
+    /// After any other refusal the host is broken.
+    pub fn accept<R: Wait>(
+        &mut self,
+        rt: &R,
+        pool: &BlockPool,
+        tick: u32,
+        done: JobDone,
+    ) -> Result<Reaction, HostFault>
+        requires can { CanStep D.face pool.now self.old }
+        requires of { AllOf pool.now (refs_done done) }
+        ensures stepped { Stepped D.face self.old self.new (react_on self.old.peer.own self.old.peer.state tick (input_of done)) result }
+        ensures stands { D.face.told self.old.journal.disk → (batches : List (List Recorded)) → StandsFor D.face self.old batches →
+            IfOk result (λ r. StandsFor D.face self.new (with_batch batches r.records)) }
+
+        // As after a fault of `step`. A result that is stale leaves the journal as it is.
+        ensures adds { D.face.told self.old.journal.disk → (batches : List (List Recorded)) → StandsFor D.face self.old batches →
+            KeepsOrAdds D.face self.old.journal self.new.journal (bodies_of batches)
+            (bodies_of (with_batch batches (react_on self.old.peer.own self.old.peer.state tick (input_of done)).records)) (as_journal result) }
+        ensures read { IsFresh result → (IsErrOf result HostFault.Memory → ⊥) → IsWritten self.old.peer.own self.old.peer.state (react_on self.old.peer.own self.old.peer.state tick (input_of done)).records }
+        ensures expected { IfOk result (λ _. tag_for self.old.peer.state self.new.peer.places done ≡ Some (tag_done done)) }
+        ensures stale { IfErr result (MayBeStale self.old self.new (Some done)) }
+    {
+        let input = work_of(&done);
+        self.act(rt, pool, tick, &input, Some(done))
+    }
+
+    /// The work of this name as a job, to be hashed elsewhere. `None` exactly where the peer isn't ready for it.
+    pub fn job(&mut self, name: &JobName) -> Result<Option<Job>, OutOfMemory>
+        ensures ready { IfOk result (λ o. is_some o ≡ is_ready_for self.old.peer.own self.old.peer.state name.now) }
+        ensures name { IfOk result (λ o. IfSome o (λ j. name_of j ≡ name.now)) }
+        ensures job { IfOk result (λ o. IfSome o (IsJobOf self.old.peer.own self.old.peer.state self.old.peer.kept self.new.peer.places name.now)) }
+        ensures of { IfOk result (λ o. IfSome o (λ j. AllOf self.old.peer.pool (refs_of j))) }
+        ensures same { self.new ≡ record self.old { peer = self.new.peer } }
+        ensures peer { IsSamePeer self.old.peer self.new.peer }
+        ensures told { StaysTold self.old.peer.places self.new.peer.places }
+    {
+        self.peer.job(name)
+    }
+
+    /// Over which version such a result would be taken now: none where the peer isn't ready for this work.
+    pub fn expected(&mut self, done: &JobDone) -> Result<Option<PinTag>, OutOfMemory>
+        ensures tag { IfOk result (λ tag. tag ≡ tag_for self.old.peer.state self.new.peer.places done.now) }
+        ensures same { self.new ≡ record self.old { peer = self.new.peer } }
+        ensures peer { IsSamePeer self.old.peer self.new.peer }
+        ensures told { StaysTold self.old.peer.places self.new.peer.places }
+    {
+        self.peer.expected(done)
     }
 
     /// The `k`-th of the steps for which the peer is ready, counted from 0 in order of its running polls.
@@ -312,6 +404,7 @@ impl<D: CrashDisk> Host<D> {
         ensures pool { self.new.peer.pool ≡ self.old.peer.pool }
         ensures cut { IsErrOf result HostFault.Cut → ⊥ }
         ensures behaves { Behaves D.face self.old.journal.disk self.new.journal.disk (as_journal result) }
+        ensures fresh { IsFresh result }
     {
         self.broken = true;
         let bodies = match self.journal.recover() {

@@ -4,6 +4,7 @@
 //! reaction is handed out. A reaction without records makes no call of the disk.
 #![tactic(auto)]
 
+mod answering;
 mod cutting;
 mod deposits;
 mod faults;

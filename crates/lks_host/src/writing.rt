@@ -1,10 +1,10 @@
 //! Batches onto a journal.
 
-ghost use Rattle.std.specs.Prelude.{◌≡◌, ◌+◌, ◌≤◌, ◌++◌, ◌∷◌, [], ℕ, List, Err, length, All, IsErrOf};
+ghost use Rattle.std.specs.Prelude.{◌≡◌, ◌+◌, ◌≤◌, ◌++◌, ◌∷◌, [], ℕ, List, true, Err, length, All, IsErrOf};
 ghost use Rattle.lks_base.specs.declared.records.Record.{Record as Recorded};
 ghost use Rattle.lks_host.specs.Behaving.{Behaves, CallsFor};
 ghost use Rattle.lks_host.specs.Bodies.{bodies_of, ReadBack};
-ghost use Rattle.lks_host.specs.Faults.{told_by, as_journal};
+ghost use Rattle.lks_host.specs.Faults.{told_by, as_journal, breaks, IsFresh};
 ghost use Rattle.lks_sort.specs.Fits.{FitsBatch, IsSpelled};
 ghost use Rattle.lks_journal.specs.Adding.{KeepsOrAdds};
 ghost use Rattle.lks_journal.specs.Called.{Called};
@@ -24,7 +24,8 @@ use std::alloc::Global;
 /// What a host says of a journal that neither is full nor was damaged.
 pub fn refusal(fault: JournalFault) -> HostFault
     requires { IsOfDisk {T = Unit {0}} (Err fault) }
-    ensures { told_by result ≡ fault }
+    ensures told { told_by result ≡ fault }
+    ensures breaks { breaks result ≡ true }
 {
     match fault {
         JournalFault::Failed => HostFault::Failed,
@@ -42,6 +43,7 @@ fn append<D: Disk>(journal: &mut Journal<D>, body: &[u8]) -> Result<(), HostFaul
         KeepsOrAdds D.face journal.old journal.new bodies (bodies ++ body.now ∷ []) (as_journal result) }
     ensures end { journal.new.end ≤ journal.old.end + 5 + length body.now }
     ensures called { Called D.face 4 journal.old.disk journal.new.disk (as_journal result) }
+    ensures fresh { IsFresh result }
 {
     match journal.append(body) {
         Ok(()) => Ok(()),
@@ -65,6 +67,7 @@ pub fn write<D: Disk>(
     ensures read { (IsErrOf result HostFault.Memory → ⊥) → IsSpelled records.now }
     ensures end { journal.new.end ≤ journal.old.end + 5 + most_batch_bytes records.now }
     ensures called { Called D.face 4 journal.old.disk journal.new.disk (as_journal result) }
+    ensures fresh { IsFresh result }
 {
     let body = encode_batch(alloc, records)?;
     append(journal, &body)
@@ -85,6 +88,7 @@ pub fn keep<D: Disk>(
     ensures end { journal.new.end ≤ journal.old.end + 32768 }
     ensures calls { CallsFor D.face journal.old journal.new records.now (as_journal result) }
     ensures behaves { Behaves D.face journal.old.disk journal.new.disk (as_journal result) }
+    ensures fresh { IsFresh result }
 {
     if records.is_empty() {
         return Ok(());

@@ -40,7 +40,7 @@ use lks_blocks::{BlockPool, PoolMark};
 use lks_poller::PollSession;
 use lks_refs::References;
 use lks_sessions::Sessions;
-use lks_versions::Place;
+use lks_versions::{PinTag, Place};
 use lks_work::{Job, JobDone, JobName};
 use std::alloc::Global;
 use std::marker::Model;
@@ -327,6 +327,16 @@ impl Peer {
             self.places.as_slice(),
             name,
         )
+    }
+
+    /// Over which version such a result would be taken now: none where the peer isn't ready for this work.
+    pub fn expected(&mut self, done: &JobDone) -> Result<Option<PinTag>, OutOfMemory>
+        ensures tag { IfOk result (λ tag. tag ≡ tag_for self.old.state self.new.places done.now) }
+        ensures same { self.new ≡ record self.old { places = self.new.places } }
+        ensures told { StaysTold self.old.places self.new.places }
+    {
+        self.tell()?;
+        Ok(jobs::tag_for(&self.known, self.places.as_slice(), done))
     }
 
     fn take<R: Wait>(

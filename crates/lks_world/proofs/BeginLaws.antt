@@ -50,6 +50,7 @@ pub blamed_is : (peer k : ℕ) (fault : HostFault) → blamed peer fault ≡ Dis
 blamed_is peer k host.Failed is = (cc, refl)
 blamed_is peer k host.Cut is = absurd cc
 blamed_is peer k host.Memory is = absurd cc
+blamed_is peer k (host.Stale expected found) is = absurd cc
 
 -- What a host begins with is on its disk.
 

@@ -1,5 +1,5 @@
 -- The disks of a world that was to begin, where a host was refused.
-use Rattle.std.proofs.Common.{◌≡◌, ◌≤◌, ◌<◌, ◌+◌, ◌∙◌, ap, sym, subst, ℕ, zero, suc, Bool, true, false, cond, List, [], ◌∷◌, ◌++◌, length, drop, refl, arith, add-one}
+use Rattle.std.proofs.Common.{◌≡◌, ◌<◌, ◌∙◌, ap, sym, subst, ℕ, zero, suc, Bool, true, false, cond, List, [], ◌∷◌, ◌++◌, length, drop, refl, arith, add-one}
 use Rattle.std.specs.Prelude.{Option, Some, None, filter, map, option_map, reverse, slice_get}
 use Rattle.std.specs.Option.{option_map_or}
 use Rattle.std.proofs.lemmas.List.{length-map, map-append}
@@ -7,7 +7,6 @@ use Rattle.std.proofs.lemmas.List.Elements.{filter-append}
 use Rattle.std.proofs.lemmas.Option.{slice_get-map}
 use Rattle.lks_base.specs.declared.plans.PeerPlan.{PeerPlan}
 use Rattle.lks_base.specs.declared.plans.Plan.{Plan}
-use Rattle.lks_base.specs.declared.records.Record.{Record}
 use Rattle.lks_disk.specs.Face.{Face}
 use Rattle.lks_field.specs.Frames.{HoldsBodies}
 use Rattle.lks_host.proofs.Fronts.{front_none}
@@ -18,7 +17,7 @@ use Rattle.lks_law.specs.Batches.{alone, batches_at}
 use Rattle.lks_law.specs.World.{Standing, is_honest, standing_of, start}
 use Rattle.lks_world.proofs.BeginLaws.{AreMade, last_first}
 use Rattle.lks_world.proofs.CountLaws.{some_is}
-use Rattle.lks_world.proofs.SeatLaws.{corrupt_seat, honest_back, honest_seat}
+use Rattle.lks_world.proofs.SeatLaws.{corrupt_seat, honest_seat}
 use Rattle.lks_world.specs.Begun.{StopsAt}
 use Rattle.lks_world.specs.Disks.{honest_disks}
 use Rattle.lks_world.specs.Held.{AreFresh, HaveBegunUpTo, HoldsBatches}

@@ -21,7 +21,7 @@ use Rattle.lks_law.specs.World.{Deed, Standing, happens, peers_after}
 use Rattle.lks_world.proofs.HostLaws.{journal_there, nothing_more, set_where}
 use Rattle.lks_world.specs.Endings.{PeersEnd}
 use Rattle.lks_world.specs.Held.{with_next}
-use Rattle.lks_world.specs.Hosts.{GoesOn, HasFallen, HaveFallen, HaveGoneOn, journal_in, peer_in, peers_of}
+use Rattle.lks_world.specs.Hosts.{HaveFallen, HaveGoneOn, journal_in, peers_of}
 use Rattle.lks_world.specs.Seats.{hosts_of}
 use Rattle.lks_world.specs.States.{AreLeft, IsStateOf, events_in, world_in}
 use Rattle.lks_world.specs.declared.cutting.Ending.{Ending}

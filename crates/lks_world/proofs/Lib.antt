@@ -1,5 +1,6 @@
 mod Acting
 mod BeginLaws
+mod SameSeats
 pub mod BegunUpTo
 pub mod CountLaws
 mod CutActs
@@ -11,6 +12,7 @@ mod FuseLaws
 mod HeldOnce
 mod HostLaws
 mod Keeping
+mod Named
 mod NextLaws
 mod OwnSteps
 mod PowerEnds

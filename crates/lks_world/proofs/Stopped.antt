@@ -1,6 +1,6 @@
 -- What a judge and bells heard at a fault.
-use Rattle.std.proofs.Common.{◌≡◌, ◌⊎◌, ◌∙◌, inl, inr, ap, sym, subst, List, [], ◌∷◌, ◌++◌, append_assoc, refl}
-use Rattle.std.specs.Prelude.{Option, Some, None, Result, Ok, Err, OnErr, map}
+use Rattle.std.proofs.Common.{◌≡◌, ◌⊎◌, ◌∙◌, inl, inr, ap, sym, subst, List, [], ◌∷◌, ◌++◌, append_assoc}
+use Rattle.std.specs.Prelude.{Option, Some, None, Result, Ok, Err, OnErr}
 use Rattle.std.specs.Option.{option_to_list}
 use Rattle.std.proofs.lemmas.List.{append-nil}
 use Rattle.lks_base.specs.declared.events.Event.{Event}
@@ -13,9 +13,9 @@ use Rattle.lks_watch.specs.Watching.{AsksOn, Ears, Watches, WatchesBy, Watching,
 use Rattle.lks_watch.specs.declared.watches.Watch.{Watch}
 use Rattle.lks_world.proofs.Fallen.{left_still}
 use Rattle.lks_world.specs.Follows.{IsUpTo, first_step}
-use Rattle.lks_world.specs.States.{AreLeft, events_in, events_of, world_in, IsStateOf}
+use Rattle.lks_world.specs.States.{AreLeft, events_in, world_in, IsStateOf}
 use Rattle.lks_world.specs.Stopping.{HasStopped}
-use Rattle.lks_world.specs.Watched.{Stops, StopsBy, asked_next}
+use Rattle.lks_world.specs.Watched.{Stops, StopsBy}
 use Rattle.lks_world.specs.declared.states.State.{State}
 
 pub err_then : {T F : Type 0} {P : Type 0} (r : Result T F) → P → OnErr r P

@@ -4,7 +4,6 @@ use Rattle.std.specs.Prelude.{Option, Some, None, nat_lt}
 use Rattle.std.specs.Option.{option_map_or}
 use Rattle.std.proofs.lemmas.Bool.{cases_lt}
 use Rattle.std.proofs.lemmas.List.{append-nil}
-use Rattle.lks_base.specs.declared.events.Due.{Due}
 use Rattle.lks_base.specs.declared.events.Event.{Event}
 use Rattle.lks_base.specs.declared.events.Event.TheVariants as events
 use Rattle.lks_base.specs.declared.events.PeerStep.{PeerStep}
@@ -22,7 +21,7 @@ use Rattle.lks_script.specs.declared.steps.Step.TheVariants as step
 use Rattle.lks_world.proofs.Ending.{off_full}
 use Rattle.lks_world.proofs.Keeping.{kept_room}
 use Rattle.lks_world.specs.Cuts.{taker_of, step_cut, FallsShort, Cuts, CutsOff}
-use Rattle.lks_world.specs.Follows.{IsUpTo, Performs, Speaks, delivered_again, done, done_within, lost, next_event, spoken, step_in}
+use Rattle.lks_world.specs.Follows.{IsUpTo, Performs, delivered_again, done, done_within, lost, next_event, spoken, step_in}
 use Rattle.lks_world.specs.Kept.{kept}
 
 -- a history that goes on from another one

@@ -103,6 +103,7 @@ abbrev pub blamed : ℕ → HostFault → WorldFault
 blamed peer host.Failed = Disk peer
 blamed peer host.Cut = Memory
 blamed peer host.Memory = Memory
+blamed peer (host.Stale expected found) = Memory
 
 -- there is no such peer, so nobody adds its records
 pub record IsAbsent (id : ℕ) (peers : List Standing) : Type 0 where

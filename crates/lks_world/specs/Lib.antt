@@ -1,4 +1,5 @@
 pub mod Begun
+pub mod Beside
 pub mod Counts
 pub mod Cuts
 pub mod Disks

@@ -11,7 +11,7 @@ use Rattle.lks_effort.specs.declared.questions.Question.{Question}
 use Rattle.lks_law.specs.Alarms.{alarms}
 use Rattle.lks_law.specs.Questions.{question_on, questions}
 use Rattle.lks_law.specs.World.{World, world}
-use Rattle.lks_watch.specs.Watching.{Ears, AsksOn, Watching, seen_by}
+use Rattle.lks_watch.specs.Watching.{Ears, Watching, seen_by}
 use Rattle.lks_watch.specs.declared.watches.Watch.{Watch}
 
 -- a step that a peer takes of its own asks nothing

@@ -11,6 +11,8 @@ ghost use Rattle.lks_law.specs.Questions.{event_of};
 ghost use Rattle.lks_law.specs.World.{deed_of};
 ghost use Rattle.lks_watch.specs.Watching.{ears, AsksOn, WatchesBy};
 ghost use Rattle.lks_watch.specs.declared.watches.Watch.{Watch};
+ghost use Rattle.lks_farm.specs.Batches.{AreDoneOf};
+ghost use Rattle.lks_world.specs.Beside.{IsFor, IsForDue};
 ghost use Rattle.lks_world.specs.Doable.{IsDoable};
 ghost use Rattle.lks_world.specs.Kept.{kept};
 ghost use Rattle.lks_world.specs.Seats.{Counted, SeatsPower};
@@ -18,6 +20,7 @@ ghost use Rattle.lks_world.specs.Stopping.{HasStopped};
 ghost use Rattle.lks_world.specs.Watched.{StopsBy};
 ghost use Rattle.lks_world.specs.States.{IsStateOf, AreLeft, Becomes, Extends, events_in, world_in};
 
+use crate::beside::{result_for, tell};
 use crate::deeds::Deed;
 use crate::faults::WorldFault;
 use crate::other_events::{crash, forge, lose, tick};
@@ -28,8 +31,10 @@ use lks_base::{Bytes, Due, MOST_EVENTS, OutOfMemory, PeerId, PeerStep};
 use lks_disk::CrashDisk;
 use lks_effort::EffortJudge;
 use lks_watch::Watch;
+use lks_work::{Gate, JobDone};
 use std::alloc::Global;
 use std::sync::Wait;
+use std::thread::Threads;
 
 /// How many events the history has room for.
 pub fn room<D: CrashDisk>(state: &State<'_, D>) -> usize
@@ -46,11 +51,13 @@ pub fn take_step<R: Wait, D: CrashDisk, J: EffortJudge, B: Bell>(
     watch: &mut Watch<J, B>,
     s: PeerStep,
     deed: &Option<Deed>,
+    done: Option<JobDone>,
 ) -> Result<(), WorldFault>
     requires room { 0 < MOST_EVENTS - length state.old.history.items }
     requires state { (plan : Plan) × IsStateOf D.face plan state.old }
     requires deed { deed.now ≡ deed_of state.old.bag.items s }
     requires heard { IfSome deed.now (λ d. IsHeard d.input) }
+    requires done { IfSome done (IsFor state.old.pool.now s) }
     ensures becomes { (plan : Plan) → IsStateOf D.face plan state.old → MayStep plan (world_in D.face state.old) s →
         OnOk result (Becomes D.face plan (events_in state.old ++ events.Step s ∷ []) state.new) }
     ensures extends { (plan : Plan) → IsStateOf D.face plan state.old → MayStep plan (world_in D.face state.old) s →
@@ -63,21 +70,25 @@ pub fn take_step<R: Wait, D: CrashDisk, J: EffortJudge, B: Bell>(
     ensures err { OnErr result (state.new.history.items ≡ state.old.history.items) }
     ensures counted { Counted D.face state.old.seats.items state.new.seats.items result }
     ensures power { (plan : Plan) (who : List ℕ) → SeatsPower D.face plan who (events_in state.old) (events_in state.new) state.old.seats.items state.new.seats.items result }
+    ensures pool { state.new.pool.now ≡ state.old.pool.now }
 {
-    step(alloc, rt, state, watch, s, deed)?;
+    step(alloc, rt, state, watch, s, deed, done)?;
     Ok(())
 }
 
-/// Does what is due, once the judge was asked what it asks, where there is room for its event.
+/// Does what is due, once the judge was asked what it asks, where there is room for its event: by a result of its work, if there
+/// is one.
 pub fn do_due<R: Wait, D: CrashDisk, J: EffortJudge, B: Bell>(
     alloc: Global,
     rt: &R,
     state: &mut State<'_, D>,
     watch: &mut Watch<J, B>,
     due: Due,
+    done: Option<JobDone>,
 ) -> Result<(), WorldFault>
     requires room { 0 < MOST_EVENTS - length state.old.history.items }
     requires state { (plan : Plan) × IsDoable D.face J.heard plan state.old watch.old due }
+    requires done { IfSome done (IsForDue state.old.pool.now due) }
     ensures becomes { (plan : Plan) → IsDoable D.face J.heard plan state.old watch.old due →
         OnOk result (Becomes D.face plan (events_in state.old ++ event_of (J.verdict watch.old.judge) plan (events_in state.old) due ∷ []) state.new) }
     ensures watches { (plan : Plan) → IsDoable D.face J.heard plan state.old watch.old due →
@@ -89,9 +100,43 @@ pub fn do_due<R: Wait, D: CrashDisk, J: EffortJudge, B: Bell>(
     ensures err { OnErr result (state.new.history.items ≡ state.old.history.items) }
     ensures counted { Counted D.face state.old.seats.items state.new.seats.items result }
     ensures power { (plan : Plan) (who : List ℕ) → SeatsPower D.face plan who (events_in state.old) (events_in state.new) state.old.seats.items state.new.seats.items result }
+    ensures pool { state.new.pool.now ≡ state.old.pool.now }
 {
     let (s, deed) = step_of(alloc, state, watch, due)?;
-    take_step(alloc, rt, state, watch, s, &deed)
+    take_step(alloc, rt, state, watch, s, &deed, done)
+}
+
+/// Does what is due, work by its result, once all ready work that had none was hashed. Then the gate is told of it.
+pub fn do_next<R: Threads + Wait + Sync, D: CrashDisk, J: EffortJudge, B: Bell, G: Gate>(
+    alloc: Global,
+    rt: &R,
+    gate: &G,
+    state: &mut State<'_, D>,
+    watch: &mut Watch<J, B>,
+    due: Due,
+    beside: &mut Vec<JobDone>,
+    told: &mut usize,
+) -> Result<(), WorldFault>
+    requires room { 0 < MOST_EVENTS - length state.old.history.items }
+    requires state { (plan : Plan) × IsDoable D.face J.heard plan state.old watch.old due }
+    requires of { AreDoneOf state.old.pool.now beside.old.items }
+    ensures becomes { (plan : Plan) → IsDoable D.face J.heard plan state.old watch.old due →
+        OnOk result (Becomes D.face plan (events_in state.old ++ event_of (J.verdict watch.old.judge) plan (events_in state.old) due ∷ []) state.new) }
+    ensures watches { (plan : Plan) → IsDoable D.face J.heard plan state.old watch.old due →
+        OnOk result (WatchesBy (ears J.heard J.verdict B.rung B.limit) plan (events_in state.old) (events_in state.new) watch.old watch.new) }
+    ensures stops { (plan : Plan) → IsDoable D.face J.heard plan state.old watch.old due →
+        OnErr result (HasStopped D.face (ears J.heard J.verdict B.rung B.limit) plan (λ after. after ≡ events_in state.old ++ event_of (J.verdict watch.old.judge) plan (events_in state.old) due ∷ []) (events_in state.old) watch.old state.new watch.new) }
+    ensures extends { (plan : Plan) → IsDoable D.face J.heard plan state.old watch.old due →
+        Extends plan state.old.history.items state.new.history.items }
+    ensures counted { Counted D.face state.old.seats.items state.new.seats.items result }
+    ensures power { (plan : Plan) (who : List ℕ) → SeatsPower D.face plan who (events_in state.old) (events_in state.new) state.old.seats.items state.new.seats.items result }
+    ensures pool { state.new.pool.now ≡ state.old.pool.now }
+    ensures of { AreDoneOf state.old.pool.now beside.new.items }
+{
+    let done = result_for(alloc, rt, gate, state, due, beside)?;
+    do_due(alloc, rt, state, watch, due, done)?;
+    tell(gate, state.history.as_slice(), told);
+    Ok(())
 }
 
 /// The same unless the history is full.
@@ -115,7 +160,7 @@ pub fn add_due<R: Wait, D: CrashDisk, J: EffortJudge, B: Bell>(
     ensures power { (plan : Plan) (who : List ℕ) → SeatsPower D.face plan who (events_in state.old) (events_in state.new) state.old.seats.items state.new.seats.items result }
 {
     if room(state) > 0 {
-        do_due(alloc, rt, state, watch, due)?;
+        do_due(alloc, rt, state, watch, due, None)?;
     }
     Ok(())
 }

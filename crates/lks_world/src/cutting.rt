@@ -299,7 +299,7 @@ fn cut_off<R: Wait, D: CrashDisk, J: EffortJudge, B: Bell>(
 {
     let id = taker(&state.bag, s);
     if place_of(&state.seats, id).is_none() {
-        return take_step(alloc, rt, state, watch, s, deed);
+        return take_step(alloc, rt, state, watch, s, deed, None);
     }
     if cut_there(alloc, rt, plan, state, watch, s, deed, power)? {
         add_crash(state, id)?;

@@ -17,7 +17,8 @@ ghost use Rattle.lks_world.specs.Stopping.{HasStopped};
 ghost use Rattle.lks_world.specs.States.{IsStateOf, Becomes, Extends, events_in, next_of, AreLeft};
 ghost use Rattle.lks_world.specs.Powers.{IsQuiet};
 
-use crate::adding::{add_due, add_forgery, add_loss, add_ticks, do_due, room};
+use crate::adding::{add_due, add_forgery, add_loss, add_ticks, do_next, room};
+use crate::beside::tell;
 use crate::cutting::{Power, crash, cut};
 use crate::faults::WorldFault;
 use crate::settling::{Course, first_waiting, next, was_sent};
@@ -30,17 +31,21 @@ use lks_message::encode;
 use lks_saying::{Saying, what_is_said};
 use lks_script::Step;
 use lks_watch::Watch;
+use lks_work::Gate;
 use std::alloc::Global;
 use std::sync::Wait;
+use std::thread::Threads;
 
 /// Does what comes next, so many times, as long as there is something.
-fn go_on<R: Wait, D: CrashDisk, J: EffortJudge, B: Bell>(
+fn go_on<R: Threads + Wait + Sync, D: CrashDisk, J: EffortJudge, B: Bell, G: Gate>(
     alloc: Global,
     rt: &R,
+    gate: &G,
     state: &mut State<'_, D>,
     watch: &mut Watch<J, B>,
     times: usize,
     course: Course,
+    told: &mut usize,
 ) -> Result<(), WorldFault>
     requires { (plan : Planned) × IsStateOf D.face plan state.old × (J.heard watch.old.judge ≡ questions plan (events_in state.old)) }
     ensures becomes { (plan : Planned) → IsStateOf D.face plan state.old → J.heard watch.old.judge ≡ questions plan (events_in state.old) →
@@ -54,10 +59,11 @@ fn go_on<R: Wait, D: CrashDisk, J: EffortJudge, B: Bell>(
     ensures counted { Counted D.face state.old.seats.items state.new.seats.items result }
     ensures power { (plan : Planned) (who : List ℕ) → SeatsPower D.face plan who (events_in state.old) (events_in state.new) state.old.seats.items state.new.seats.items result }
 {
+    let mut beside = Vec::new(alloc);
     for turn in 0..times.min(room(state)) {
         match next(state, course) {
             Some(due) => {
-                do_due(alloc, rt, state, watch, due)?;
+                do_next(alloc, rt, gate, state, watch, due, &mut beside, told)?;
             }
             None => return Ok(()),
         }
@@ -149,14 +155,16 @@ fn say<D: CrashDisk>(
     speak(alloc, state, &said)
 }
 
-/// Does one step of a script whole.
-pub fn do_step<R: Wait, D: CrashDisk, J: EffortJudge, B: Bell>(
+/// Does one step of a script. The gate is told of the entries of a step that goes on by itself, one by one.
+fn do_step<R: Threads + Wait + Sync, D: CrashDisk, J: EffortJudge, B: Bell, G: Gate>(
     alloc: Global,
     rt: &R,
+    gate: &G,
     plan: &Plan,
     state: &mut State<'_, D>,
     watch: &mut Watch<J, B>,
     step: &Step,
+    told: &mut usize,
 ) -> Result<(), WorldFault>
     requires good { plan_fault plan.now ≡ None }
     requires legal { is_step_of plan.now step.now ≡ true }
@@ -176,25 +184,30 @@ pub fn do_step<R: Wait, D: CrashDisk, J: EffortJudge, B: Bell>(
         Step::Tick { by } => Ok(add_ticks(state, *by)?),
         Step::Next { times } => {
             let times = *times as usize;
-            go_on(alloc, rt, state, watch, times, Course::Delivering)
+            let course = Course::Delivering;
+            go_on(alloc, rt, gate, state, watch, times, course, told)
         }
         Step::Lose => Ok(lose_first(state)?),
         Step::Again { envelope } => deliver_again(alloc, rt, state, watch, *envelope),
         Step::Settle => go_on(
             alloc,
             rt,
+            gate,
             state,
             watch,
             MOST_EVENTS as usize,
             Course::Settling,
+            told,
         ),
         Step::Finish => go_on(
             alloc,
             rt,
+            gate,
             state,
             watch,
             MOST_EVENTS as usize,
             Course::Finishing,
+            told,
         ),
         Step::Forge { from, to, bytes } => {
             let bytes = bytes.clone()?;
@@ -221,4 +234,33 @@ pub fn do_step<R: Wait, D: CrashDisk, J: EffortJudge, B: Bell>(
             cut(alloc, rt, plan, state, watch, *step, power)
         }
     }
+}
+
+/// Does one step of a script whole, and tells the gate of each entry.
+pub fn perform<R: Threads + Wait + Sync, D: CrashDisk, J: EffortJudge, B: Bell, G: Gate>(
+    alloc: Global,
+    rt: &R,
+    gate: &G,
+    plan: &Plan,
+    state: &mut State<'_, D>,
+    watch: &mut Watch<J, B>,
+    step: &Step,
+) -> Result<(), WorldFault>
+    requires good { plan_fault plan.now ≡ None }
+    requires legal { is_step_of plan.now step.now ≡ true }
+    requires state { IsStateOf D.face plan.now state.old × (J.heard watch.old.judge ≡ questions plan.now (events_in state.old)) }
+    ensures state { OnOk result (IsStateOf D.face plan.now state.new) }
+    ensures performs { OnOk result (Performs (J.verdict watch.old.judge) plan.now (events_in state.old) step.now (events_in state.new)
+        × WatchesBy (ears J.heard J.verdict B.rung B.limit) plan.now (events_in state.old) (events_in state.new) watch.old watch.new) }
+    ensures stops { OnErr result (HasStopped D.face (ears J.heard J.verdict B.rung B.limit) plan.now (Performs (J.verdict watch.old.judge) plan.now (events_in state.old) step.now) (events_in state.old) watch.old state.new watch.new) }
+    ensures extends { Extends plan.now state.old.history.items state.new.history.items }
+    ensures counted { Counted D.face state.old.seats.items state.new.seats.items result }
+    ensures power { SeatsPower D.face plan.now (loser_of (J.verdict watch.old.judge) plan.now (events_in state.old) step.now) (events_in state.old) (events_in state.new) state.old.seats.items state.new.seats.items result }
+    ensures burns { (calls choice : ℕ) (given : CutStep) → step.now ≡ Step.Cut calls choice given →
+        OnOk result (IfSome (step_cut (J.verdict watch.old.judge) plan.now (events_in state.old) given) (SeatsBurn D.face plan.now (events_in state.old) calls choice state.old.seats.items state.new.seats.items)) }
+{
+    let mut told = state.history.len();
+    let result = do_step(alloc, rt, gate, plan, state, watch, step, &mut told);
+    tell(gate, state.history.as_slice(), &mut told);
+    result
 }

@@ -1,6 +1,7 @@
 //! Why a world takes no further step.
 
-ghost use Rattle.std.specs.Prelude.{◌≡◌, ◌≢◌};
+ghost use Rattle.std.specs.Prelude.{◌≡◌, ◌≢◌, true};
+ghost use Rattle.lks_host.specs.Faults.{breaks};
 ghost use Rattle.lks_world.specs.Hosts.{blamed};
 ghost use Rattle.lks_world.specs.declared.faults.WorldFault.TheVariants.{Memory};
 
@@ -41,14 +42,15 @@ impl<T: Drop> From<AllocFailed<T>> for WorldFault {
     }
 }
 
-/// What a refusal of the peer's host is to the world. Where no fuse is set, no host is cut off.
+/// What a refusal after which the peer's host is broken is to the world. Where no fuse is set, no host is cut off.
 pub fn blame(peer: PeerId, fault: HostFault) -> WorldFault
-    requires { fault ≢ HostFault.Cut }
+    requires cut { fault ≢ HostFault.Cut }
+    requires breaks { breaks fault ≡ true }
     ensures { result ≡ blamed peer fault }
 {
     match fault {
         HostFault::Failed => WorldFault::Disk { peer },
         HostFault::Memory => WorldFault::Memory,
-        HostFault::Cut => unreachable!(),
+        HostFault::Cut | HostFault::Stale { .. } => unreachable!(),
     }
 }

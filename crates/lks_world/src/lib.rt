@@ -3,6 +3,7 @@
 
 mod adding;
 mod beginning;
+mod beside;
 mod cutting;
 mod deeds;
 mod doing;

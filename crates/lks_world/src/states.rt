@@ -1,17 +1,24 @@
 //! The state of a world, and what an event does to it.
 
-ghost use Rattle.std.specs.Prelude.{◌≡◌, ◌++◌, ◌∷◌, [], Some, IfOk, IfSome, OnOk, OnErr, ◌==◌, length, filter, map, not, List};
+ghost use Rattle.std.specs.Prelude.{◌≡◌, ◌++◌, ◌∷◌, [], Some, IfOk, IfSome, IsErrOf, OnOk, OnErr, ◌==◌, length, filter, map, not, List};
 ghost use Rattle.std.specs.List.{filter_map, range_with_len};
 ghost use Rattle.lks_base.specs.declared.events.Event.TheVariants as events;
 ghost use Rattle.lks_base.specs.declared.records.Record.{Record as Recorded};
+ghost use Rattle.lks_host.specs.Bodies.{bodies_of};
 ghost use Rattle.lks_host.specs.Cutting.{Falls};
+ghost use Rattle.lks_host.specs.Faults.{as_journal, IsFresh};
 ghost use Rattle.lks_host.specs.Hosted.{StandsFor};
+ghost use Rattle.lks_host.specs.Stepping.{CanStep, IsWritten, Stepped};
+ghost use Rattle.lks_host.specs.Working.{IsResultOf};
+ghost use Rattle.lks_journal.specs.Adding.{KeepsOrAdds};
 ghost use Rattle.lks_law.specs.Alarms.{alarms_by, alarm_noted};
 ghost use Rattle.lks_law.specs.Batches.{with_batch};
 ghost use Rattle.lks_law.specs.Entries.{carried, entry_for, notes_at, notes_of, entry_of};
 ghost use Rattle.lks_law.specs.World.{Standing, deed_of, reaction_at, with_records, peer_at, sent_by, actor_of, effect_of, peers_after, happens};
 ghost use Rattle.lks_law.specs.Facts.{IsHeard};
+ghost use Rattle.lks_law.specs.Table.{react_on};
 ghost use Rattle.lks_watch.specs.Watching.{ears, Hears};
+ghost use Rattle.lks_world.specs.Beside.{IsFor};
 ghost use Rattle.lks_world.specs.Hosts.{peer_in, peers_of, IsReady, AreReady, GoesOn, HaveGoneOn, HaveFallen, HasActed, KeepsPower, with_added};
 ghost use Rattle.lks_world.specs.Seats.{hosts_of, Counted, Powered};
 ghost use Rattle.lks_world.specs.States.{left_after, world_in, sends_in, HasNoted};
@@ -26,8 +33,9 @@ use lks_base::{
 use lks_blocks::BlockPool;
 use lks_disk::CrashDisk;
 use lks_effort::EffortJudge;
-use lks_host::Host;
+use lks_host::{Host, HostFault};
 use lks_watch::Watch;
+use lks_work::JobDone;
 use std::alloc::Global;
 use std::sync::Wait;
 
@@ -60,15 +68,50 @@ pub fn nothing_done(alloc: Global) -> Done
     }
 }
 
+/// What a host does with an input: by a result of such work, if there is one. One that is stale is as none.
+fn react<R: Wait, D: CrashDisk>(
+    rt: &R,
+    pool: &BlockPool,
+    host: &mut Host<D>,
+    tick: u32,
+    input: &Input,
+    done: Option<JobDone>,
+) -> Result<Reaction, HostFault>
+    requires can { CanStep D.face pool.now host.old }
+    requires heard { IsHeard input.now }
+    requires done { IfSome done (IsResultOf pool.now input.now) }
+    ensures stepped { Stepped D.face host.old host.new (react_on host.old.peer.own host.old.peer.state tick input.now) result }
+    ensures stands { D.face.told host.old.journal.disk → (batches : List (List Recorded)) → StandsFor D.face host.old batches →
+        IfOk result (λ r. StandsFor D.face host.new (with_batch batches r.records)) }
+    ensures adds { D.face.told host.old.journal.disk → (batches : List (List Recorded)) → StandsFor D.face host.old batches →
+        KeepsOrAdds D.face host.old.journal host.new.journal (bodies_of batches)
+        (bodies_of (with_batch batches (react_on host.old.peer.own host.old.peer.state tick input.now).records)) (as_journal result) }
+    ensures read { (IsErrOf result HostFault.Memory → ⊥) → IsWritten host.old.peer.own host.old.peer.state (react_on host.old.peer.own host.old.peer.state tick input.now).records }
+    ensures fresh { IsFresh result }
+{
+    let Some(done) = done else {
+        return host.step(rt, pool, tick, input);
+    };
+    match host.accept(rt, pool, tick, done) {
+        Ok(reaction) => Ok(reaction),
+        Err(HostFault::Failed) => Err(HostFault::Failed),
+        Err(HostFault::Cut) => Err(HostFault::Cut),
+        Err(HostFault::Memory) => Err(HostFault::Memory),
+        Err(HostFault::Stale { .. }) => host.step(rt, pool, tick, input),
+    }
+}
+
 fn act_as<R: Wait, D: CrashDisk>(
     rt: &R,
     pool: &BlockPool,
     host: &mut Host<D>,
     tick: u32,
     input: &Input,
+    done: Option<JobDone>,
 ) -> Result<Done, WorldFault>
     requires ready { IsReady D.face pool.now host.old }
     requires heard { IsHeard input.now }
+    requires done { IfSome done (IsResultOf pool.now input.now) }
     ensures sends { IfOk result (λ d. d.sends ≡ (reaction_at tick (Some (peer_in D.face host.old)) input.now).sends) }
     ensures notes { IfOk result (λ d. d.notes ≡ notes_at (Some (peer_in D.face host.old)) (reaction_at tick (Some (peer_in D.face host.old)) input.now).records) }
     ensures peer { OnOk result (peer_in D.face host.new ≡ with_added (peer_in D.face host.old) (reaction_at tick (Some (peer_in D.face host.old)) input.now).records) }
@@ -78,7 +121,7 @@ fn act_as<R: Wait, D: CrashDisk>(
     ensures acted { HasActed D.face host.old host.new result }
     ensures power { KeepsPower D.face host.old.journal.disk host.new.journal.disk }
 {
-    let Reaction { records, sends } = match host.step(rt, pool, tick, input) {
+    let Reaction { records, sends } = match react(rt, pool, host, tick, input, done) {
         Ok(reaction) => reaction,
         Err(fault) => return Err(blame(host.id(), fault)),
     };
@@ -93,9 +136,11 @@ fn act<R: Wait, D: CrashDisk>(
     seats: &mut Vec<Seat<D>>,
     tick: u32,
     deed: &Deed,
+    done: Option<JobDone>,
 ) -> Result<Done, WorldFault>
     requires ready { AreReady D.face pool.now (hosts_of seats.old.items) }
     requires heard { IsHeard deed.now.input }
+    requires done { IfSome done (IsResultOf pool.now deed.now.input) }
     ensures sends { IfOk result (λ d. d.sends ≡ (reaction_at tick (peer_at deed.now.peer (peers_of D.face (hosts_of seats.old.items))) deed.now.input).sends) }
     ensures notes { IfOk result (λ d. d.notes ≡ notes_at (peer_at deed.now.peer (peers_of D.face (hosts_of seats.old.items))) (reaction_at tick (peer_at deed.now.peer (peers_of D.face (hosts_of seats.old.items))) deed.now.input).records) }
     ensures peers { OnOk result (peers_of D.face (hosts_of seats.new.items) ≡ with_records deed.now.peer (reaction_at tick (peer_at deed.now.peer (peers_of D.face (hosts_of seats.old.items))) deed.now.input).records (peers_of D.face (hosts_of seats.old.items))) }
@@ -108,7 +153,7 @@ fn act<R: Wait, D: CrashDisk>(
         return Ok(nothing_done(alloc));
     };
     match &mut seats[place] {
-        Seat::Host(host) => act_as(rt, pool, host, tick, &deed.input),
+        Seat::Host(host) => act_as(rt, pool, host, tick, &deed.input, done),
         Seat::Idle(_) => unreachable!(),
     }
 }
@@ -180,9 +225,11 @@ fn do_deed<R: Wait, D: CrashDisk>(
     seats: &mut Vec<Seat<D>>,
     tick: u32,
     deed: &Option<Deed>,
+    done: Option<JobDone>,
 ) -> Result<Done, WorldFault>
     requires ready { AreReady D.face pool.now (hosts_of seats.old.items) }
     requires heard { IfSome deed.now (λ d. IsHeard d.input) }
+    requires done { IfSome deed.now (λ d. IfSome done (IsResultOf pool.now d.input)) }
     ensures sends { IfOk result (λ d. d.sends ≡ (effect_of tick (peers_of D.face (hosts_of seats.old.items)) deed.now).sends) }
     ensures notes { IfOk result (λ d. d.notes ≡ notes_of tick (peers_of D.face (hosts_of seats.old.items)) deed.now) }
     ensures peers { OnOk result (peers_of D.face (hosts_of seats.new.items) ≡ peers_after tick (peers_of D.face (hosts_of seats.old.items)) deed.now) }
@@ -192,7 +239,7 @@ fn do_deed<R: Wait, D: CrashDisk>(
     ensures power { Powered D.face [] [] seats.old.items seats.new.items }
 {
     match deed {
-        Some(deed) => act(alloc, rt, pool, seats, tick, deed),
+        Some(deed) => act(alloc, rt, pool, seats, tick, deed, done),
         None => Ok(nothing_done(alloc)),
     }
 }
@@ -255,10 +302,12 @@ pub fn step<R: Wait, D: CrashDisk, J: EffortJudge, B: Bell>(
     watch: &mut Watch<J, B>,
     s: PeerStep,
     deed: &Option<Deed>,
+    done: Option<JobDone>,
 ) -> Result<(), WorldFault>
     requires ready { AreReady D.face state.old.pool.now (hosts_of state.old.seats.items) }
     requires deed { deed.now ≡ deed_of state.old.bag.items s }
     requires heard { IfSome deed.now (λ d. IsHeard d.input) }
+    requires done { IfSome done (IsFor state.old.pool.now s) }
     ensures world { OnOk result (world_in D.face state.new ≡ happens (world_in D.face state.old) (events.Step s)) }
     ensures history { HasNoted (entry_of (world_in D.face state.old) (events.Step s)) state.old.history.items state.new.history.items result }
     ensures pending { OnOk result (state.new.pending.items ≡ left_after s state.old.pending.items ++ range_with_len (length state.old.bag.items) (sends_in (world_in D.face state.old) s)) }
@@ -268,7 +317,15 @@ pub fn step<R: Wait, D: CrashDisk, J: EffortJudge, B: Bell>(
     ensures pool { state.new.pool.now ≡ state.old.pool.now }
     ensures hears { Hears (ears J.heard J.verdict B.rung B.limit) (alarms_by (world_in D.face state.old) (events.Step s)) watch.old watch.new result }
 {
-    let done = do_deed(alloc, rt, state.pool, &mut state.seats, state.tick, deed)?;
+    let done = do_deed(
+        alloc,
+        rt,
+        state.pool,
+        &mut state.seats,
+        state.tick,
+        deed,
+        done,
+    )?;
     let event = Event::Step(s);
     Ok(note_step(state, watch, s, event, actor(deed), done)?)
 }

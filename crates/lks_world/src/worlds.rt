@@ -18,7 +18,7 @@ ghost use Rattle.lks_world.specs.Worlds.{Begins, PerformsIn, SpendsPower};
 ghost use Rattle.lks_world.specs.Watched.{Stops};
 
 use crate::beginning::begin;
-use crate::doing::do_step;
+use crate::doing::perform;
 use crate::faults::WorldFault;
 use crate::seats::{turn_round, unseat};
 use crate::states::State;
@@ -29,9 +29,11 @@ use lks_disk::CrashDisk;
 use lks_effort::EffortJudge;
 use lks_script::Step;
 use lks_watch::Watch;
+use lks_work::Gate;
 use std::alloc::Global;
 use std::marker::Model;
 use std::sync::Wait;
+use std::thread::Threads;
 
 /// What a world gives back at its end: the history, all disks in the order in which they were handed in, the judge, and the
 /// bells that want more, in their order.
@@ -115,7 +117,15 @@ impl<'a, D: CrashDisk + Drop, J: EffortJudge, B: Bell> World<'a, D, J, B> {
     }
 
     /// Does one step of a script whole. After a fault the world takes no further step.
-    pub fn perform<R: Wait>(&mut self, rt: &R, step: &Step) -> Result<(), WorldFault>
+    ///
+    /// Where a step settles or finishes and no message waits, all votes and tallies that are ready are hashed side by side, each
+    /// once the gate let it begin; their events then come one after another. The gate is told of each entry that is kept.
+    pub fn perform<R: Threads + Wait + Sync, G: Gate>(
+        &mut self,
+        rt: &R,
+        step: &Step,
+        gate: &G,
+    ) -> Result<(), WorldFault>
         requires running { self.old.stopped ≡ None }
         requires legal { is_step_of self.old.plan step.now ≡ true }
         ensures plan { self.new.plan ≡ self.old.plan }
@@ -134,7 +144,7 @@ impl<'a, D: CrashDisk + Drop, J: EffortJudge, B: Bell> World<'a, D, J, B> {
         ensures power { SpendsPower D.face J.verdict step.now self.old self.new result }
     {
         let (plan, state, watch) = (&self.plan, &mut self.state, &mut self.watch);
-        match do_step(self.alloc, rt, plan, state, watch, step) {
+        match perform(self.alloc, rt, gate, plan, state, watch, step) {
             Ok(()) => Ok(()),
             Err(fault) => {
                 self.stopped = Some(fault);

@@ -31,10 +31,12 @@ use lks_effort::EffortJudge;
 use lks_outside::{Sink, WriteStop};
 use lks_report::{has_alarm, report, summary};
 use lks_script::{Script, Step};
+use lks_work::Gate;
 use lks_world::{Parts, World, WorldFault};
 use std::alloc::Global;
 use std::mem;
 use std::sync::Wait;
+use std::thread::Threads;
 
 /// How far a world was played before its disks are given back.
 #[derive(Drop)]
@@ -45,8 +47,9 @@ pub enum Course {
     Open(Preface),
 }
 
-fn perform_all<R: Wait, D: CrashDisk + Drop, J: EffortJudge, B: Bell>(
+fn perform_all<R: Threads + Wait + Sync, D: CrashDisk + Drop, J: EffortJudge, B: Bell, G: Gate>(
     rt: &R,
+    gate: &G,
     world: &mut World<'_, D, J, B>,
     steps: &[Step],
 ) -> Result<(), WorldFault>
@@ -63,7 +66,7 @@ fn perform_all<R: Wait, D: CrashDisk + Drop, J: EffortJudge, B: Bell>(
     ensures spent_up_to { IfErr result (λ fault. AreSpentUpTo D.face (J.verdict world.old.judge) world.old.plan world.old.history world.old.disks steps.now fault world.new.history world.new.disks) }
 {
     for step in steps {
-        world.perform(rt, step)?;
+        world.perform(rt, step, gate)?;
     }
     Ok(())
 }
@@ -130,9 +133,17 @@ fn tell_first<K: Sink, D: CrashDisk + Drop, J: EffortJudge, B: Bell>(
 }
 
 /// Does the steps in a world, and tells what happened, or what is told before its journals.
-fn play_in<R: Wait, K: Sink, D: CrashDisk + Drop, J: EffortJudge, B: Bell>(
+fn play_in<
+    R: Threads + Wait + Sync,
+    K: Sink,
+    D: CrashDisk + Drop,
+    J: EffortJudge,
+    B: Bell,
+    G: Gate,
+>(
     alloc: Global,
     rt: &R,
+    gate: &G,
     command: Play,
     world: &mut World<'_, D, J, B>,
     steps: &[Step],
@@ -144,7 +155,7 @@ fn play_in<R: Wait, K: Sink, D: CrashDisk + Drop, J: EffortJudge, B: Bell>(
     ensures comes { ComesIn (senses D.face (ears J.heard J.verdict B.rung B.limit) K.taken K.faults) command steps.now world.old world.new sink.old sink.new result }
     ensures count { K.faults sink.old ≤ K.faults sink.new }
 {
-    match perform_all(rt, world, steps) {
+    match perform_all(rt, gate, world, steps) {
         Ok(()) => tell_first(alloc, command, world, sink),
         Err(fault) => Course::Over(Played::Stopped(fault)),
     }
@@ -185,9 +196,17 @@ fn go_on<K: Sink, D: CrashDisk + Drop>(
 
 /// Plays a script on disks, which are back in their places afterwards, as are the judge and the bells that want more, and
 /// tells what happened.
-pub fn play<R: Wait, K: Sink, D: CrashDisk + Drop, J: EffortJudge, B: Bell>(
+pub fn play<
+    R: Threads + Wait + Sync,
+    K: Sink,
+    D: CrashDisk + Drop,
+    J: EffortJudge,
+    B: Bell,
+    G: Gate,
+>(
     alloc: Global,
     rt: &R,
+    gate: &G,
     command: Play,
     script: Script,
     sink: &mut K,
@@ -218,7 +237,7 @@ pub fn play<R: Wait, K: Sink, D: CrashDisk + Drop, J: EffortJudge, B: Bell>(
             return Played::Unmade(fault);
         }
     };
-    let course = play_in(alloc, rt, command, &mut world, steps.as_slice(), sink);
+    let course = play_in(alloc, rt, gate, command, &mut world, steps.as_slice(), sink);
     hand_back(world.into_parts(), disks, judge, bells);
     go_on(alloc, course, sink, disks)
 }

@@ -29,8 +29,10 @@ use lks_evidence::{Finding, examine};
 use lks_gather::{Gathered, read_set};
 use lks_outside::{Sink, Source, read_all};
 use lks_script::{Script, read_script};
+use lks_work::Gate;
 use std::alloc::Global;
 use std::sync::Wait;
+use std::thread::Threads;
 
 /// The most bytes of a script, or of a script and journals.
 const MOST_BYTES: usize = 16_777_216;
@@ -76,7 +78,15 @@ fn find_doubt<S: Source>(alloc: Global, source: &mut S) -> Result<Finding, Unscr
 }
 
 /// Finds the script, and plays it.
-fn obey_play<R: Wait, S: Source, K: Sink, D: CrashDisk + Drop, J: EffortJudge, B: Bell>(
+fn obey_play<
+    R: Threads + Wait + Sync,
+    S: Source,
+    K: Sink,
+    D: CrashDisk + Drop,
+    J: EffortJudge,
+    B: Bell,
+    G: Gate,
+>(
     alloc: Global,
     rt: &R,
     told: Play,
@@ -85,6 +95,7 @@ fn obey_play<R: Wait, S: Source, K: Sink, D: CrashDisk + Drop, J: EffortJudge, B
     disks: &mut Vec<D>,
     judge: &mut Option<J>,
     bells: &mut Vec<B>,
+    gate: &G,
 ) -> End
     requires given { AreGiven (senses D.face (ears J.heard J.verdict B.rung B.limit) K.taken K.faults) (devices disks.old.items sink.old judge.old bells.old.items) }
     ensures comes { Comes S.left S.faults (senses D.face (ears J.heard J.verdict B.rung B.limit) K.taken K.faults) source.old source.new (devices disks.old.items sink.old judge.old bells.old.items) (devices disks.new.items sink.new judge.new bells.new.items) (Some (Command.Play told)) result }
@@ -92,13 +103,24 @@ fn obey_play<R: Wait, S: Source, K: Sink, D: CrashDisk + Drop, J: EffortJudge, B
     ensures sink_count { K.faults sink.old ≤ K.faults sink.new }
 {
     match find(alloc, told, source) {
-        Ok(script) => End::Played(play(alloc, rt, told, script, sink, disks, judge, bells)),
+        Ok(script) => {
+            let played = play(alloc, rt, gate, told, script, sink, disks, judge, bells);
+            End::Played(played)
+        }
         Err(none) => End::Unscripted(none),
     }
 }
 
 /// Does what a command says.
-fn obey<R: Wait, S: Source, K: Sink, D: CrashDisk + Drop, J: EffortJudge, B: Bell>(
+fn obey<
+    R: Threads + Wait + Sync,
+    S: Source,
+    K: Sink,
+    D: CrashDisk + Drop,
+    J: EffortJudge,
+    B: Bell,
+    G: Gate,
+>(
     alloc: Global,
     rt: &R,
     command: Command,
@@ -107,6 +129,7 @@ fn obey<R: Wait, S: Source, K: Sink, D: CrashDisk + Drop, J: EffortJudge, B: Bel
     disks: &mut Vec<D>,
     judge: &mut Option<J>,
     bells: &mut Vec<B>,
+    gate: &G,
 ) -> End
     requires given { AreGivenFor (Some command) (senses D.face (ears J.heard J.verdict B.rung B.limit) K.taken K.faults) (devices disks.old.items sink.old judge.old bells.old.items) }
     ensures comes { Comes S.left S.faults (senses D.face (ears J.heard J.verdict B.rung B.limit) K.taken K.faults) source.old source.new (devices disks.old.items sink.old judge.old bells.old.items) (devices disks.new.items sink.new judge.new bells.new.items) (Some command) result }
@@ -114,7 +137,7 @@ fn obey<R: Wait, S: Source, K: Sink, D: CrashDisk + Drop, J: EffortJudge, B: Bel
     ensures sink_count { K.faults sink.old ≤ K.faults sink.new }
 {
     match command {
-        Command::Play(play) => obey_play(alloc, rt, play, source, sink, disks, judge, bells),
+        Command::Play(play) => obey_play(alloc, rt, play, source, sink, disks, judge, bells, gate),
         Command::Evidence => match find_doubt(alloc, source) {
             Ok(finding) => End::Examined(tell_finding(alloc, finding, sink)),
             Err(unread) => End::Unscripted(unread),
@@ -123,7 +146,15 @@ fn obey<R: Wait, S: Source, K: Sink, D: CrashDisk + Drop, J: EffortJudge, B: Bel
 }
 
 /// Does the command that the words name, if they name one.
-fn obey_words<R: Wait, S: Source, K: Sink, D: CrashDisk + Drop, J: EffortJudge, B: Bell>(
+fn obey_words<
+    R: Threads + Wait + Sync,
+    S: Source,
+    K: Sink,
+    D: CrashDisk + Drop,
+    J: EffortJudge,
+    B: Bell,
+    G: Gate,
+>(
     alloc: Global,
     rt: &R,
     words: &[String],
@@ -132,6 +163,7 @@ fn obey_words<R: Wait, S: Source, K: Sink, D: CrashDisk + Drop, J: EffortJudge, 
     disks: &mut Vec<D>,
     judge: &mut Option<J>,
     bells: &mut Vec<B>,
+    gate: &G,
 ) -> End
     requires given { AreGivenFor (command_in (map string_bytes words.now)) (senses D.face (ears J.heard J.verdict B.rung B.limit) K.taken K.faults) (devices disks.old.items sink.old judge.old bells.old.items) }
     ensures comes { Comes S.left S.faults (senses D.face (ears J.heard J.verdict B.rung B.limit) K.taken K.faults) source.old source.new (devices disks.old.items sink.old judge.old bells.old.items) (devices disks.new.items sink.new judge.new bells.new.items) (command_in (map string_bytes words.now)) result }
@@ -139,7 +171,7 @@ fn obey_words<R: Wait, S: Source, K: Sink, D: CrashDisk + Drop, J: EffortJudge, 
     ensures sink_count { K.faults sink.old ≤ K.faults sink.new }
 {
     match parse(alloc, words) {
-        Ok(Some(command)) => obey(alloc, rt, command, source, sink, disks, judge, bells),
+        Ok(Some(command)) => obey(alloc, rt, command, source, sink, disks, judge, bells, gate),
         Ok(None) => End::Unnamed,
         Err(_) => End::Unbegun,
     }
@@ -150,8 +182,17 @@ fn obey_words<R: Wait, S: Source, K: Sink, D: CrashDisk + Drop, J: EffortJudge, 
 /// `replay` does, reads the disks back, and writes the plan and the journals; `evidence` reads these from the source, examines them,
 /// and writes one line. The i-th disk is that of the script's i-th peer; those of honest peers hold their journals. All disks are
 /// fresh, and there are as many as a script may have peers. The judge says of each proof of effort whether it is accepted, and the
-/// bells ring for alarms; those that want no more are dropped. `evidence` asks nothing of disks, judge and bells.
-pub fn run<R: Wait, S: Source, K: Sink, D: CrashDisk + Drop, J: EffortJudge, B: Bell>(
+/// bells ring for alarms; those that want no more are dropped. `evidence` asks nothing of disks, judge and bells. The gate stands
+/// before each vote and tally that is hashed beside the steps, and is told of each entry.
+pub fn run<
+    R: Threads + Wait + Sync,
+    S: Source,
+    K: Sink,
+    D: CrashDisk + Drop,
+    J: EffortJudge,
+    B: Bell,
+    G: Gate,
+>(
     alloc: Global,
     rt: &R,
     words: &[String],
@@ -160,6 +201,7 @@ pub fn run<R: Wait, S: Source, K: Sink, D: CrashDisk + Drop, J: EffortJudge, B: 
     disks: &mut Vec<D>,
     judge: &mut Option<J>,
     bells: &mut Vec<B>,
+    gate: &G,
 ) -> Status
     requires given { AreGivenFor (command_in (map string_bytes words.now)) (senses D.face (ears J.heard J.verdict B.rung B.limit) K.taken K.faults) (devices disks.old.items sink.old judge.old bells.old.items) }
     ensures promise { Promise S.left S.faults (senses D.face (ears J.heard J.verdict B.rung B.limit) K.taken K.faults) source.old source.new (devices disks.old.items sink.old judge.old bells.old.items) (devices disks.new.items sink.new judge.new bells.new.items) (command_in (map string_bytes words.now)) result }
@@ -171,5 +213,5 @@ pub fn run<R: Wait, S: Source, K: Sink, D: CrashDisk + Drop, J: EffortJudge, B: 
     ensures concludes { (work : HasJournals (command_in (map string_bytes words.now)) (S.left source.old))
         → (Rose (S.faults source.old) (S.faults source.new) → ⊥) → (Rose (K.faults sink.old) (K.faults sink.new) → ⊥) → Concludes work.said result }
 {
-    obey_words(alloc, rt, words, source, sink, disks, judge, bells).status()
+    obey_words(alloc, rt, words, source, sink, disks, judge, bells, gate).status()
 }

@@ -4,6 +4,7 @@ mod crashes;
 mod disks;
 mod drills;
 mod evidence;
+mod gates;
 mod lists;
 mod peers;
 mod sessions;
@@ -19,7 +20,9 @@ use lks_disk::{Disk, MemDisk};
 use lks_outside::{MemSink, MemSource};
 use std::alloc::Global;
 use std::process::Abort;
+use lks_work::FreeGate;
 use std::sync::Wait;
+use std::thread::Threads;
 use std::test::Fail;
 
 const REPLAY: &[&str] = &["replay"];
@@ -536,7 +539,7 @@ fn joined(alloc: Global, pieces: &[&str]) -> Result<Vec<u8>, Fail> {
 }
 
 /// Runs with the program's own judge, and no bells.
-fn run_plainly<R: Wait>(
+fn run_plainly<R: Threads + Wait + Sync>(
     alloc: Global,
     rt: &R,
     words: &[String],
@@ -550,12 +553,12 @@ fn run_plainly<R: Wait>(
     let mut judge = Some(FirstByteJudge::new(alloc)?);
     let mut bells: Vec<ListBell> = Vec::new(alloc);
     Ok(run(
-        alloc, rt, words, source, sink, disks, &mut judge, &mut bells,
+        alloc, rt, words, source, sink, disks, &mut judge, &mut bells, &FreeGate,
     ))
 }
 
 /// What a run by these words answers and writes, of which these calls of its source and its sink fail.
-fn replayed<R: Wait>(
+fn replayed<R: Threads + Wait + Sync>(
     alloc: Global,
     rt: &R,
     words: &[&str],
@@ -573,7 +576,7 @@ fn replayed<R: Wait>(
 }
 
 /// Runs each script, and compares what it answers and writes.
-fn check_rows<R: Abort + Wait>(rt: &R, alloc: Global, rows: &[Row]) -> Result<(), Fail> {
+fn check_rows<R: Abort + Threads + Wait + Sync>(rt: &R, alloc: Global, rows: &[Row]) -> Result<(), Fail> {
     for (at, (answer, script, report)) in rows.iter().enumerate() {
         let (status, written) = replayed(alloc, rt, REPLAY, script, &[], &[])?;
         assert_eq!(rt; status, *answer, "row {at}");

@@ -33,7 +33,7 @@ fn failing_disks(alloc: Global, fail: &[u32], fail_reads: &[u32]) -> Result<Vec<
 }
 
 /// The answer to a script whose first peer's disk fails at these calls, that disk, and what was written.
-fn replay_on<R: Wait>(
+fn replay_on<R: Threads + Wait + Sync>(
     alloc: Global,
     rt: &R,
     words: &[&str],

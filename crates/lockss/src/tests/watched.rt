@@ -97,7 +97,7 @@ struct Watched<J, B> {
     bells: Vec<B>,
 }
 
-fn watch<R: Wait, J: EffortJudge, B: Bell>(
+fn watch<R: Threads + Wait + Sync, J: EffortJudge, B: Bell>(
     rt: &R,
     alloc: Global,
     script: &[&str],
@@ -121,6 +121,7 @@ fn watch<R: Wait, J: EffortJudge, B: Bell>(
         &mut disks,
         &mut judge,
         &mut bells,
+        &FreeGate,
     );
     Ok(Watched {
         status,

@@ -1,5 +1,5 @@
 use Rattle.std.proofs.Common.{◌≡◌, ap, sym, subst, refl, [], ◌∷◌, ◌++◌}
-use Rattle.std.specs.Prelude.{OnOk, Some}
+use Rattle.std.specs.Prelude.{OnOk}
 use Rattle.lks_base.specs.declared.events.Event.{Event}
 use Rattle.lks_base.specs.declared.events.Event.TheVariants.{Step}
 use Rattle.lks_base.specs.declared.plans.Plan.{Plan}

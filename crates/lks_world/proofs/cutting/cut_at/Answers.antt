@@ -4,9 +4,6 @@ use Rattle.lks_world.proofs.HostLaws.{ok_then}
 use Rattle.lks_world.proofs.SeatLaws.{ActsAt, acts_at, acts_there, acts_ranked, acts_on, counted_one}
 use Rattle.lks_world.proofs.cutting.cut_at.Given.{Over}
 use Rattle.lks_world.proofs.cutting.cut_at.Goals.{In-Host}
-use Rattle.lks_world.proofs.Fallen.{fell_each}
-use Rattle.lks_world.proofs.SeatLaws.{acts_fell}
-use Rattle.lks_world.proofs.Stopped.{err_map}
 use Rattle.lks_world.proofs.PowerEnds.{power_ends}
 use Rattle.lks_world.proofs.cutting.cut_at.Goals as goal
 

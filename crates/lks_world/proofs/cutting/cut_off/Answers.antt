@@ -20,7 +20,7 @@ use Rattle.lks_world.specs.Endings.{HasEnded}
 use Rattle.lks_world.specs.Hosts.{peers_of, IsAbsent}
 use Rattle.lks_world.specs.Kept.{kept}
 use Rattle.lks_world.specs.Seats.{hosts_of, SeatsPower, StandsAt}
-use Rattle.lks_world.specs.States.{events_in, Becomes, IsStateOf}
+use Rattle.lks_world.specs.States.{events_in, IsStateOf}
 use Rattle.lks_world.specs.declared.faults.WorldFault.{WorldFault}
 use Rattle.lks_world.specs.declared.faults.WorldFault.TheVariants.{Memory}
 use Rattle.lks_world.specs.declared.seats.Seat.{Seat}

@@ -1,5 +1,5 @@
-use Rattle.std.proofs.Common.{◌≡◌, ◌∙◌, ◌++◌, ◌∷◌, [], length, ap, sym, subst, ℕ, Bool, List, inl, inr}
-use Rattle.std.specs.Prelude.{IfSome, Some, Ok, Err, map}
+use Rattle.std.proofs.Common.{◌≡◌, ◌∙◌, ◌++◌, ◌∷◌, [], length, ap, sym, subst, ℕ, Bool, List, inr}
+use Rattle.std.specs.Prelude.{IfSome, Ok, Err, map}
 use Rattle.std.specs.List.{filter_map, range_with_len}
 use Rattle.std.proofs.lemmas.Result.{err_from_is_err_and}
 use Rattle.lks_alarm.specs.declared.alarms.Alarm.{Alarm}
@@ -27,9 +27,9 @@ use Rattle.std.proofs.Common.{refl}
 use Rattle.lks_world.proofs.Stopped.{err_then, stops_in}
 use Rattle.lks_world.specs.States.{events_of}
 use Rattle.lks_base.specs.declared.events.Event.TheVariants.{Step}
-use Rattle.lks_world.proofs.Fallen.{ended_either, fallen_on, left_by, left_still}
+use Rattle.lks_world.proofs.Fallen.{ended_either, fallen_on, left_by}
 use Rattle.lks_world.specs.Hosts.{HaveFallen}
-use Rattle.lks_world.proofs.PowerEnds.{may_lose, power_still}
+use Rattle.lks_world.proofs.PowerEnds.{may_lose}
 use Rattle.lks_world.specs.Endings.{MayLosePower, PowersEnd, is_whole}
 use Rattle.lks_world.proofs.cutting.cut_there.Goals as goal
 

@@ -7,6 +7,7 @@ use Rattle.lks_base.specs.declared.limits.TheConstants.{MOST_FORGED_BYTES}
 use Rattle.lks_script.specs.declared.steps.Step.TheVariants as step
 use Rattle.lks_watch.specs.Watching.{Watches, ears, seen_by}
 use Rattle.lks_world.proofs.HostLaws.{ok_then}
+use Rattle.lks_world.proofs.Keeping.{extends_same}
 use Rattle.lks_world.proofs.NextLaws.{own_doable}
 use Rattle.lks_world.proofs.OwnSteps.{ticks_within, forgery_may, crash_may, cut_legal}
 use Rattle.lks_world.proofs.Watched.{crash_quiet, lost_quiet, ok_both, quiet_kept}
@@ -106,6 +107,9 @@ returns-in_ok-say-in-SayPoll-clause-performs g c =
 
 pub returns-in-Peer-clause-extends : goal.returns-in-Peer-clause-extends
 returns-in-Peer-clause-extends g c = c.add_due.ensures.extends c.args.plan.now (own g (goal.at.returns-in-Peer-clause-extends g c).In-Peer)
+
+pub returns-in_err-bytes-in-Forge-clause-extends : goal.returns-in_err-bytes-in-Forge-clause-extends
+returns-in_err-bytes-in-Forge-clause-extends g c = extends_same g.D.Disk.face c.args.plan.now c.args.state.now c.args.state.now.history.items c.requires.state.0 refl
 
 pub returns-in_err-add_forgery-in-Forge-clause-extends : goal.returns-in_err-add_forgery-in-Forge-clause-extends
 returns-in_err-add_forgery-in-Forge-clause-extends g c =

@@ -3,6 +3,7 @@ use Rattle.std.specs.Prelude.{Ok}
 use Rattle.lks_base.specs.declared.plans.Plan.{Plan}
 use Rattle.lks_world.proofs.Keeping.{Goes}
 use Rattle.lks_base.specs.declared.limits.TheConstants.{MOST_EVENTS}
+use Rattle.lks_farm.specs.Batches.{AreDoneOf}
 use Rattle.lks_law.specs.Questions.{questions}
 use Rattle.lks_watch.specs.Watching.{WatchesBy, ears}
 use Rattle.lks_world.specs.Follows.{next_event}
@@ -21,4 +22,5 @@ invariant-loop-turn g l = record {
   room : l.turn-end - l.turn ≤ MOST_EVENTS - length l.state.history.items;
   power : (plan : Plan) (who : List ℕ) → SeatsPower {T = Unit {0}} g.D.Disk.face plan who (events_in l.fn.state) (events_in l.state) l.fn.state.seats.items l.state.seats.items (Ok tt);
   counted : Counted {T = Unit {0}} g.D.Disk.face l.fn.state.seats.items l.state.seats.items (Ok tt);
+  beside : AreDoneOf l.state.pool.now l.beside.items;
 }

@@ -26,7 +26,7 @@ returns-clause-notes g c =
     let laws = g.met.D.CrashDisk g.world.𝓛 g.world.𝓜 g.world.𝓡 ((λ s x. x), (λ x. x), (λ x. x), λ x. x) in
     let f = g.D.Disk.face in
     let h = c.args.host.now in
-    let k = c.step.new.self in
+    let k = c.react.new.host in
     let ready = c.requires.ready in
     let r = c.in-Ok.reaction in
     let same = c.in-Ok.ensures.stepped.reaction ∙ reacts f h ready.batches ready.stands ready.written c.args.tick c.args.input.now in
@@ -43,7 +43,7 @@ returns-clause-peer g c =
     let h = c.args.host.now in
     let ready = c.requires.ready in
     let same = c.in-Ok.ensures.stepped.reaction ∙ reacts f h ready.batches ready.stands ready.written c.args.tick c.args.input.now in
-    grown f h ready.batches ready.stands ready.written c.step.new.self c.in-Ok.reaction.records c.in-Ok.ensures.stepped.own (c.in-Ok.ensures.stands (laws.tells h.journal.disk) ready.batches ready.stands)
+    grown f h ready.batches ready.stands ready.written c.react.new.host c.in-Ok.reaction.records c.in-Ok.ensures.stepped.own (c.in-Ok.ensures.stands (laws.tells h.journal.disk) ready.batches ready.stands)
     ∙ ap (λ (x : Reaction). with_added (peer_in f h) x.records) same
 
 pub returns-clause-on : goal.returns-clause-on
@@ -51,7 +51,7 @@ returns-clause-on g c =
     let laws = g.met.D.CrashDisk g.world.𝓛 g.world.𝓜 g.world.𝓡 ((λ s x. x), (λ x. x), (λ x. x), λ x. x) in
     let f = g.D.Disk.face in
     let h = c.args.host.now in
-    let k = c.step.new.self in
+    let k = c.react.new.host in
     let ready = c.requires.ready in
     let stepped = c.in-Ok.ensures.stepped in
     let stands = c.in-Ok.ensures.stands (laws.tells h.journal.disk) in
@@ -71,7 +71,7 @@ returns-in-Err-clause-falls g c = λ batches stood.
     let laws = g.met.D.CrashDisk g.world.𝓛 g.world.𝓜 g.world.𝓡 ((λ s x. x), (λ x. x), (λ x. x), λ x. x) in
     let h = c.args.host.now in
     let ready = c.requires.ready in
-    subst (λ (r : Reaction). Falls g.D.Disk.face batches (with_batch batches r.records) c.step.new.self.journal.disk) (reacts g.D.Disk.face h ready.batches ready.stands ready.written c.args.tick c.args.input.now)
+    subst (λ (r : Reaction). Falls g.D.Disk.face batches (with_batch batches r.records) c.react.new.host.journal.disk) (reacts g.D.Disk.face h ready.batches ready.stands ready.written c.args.tick c.args.input.now)
     (record { leaves = (c.in-Err.ensures.adds (laws.tells h.journal.disk) batches stood).crash })
 
 pub returns-in_err-notes-clause-falls : goal.returns-in_err-notes-clause-falls
@@ -80,5 +80,5 @@ returns-in_err-notes-clause-falls g c = λ batches stood.
     let h = c.args.host.now in
     let ready = c.requires.ready in
     err_then c.from_residual.result
-    (subst (λ (r : Reaction). Falls g.D.Disk.face batches (with_batch batches r.records) c.step.new.self.journal.disk) (c.in-Ok.ensures.stepped.reaction ∙ reacts g.D.Disk.face h ready.batches ready.stands ready.written c.args.tick c.args.input.now)
-    (falls_whole g.D.Disk.face c.step.new.self batches (with_batch batches c.in-Ok.reaction.records) (c.in-Ok.ensures.stands (laws.tells h.journal.disk) batches stood)))
+    (subst (λ (r : Reaction). Falls g.D.Disk.face batches (with_batch batches r.records) c.react.new.host.journal.disk) (c.in-Ok.ensures.stepped.reaction ∙ reacts g.D.Disk.face h ready.batches ready.stands ready.written c.args.tick c.args.input.now)
+    (falls_whole g.D.Disk.face c.react.new.host batches (with_batch batches c.in-Ok.reaction.records) (c.in-Ok.ensures.stands (laws.tells h.journal.disk) batches stood)))

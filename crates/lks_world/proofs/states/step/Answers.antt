@@ -12,6 +12,7 @@ use Rattle.lks_world.specs.Seats.{hosts_of}
 use Rattle.lks_world.specs.States.{world_in}
 use Rattle.lks_world.specs.declared.seats.Seat.{Seat}
 use Rattle.lks_world.proofs.Fallen.{fallen_on}
+use Rattle.lks_world.proofs.Named.{result_of_step}
 use Rattle.lks_world.proofs.Stopped.{err_then}
 use Rattle.lks_world.specs.Hosts.{HaveFallen}
 use Rattle.lks_world.proofs.states.step.Goals as goal
@@ -50,3 +51,8 @@ returns-in_err-done-clause-fallen g c =
     let deed = c.requires.deed in
     err_then c.from_residual.result
     (subst (λ o. HaveFallen f hosts (peers_after s.tick (peers_of f hosts) o) (hosts_of c.do_deed.new.seats.items)) deed c.in_err-done.ensures.fallen)
+
+pub do_deed-requires-clause-done : goal.do_deed-requires-clause-done
+do_deed-requires-clause-done g c = λ κs lives.
+    let s = c.args.state.now in
+    result_of_step s.pool.now s.bag.items c.args.s c.args.done c.args.deed.now c.requires.deed c.requires.done

@@ -20,13 +20,13 @@ use Rattle.lks_world.proofs.worlds.World.perform.Goals as goal
 pub returns-in-Ok-clause-disks : goal.returns-in-Ok-clause-disks
 returns-in-Ok-clause-disks g c =
     let a = c.self.inside in
-    subst (λ (v : Seen g.row.D.Denot g.row.J.Denot g.row.B.Denot). ServesHonest g.D.Disk.face v.plan.peers v.disks (disks_at c.do_step.new.state.seats.items ++ reverse a.rest.items) None) c.self.view_is
+    subst (λ (v : Seen g.row.D.Denot g.row.J.Denot g.row.B.Denot). ServesHonest g.D.Disk.face v.plan.peers v.disks (disks_at c.perform.new.state.seats.items ++ reverse a.rest.items) None) c.self.view_is
     (c.in-Ok.ensures.counted.serves a.plan.peers (reverse a.rest.items) c.self.invariant.seats)
 
 pub returns-in-Err-clause-disks : goal.returns-in-Err-clause-disks
 returns-in-Err-clause-disks g c =
     let a = c.self.inside in
-    subst (λ (v : Seen g.row.D.Denot g.row.J.Denot g.row.B.Denot). ServesHonest g.D.Disk.face v.plan.peers v.disks (disks_at c.do_step.new.state.seats.items ++ reverse a.rest.items) (Some c.in-Err.fault)) c.self.view_is
+    subst (λ (v : Seen g.row.D.Denot g.row.J.Denot g.row.B.Denot). ServesHonest g.D.Disk.face v.plan.peers v.disks (disks_at c.perform.new.state.seats.items ++ reverse a.rest.items) (Some c.in-Err.fault)) c.self.view_is
     (c.in-Err.ensures.counted.serves a.plan.peers (reverse a.rest.items) c.self.invariant.seats)
 
 pub invariant_of-self : goal.invariant_of-self
@@ -36,7 +36,7 @@ invariant_of-self g c =
     let kept = c.self.invariant in
     let did = c.in-Ok.ensures in
     let before = a.state.seats.items in
-    let after = c.do_step.new.state.seats.items in
+    let after = c.perform.new.state.seats.items in
     record {
       good = kept.good;
       happened = did.extends.happened;
@@ -55,7 +55,7 @@ invariant_of-self-in-Err g c =
     let kept = c.self.invariant in
     let did = c.in-Err.ensures in
     let before = a.state.seats.items in
-    let after = c.do_step.new.state.seats.items in
+    let after = c.perform.new.state.seats.items in
     record {
       good = kept.good;
       happened = did.extends.happened;
@@ -72,8 +72,8 @@ returns-in-Err-clause-stops g c =
     let f = g.D.Disk.face in
     let e = (ears g.J.EffortJudge.heard g.J.EffortJudge.verdict g.B.Bell.rung g.B.Bell.limit) in
     let a = c.self.inside in
-    let t = c.do_step.new.state in
-    let w = c.do_step.new.watch in
+    let t = c.perform.new.state in
+    let w = c.perform.new.watch in
     let disks = disks_at t.seats.items ++ reverse a.rest.items in
     let had = c.in-Err.ensures.stops in
     let new : Seen g.row.D.Denot g.row.J.Denot g.row.B.Denot = record { plan = a.plan; history = events_in t; stopped = Some c.in-Err.fault; disks = disks; judge = w.judge; bells = w.desk } in
@@ -84,8 +84,8 @@ pub returns-in-Ok-clause-power : goal.returns-in-Ok-clause-power
 returns-in-Ok-clause-power g c =
     let f = g.D.Disk.face in
     let a = c.self.inside in
-    let t = c.do_step.new.state in
-    let b : Inside g.row.D.Denot g.row.J.Denot g.row.B.Denot = record { alloc = a.alloc; plan = a.plan; state = t; watch = c.do_step.new.watch; rest = a.rest; stopped = a.stopped } in
+    let t = c.perform.new.state in
+    let b : Inside g.row.D.Denot g.row.J.Denot g.row.B.Denot = record { alloc = a.alloc; plan = a.plan; state = t; watch = c.perform.new.watch; rest = a.rest; stopped = a.stopped } in
     let did = c.in-Ok.ensures in
     subst (λ (v : Seen g.row.D.Denot g.row.J.Denot g.row.B.Denot). SpendsPower f g.J.EffortJudge.verdict c.args.step.now v (seen_in b) (Ok (tt {0}))) c.self.view_is
     (record {
@@ -99,8 +99,8 @@ pub returns-in-Err-clause-power : goal.returns-in-Err-clause-power
 returns-in-Err-clause-power g c =
     let f = g.D.Disk.face in
     let a = c.self.inside in
-    let t = c.do_step.new.state in
-    let b : Inside g.row.D.Denot g.row.J.Denot g.row.B.Denot = record { alloc = a.alloc; plan = a.plan; state = t; watch = c.do_step.new.watch; rest = a.rest; stopped = Some c.in-Err.fault } in
+    let t = c.perform.new.state in
+    let b : Inside g.row.D.Denot g.row.J.Denot g.row.B.Denot = record { alloc = a.alloc; plan = a.plan; state = t; watch = c.perform.new.watch; rest = a.rest; stopped = Some c.in-Err.fault } in
     let did = c.in-Err.ensures in
     subst (λ (v : Seen g.row.D.Denot g.row.J.Denot g.row.B.Denot). SpendsPower {T = Unit {0}} f g.J.EffortJudge.verdict c.args.step.now v (seen_in b) (Err c.in-Err.fault)) c.self.view_is
     (record {

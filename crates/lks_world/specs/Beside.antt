@@ -1,0 +1,54 @@
+-- Results of jobs, which wait beside a world for their turn.
+use Rattle.std.specs.Prelude.{◌≡◌, ℕ, List, [], All, map}
+use Rattle.lks_base.specs.declared.events.Due.{Due}
+use Rattle.lks_base.specs.declared.events.Due.TheVariants as dues
+use Rattle.lks_base.specs.declared.events.PeerStep.{PeerStep}
+use Rattle.lks_base.specs.declared.events.PeerStep.TheVariants as steps
+use Rattle.lks_blocks.specs.Block.{AllOf}
+use Rattle.lks_host.specs.declared.hosts.Host.{Host}
+use Rattle.lks_work.specs.Names.{refs_done}
+use Rattle.lks_work.specs.declared.jobs.JobName.{JobName}
+use Rattle.lks_work.specs.declared.jobs.JobName.TheVariants as names
+use Rattle.lks_work.specs.declared.results.JobDone.{JobDone}
+use Rattle.lks_work.specs.declared.results.JobDone.TheVariants as results
+use Rattle.lks_world.specs.declared.seats.Seat.{Seat}
+use Rattle.lks_world.specs.declared.seats.Seat.TheVariants as seat
+
+-- the step that is worked for
+abbrev pub step_named : JobName → PeerStep
+step_named (names.Vote peer poll) = steps.Work peer poll
+step_named (names.Tally peer number) = steps.Tally peer number
+
+abbrev pub name_done : JobDone → JobName
+name_done (results.Vote done) = names.Vote done.job.peer done.job.poll
+name_done (results.Tally done) = names.Tally done.job.peer done.job.number
+
+-- it is a result of the work of this step, over blocks of this pool
+pub record IsFor (pool : List ℕ) (s : PeerStep) (d : JobDone) : Type 0 where
+  pub of : AllOf pool (refs_done d)
+  pub step : s ≡ step_named (name_done d)
+
+-- the same of what is due
+pub record IsForDue (pool : List ℕ) (due : Due) (d : JobDone) : Type 0 where
+  pub of : AllOf pool (refs_done d)
+  pub work : due ≡ dues.Own (step_named (name_done d))
+
+-- a host but for where its deposits are told to stand
+abbrev pub unplaced : {D : Type 0} → Host D → Host D
+unplaced h = record h { peer = record h.peer { places = [] } }
+
+abbrev pub unplaced_at : {D : Type 0} → Seat D → Seat D
+unplaced_at (seat.Host h) = seat.Host (unplaced h)
+unplaced_at (seat.Idle d) = seat.Idle d
+
+-- nothing changed but what was told of places
+abbrev pub AreSameSeats : {D : Type 0} → List (Seat D) → List (Seat D) → Type 0
+AreSameSeats old new = map unplaced_at new ≡ map unplaced_at old
+
+-- the blocks of whoever sits there are in this pool
+abbrev pub IsPooled : {D : Type 0} → List ℕ → Seat D → Type 0
+IsPooled pool (seat.Host h) = h.peer.pool ≡ pool
+IsPooled pool (seat.Idle d) = Unit {0}
+
+abbrev pub ArePooled : {D : Type 0} → List ℕ → List (Seat D) → Type 0
+ArePooled pool seats = All (IsPooled pool) seats

@@ -1,0 +1,240 @@
+//! Jobs that are hashed side by side, and their results, which wait beside a world until their work is the first one due.
+
+ghost use Rattle.std.specs.Prelude.{◌≡◌, ℕ, List, IfOk, IfSome};
+ghost use Rattle.lks_base.specs.declared.events.Due.TheVariants as dues;
+ghost use Rattle.lks_blocks.specs.Block.{AllOf};
+ghost use Rattle.lks_farm.specs.Batches.{AreDoneOf, AreOf};
+ghost use Rattle.lks_work.specs.Names.{refs_done};
+ghost use Rattle.lks_world.specs.Beside.{name_done, step_named, unplaced, unplaced_at, ArePooled, AreSameSeats, IsForDue, IsPooled};
+
+use crate::seats::{Seat, place_of};
+use crate::states::State;
+use lks_base::{Due, Entry, OutOfMemory, PeerId, PeerStep};
+use lks_blocks::BlockPool;
+use lks_disk::{CrashDisk, Disk};
+use lks_farm::hash_batch;
+use lks_host::Host;
+use lks_work::{Gate, Job, JobDone, JobName};
+use std::alloc::Global;
+use std::thread::Threads;
+
+/// The job of this step, if it is work.
+fn job_of(s: PeerStep) -> Option<JobName>
+    ensures { IfSome result (λ name. s ≡ step_named name) }
+{
+    match s {
+        PeerStep::Work { peer, poll } => Some(JobName::Vote { peer, poll }),
+        PeerStep::Tally { peer, number } => Some(JobName::Tally { peer, number }),
+        PeerStep::OpenPoll { .. }
+        | PeerStep::Widen { .. }
+        | PeerStep::Shut { .. }
+        | PeerStep::Nudge { .. }
+        | PeerStep::GiveUp { .. }
+        | PeerStep::Expire { .. }
+        | PeerStep::Check { .. }
+        | PeerStep::Tune { .. }
+        | PeerStep::Deliver { .. } => None,
+    }
+}
+
+fn work_in(due: Due) -> Option<JobName>
+    ensures { IfSome result (λ name. due ≡ dues.Own (step_named name)) }
+{
+    match due {
+        Due::Own(s) => job_of(s),
+        Due::Delivery { .. } => None,
+    }
+}
+
+fn name_of(done: &JobDone) -> JobName
+    ensures { result ≡ name_done done.now }
+{
+    match done {
+        JobDone::Vote(done) => JobName::Vote {
+            peer: done.job.peer,
+            poll: done.job.poll,
+        },
+        JobDone::Tally(done) => JobName::Tally {
+            peer: done.job.peer,
+            number: done.job.number,
+        },
+    }
+}
+
+fn peer_of(name: JobName) -> PeerId {
+    match name {
+        JobName::Vote { peer, .. } | JobName::Tally { peer, .. } => peer,
+    }
+}
+
+fn has_result(beside: &[JobDone], name: JobName) -> bool {
+    beside.iter().any(|done| name_of(done) == name)
+}
+
+/// Takes the result of this job, if it waits.
+fn take_result(beside: &mut Vec<JobDone>, name: JobName) -> Option<JobDone>
+    ensures name { IfSome result (λ d. name_done d ≡ name) }
+    ensures of { (pool : List ℕ) → AreDoneOf pool beside.old.items → IfSome result (λ d. AllOf pool (refs_done d)) }
+    ensures rest { (pool : List ℕ) → AreDoneOf pool beside.old.items → AreDoneOf pool beside.new.items }
+{
+    let place = beside.iter().position(|done| name_of(done) == name)?;
+    Some(beside.remove(place))
+}
+
+/// Adds the job of this step of the host, if it is work without a result.
+fn add_job<D: Disk>(
+    host: &mut Host<D>,
+    s: PeerStep,
+    beside: &[JobDone],
+    jobs: &mut Vec<Job>,
+) -> Result<(), OutOfMemory>
+    ensures same { unplaced host.new ≡ unplaced host.old }
+    ensures of { (pool : List ℕ) → host.old.peer.pool ≡ pool → AreOf pool jobs.old.items → AreOf pool jobs.new.items }
+{
+    let Some(name) = job_of(s) else {
+        return Ok(());
+    };
+    if has_result(beside, name) {
+        return Ok(());
+    }
+    if let Some(job) = host.job(&name)? {
+        jobs.push(job)?;
+    }
+    Ok(())
+}
+
+/// Adds the jobs of all work for which the host is ready and that has no result.
+fn add_jobs<D: Disk>(
+    host: &mut Host<D>,
+    beside: &[JobDone],
+    jobs: &mut Vec<Job>,
+) -> Result<(), OutOfMemory>
+    ensures same { unplaced host.new ≡ unplaced host.old }
+    ensures of { (pool : List ℕ) → host.old.peer.pool ≡ pool → AreOf pool jobs.old.items → AreOf pool jobs.new.items }
+{
+    for k in 0..u32::MAX {
+        match host.ready(k) {
+            Some(s) => add_job(host, s, beside, jobs)?,
+            None => return Ok(()),
+        }
+    }
+    Ok(())
+}
+
+impl<D: Disk> Seat<D> {
+    /// The same of whoever sits there.
+    fn add_jobs(&mut self, beside: &[JobDone], jobs: &mut Vec<Job>) -> Result<(), OutOfMemory>
+        ensures same { unplaced_at self.new ≡ unplaced_at self.old }
+        ensures of { (pool : List ℕ) → IsPooled pool self.old → AreOf pool jobs.old.items → AreOf pool jobs.new.items }
+    {
+        match self {
+            Seat::Host(host) => add_jobs(host, beside, jobs),
+            Seat::Idle(_) => Ok(()),
+        }
+    }
+
+    /// Whether a result of a job of this peer would be taken now.
+    fn would_take(&mut self, done: &JobDone) -> Result<bool, OutOfMemory>
+        ensures { unplaced_at self.new ≡ unplaced_at self.old }
+    {
+        match self {
+            Seat::Host(host) => Ok(host.expected(done)? == Some(done.tag())),
+            Seat::Idle(_) => Ok(false),
+        }
+    }
+}
+
+/// The jobs of all peers' ready work that has no result.
+fn gather<D: Disk>(
+    alloc: Global,
+    seats: &mut Vec<Seat<D>>,
+    beside: &[JobDone],
+) -> Result<Vec<Job>, OutOfMemory>
+    ensures same { AreSameSeats seats.old.items seats.new.items }
+    ensures of { (pool : List ℕ) → ArePooled pool seats.old.items → IfOk result (λ jobs. AreOf pool jobs.items) }
+{
+    let mut jobs = Vec::new(alloc);
+    for place in 0..seats.len() {
+        seats[place].add_jobs(beside, &mut jobs)?;
+    }
+    Ok(jobs)
+}
+
+/// Hashes all ready work that has no result, and puts the results beside.
+fn hash_ready<R: Threads + Sync, D: Disk, G: Gate>(
+    alloc: Global,
+    rt: &R,
+    pool: &BlockPool,
+    gate: &G,
+    seats: &mut Vec<Seat<D>>,
+    beside: &mut Vec<JobDone>,
+) -> Result<(), OutOfMemory>
+    requires pooled { ArePooled pool.now seats.old.items }
+    requires of { AreDoneOf pool.now beside.old.items }
+    ensures same { AreSameSeats seats.old.items seats.new.items }
+    ensures of { AreDoneOf pool.now beside.new.items }
+{
+    let jobs = gather(alloc, seats, beside.as_slice())?;
+    let mut done = hash_batch(alloc, rt, pool, gate, jobs)?;
+    beside.append(&mut done)?;
+    Ok(())
+}
+
+/// Takes the result of this job, if it waits and would be taken now. One that is stale is dropped.
+fn take_fresh<D: Disk>(
+    seats: &mut Vec<Seat<D>>,
+    beside: &mut Vec<JobDone>,
+    name: JobName,
+) -> Result<Option<JobDone>, OutOfMemory>
+    ensures same { AreSameSeats seats.old.items seats.new.items }
+    ensures name { IfOk result (λ o. IfSome o (λ d. name_done d ≡ name)) }
+    ensures of { (pool : List ℕ) → AreDoneOf pool beside.old.items → IfOk result (λ o. IfSome o (λ d. AllOf pool (refs_done d))) }
+    ensures rest { (pool : List ℕ) → AreDoneOf pool beside.old.items → AreDoneOf pool beside.new.items }
+{
+    let Some(done) = take_result(beside, name) else {
+        return Ok(None);
+    };
+    let Some(place) = place_of(seats, peer_of(name)) else {
+        return Ok(None);
+    };
+    if seats[place].would_take(&done)? {
+        Ok(Some(done))
+    } else {
+        Ok(None)
+    }
+}
+
+/// The result of what is due, if it is work: the one that waits, or else one that is made now, together with those of all
+/// other ready work that has none.
+pub fn result_for<R: Threads + Sync, D: CrashDisk, G: Gate>(
+    alloc: Global,
+    rt: &R,
+    gate: &G,
+    state: &mut State<'_, D>,
+    due: Due,
+    beside: &mut Vec<JobDone>,
+) -> Result<Option<JobDone>, OutOfMemory>
+    requires pooled { ArePooled state.old.pool.now state.old.seats.items }
+    requires of { AreDoneOf state.old.pool.now beside.old.items }
+    ensures same { AreSameSeats state.old.seats.items state.new.seats.items }
+    ensures rest { state.new ≡ record state.old { seats = state.new.seats } }
+    ensures result { IfOk result (λ o. IfSome o (IsForDue state.old.pool.now due)) }
+    ensures of { AreDoneOf state.old.pool.now beside.new.items }
+{
+    let Some(name) = work_in(due) else {
+        return Ok(None);
+    };
+    if let Some(done) = take_fresh(&mut state.seats, beside, name)? {
+        return Ok(Some(done));
+    }
+    hash_ready(alloc, rt, state.pool, gate, &mut state.seats, beside)?;
+    Ok(take_result(beside, name))
+}
+
+/// Tells the gate of the entries that it wasn't told of yet.
+pub fn tell<G: Gate>(gate: &G, history: &[Entry], told: &mut usize) {
+    for entry in history.iter().skip(*told) {
+        gate.told(entry);
+    }
+    *told = history.len();
+}
