@@ -1,0 +1,426 @@
+"""Scripts, judged and built line by line (docs/FORMATS.md, "Scripts"): a bad line is told with the rule that it breaks."""
+
+from __future__ import annotations
+
+import re
+from collections.abc import Callable, Sequence
+from dataclasses import dataclass, field
+from typing import Any, NamedTuple
+
+from lks.hashes import KINDS, Draws
+
+MOST_BYTES, MOST_BLOCK_BYTES, MOST_COPY_BYTES, MOST_EVENTS = 16_777_216, 16_384, 134_217_728, 4_096
+LAST_ID, LAST_NUMBER = 65_535, 4_294_967_295
+
+# What a builder takes as a word: a number, text as it is, bytes in hex, or blocks parted by commas.
+Word = int | str | bytes | Sequence[bytes]
+
+
+class BadLine(ValueError):
+    """A line that a script can't have there: its number from 1, its text, and the rule that it breaks."""
+
+    def __init__(self, number: int, text: str, reason: str) -> None:
+        shown = "".join(c if " " <= c <= "~" else f"\\x{ord(c):02x}" for c in text[:80]) + ".." * (len(text) > 80)
+        super().__init__(f"line {number}: `{shown}`: {reason}")
+        self.number, self.reason = number, reason
+
+
+class Broken(ValueError):
+    """The rule that a line breaks."""
+
+
+def must(test: bool, reason: str) -> None:
+    """Breaks the rule where the test fails."""
+    if not test:
+        raise Broken(reason)
+
+
+# The least and the most of each of the rules. A quorum is bounded by `inner`, and a minority by the quorum.
+BOUNDS = {"inner": (1, 16), "quorum": (1, LAST_ID), "minority": (0, LAST_ID), "outer": (0, 16), "repairs": (0, 512)}
+BOUNDS |= dict.fromkeys(("pace", "refractory", "overdue"), (0, 1_000_000))
+BOUNDS |= {"unknown": (0, 100), "debt": (0, 100), "churn": (0, 16)}
+
+
+@dataclass
+class Peer:
+    """A peer of a plan. Its copies are lists of blocks by AU."""
+
+    id: int
+    honest: bool
+    seed: bytes
+    proof: bytes
+    hash: str = "sha256"
+    refs: tuple[int, ...] = ()
+    friends: tuple[int, ...] = ()
+    copies: dict[int, list[bytes]] = field(default_factory=dict)
+
+
+@dataclass
+class Plan:
+    """What a run begins with. `aus` has the number of blocks of each AU; both are in the plan's order."""
+
+    rules: dict[str, int] = field(default_factory=dict)
+    turns: int = MOST_EVENTS
+    aus: dict[int, int] = field(default_factory=dict)
+    peers: dict[int, Peer] = field(default_factory=dict)
+
+    def honest(self) -> list[Peer]:
+        """Its honest peers, in order."""
+        return [peer for peer in self.peers.values() if peer.honest]
+
+
+# A step line: the word that names it, and the values of those behind it.
+Step = NamedTuple("Step", [("name", str), ("values", tuple[Any, ...])])
+
+# A reader gives the value of a word under a plan, or breaks a rule.
+Reader = Callable[[Plan, str], Any]
+
+
+def number(name: str, least: int = 0, most: int = LAST_NUMBER) -> Reader:
+    """A decimal number in these bounds, without sign and without leading zeros."""
+    def read(_: Plan, word: str) -> int:
+        must(re.fullmatch("[0-9]+", word) is not None, f"{name} isn't a number")
+        must(word == "0" or word[0] != "0", f"{name} has a leading zero")
+        # a number of very many digits isn't read
+        must(len(word) <= 10 and int(word) <= most, f"{name} above {most}")
+        must(int(word) >= least, f"{name} below {least}")
+        return int(word)
+    return read
+
+
+ID = number("number", 0, LAST_ID)
+POLL = number("poll")
+BLOCK_NUMBER = number("block", 0, 511)
+
+
+def one_of(*words: str) -> Reader:
+    """One of these words."""
+    def read(_: Plan, word: str) -> str:
+        must(word in words, f"{' or '.join(f'`{it}`' for it in words)} is wanted")
+        return word
+    return read
+
+
+def declared(kind: str = "") -> Reader:
+    """A declared peer, of this kind if one is said."""
+    def read(plan: Plan, word: str) -> int:
+        found = ID(plan, word)
+        must(found in plan.peers, "no such peer")
+        is_honest = plan.peers[found].honest
+        must(not kind or is_honest == (kind == "honest"), f"peer {found} is {'honest' if is_honest else 'corrupt'}")
+        return found
+    return read
+
+
+def au_id(plan: Plan, word: str) -> int:
+    """A declared AU."""
+    found = ID(plan, word)
+    must(found in plan.aus, "no such AU")
+    return found
+
+
+def hex_bytes(name: str, most: int, empty: bool = True) -> Reader:
+    """The hex of 1 to so many bytes, or a hyphen for none where that may be."""
+    def read(_: Plan, word: str) -> bytes:
+        if word == "-" and empty:
+            return b""
+        must(re.fullmatch("[0-9A-Fa-f]+", word) is not None, f"{name} isn't hex")
+        must(len(word) % 2 == 0, f"{name} has half a byte")
+        must(len(word) <= 2 * most, f"{name} longer than {most} bytes")
+        return bytes.fromhex(word)
+    return read
+
+
+def block(plan: Plan, word: str) -> bytes:
+    """A block: `-`, hex, or a byte and how often it stands."""
+    byte, star, times = word.partition("*")
+    if not star:
+        return hex_bytes("block", MOST_BLOCK_BYTES)(plan, word)
+    one = hex_bytes("repeated byte", 1, empty=False)(plan, byte)
+    return one * number("repetition", 1, MOST_BLOCK_BYTES)(plan, times)
+
+
+def blocks(plan: Plan, word: str) -> list[bytes]:
+    """1 to 512 blocks parted by commas."""
+    parts = word.split(",")
+    must(len(parts) <= 512, "more than 512 blocks")
+    return [block(plan, part) for part in parts]
+
+
+PEER, HONEST, CORRUPT = declared(), declared("honest"), declared("corrupt")
+OWN_STEPS: dict[str, tuple[Reader, ...]] = {
+    "open": (HONEST, au_id),
+    **dict.fromkeys(("outer", "shut", "tally", "nudge", "give-up"), (HONEST, POLL)),
+    **dict.fromkeys(("work", "expire"), (HONEST, PEER, POLL)),
+    "check": (HONEST,),
+    "tune": (HONEST, number("quorum", 1), number("minority"), number("repairs", 0, 512)),
+}
+STEPS: dict[str, tuple[Reader, ...]] = {
+    **OWN_STEPS,
+    "tick": (number("ticks", 1, 1_000_000),),
+    "next": (number("count", 1, MOST_EVENTS),),
+    **dict.fromkeys(("lose", "settle", "finish"), ()),
+    "again": (number("message"),),
+    "forge": (CORRUPT, PEER, hex_bytes("message", 40_000)),
+    "crash": (HONEST,),
+}
+# Behind `say F WHAT T N`.
+SAYINGS: dict[str, tuple[Reader, ...]] = {
+    "vote": (au_id, one_of("of"), blocks),
+    "repair": (BLOCK_NUMBER, block),
+    "challenge": (one_of("yes", "no"),),
+    "poll": (au_id,),
+    "request": (BLOCK_NUMBER,),
+    **dict.fromkeys(("proof", "receipt"), ()),
+}
+CUT = (number("calls", 0, 8), number("choice", 0, 255))
+# The lines of a plan with a word for each reader.
+PLAN_LINES: dict[str, tuple[Reader, ...]] = {
+    "turns": (number("turns", 0, MOST_EVENTS),),
+    "au": (ID, number("count", 1, 512)),
+    "peer": (ID, one_of("honest", "corrupt"), hex_bytes("seed", 32, empty=False), hex_bytes("proof", 64)),
+    "hash": (PEER, one_of(*KINDS)),
+    "damage": (HONEST, au_id, BLOCK_NUMBER, block),
+}
+STEP_LINES = {*STEPS, "say", "cut"}
+LIST_LINES = {"refs", "friends", "hash", "copy", "damage"}
+# How far a script is: the lines that may come next, and what is said where another one comes; then the part behind a line.
+PARTS = {
+    "blank": ({"lockss"}, "the first line is `lockss 1`"),
+    "titled": ({"rules"}, "the rules come behind the title"),
+    "ruled": ({"turns", "au", "peer"}, "`turns`, an AU or a peer comes here"),
+    "peers": ({"peer"} | LIST_LINES | STEP_LINES, "it comes before the peers"),
+    "lists": (LIST_LINES | STEP_LINES, "it comes before lists and copies"),
+    "steps": (STEP_LINES, "it comes before the steps"),
+}
+BEHIND = {"lockss": "titled", "rules": "ruled", "turns": "ruled", "au": "ruled", "peer": "peers"}
+BEHIND |= dict.fromkeys(LIST_LINES, "lists") | dict.fromkeys(STEP_LINES, "steps")
+
+
+def read_words(plan: Plan, name: str, readers: Sequence[Reader], words: Sequence[str]) -> tuple[Any, ...]:
+    """The values of words, of which there must be one for each reader."""
+    must(len(words) == len(readers), f"{len(readers)} words stand behind `{name}`, not {len(words)}")
+    return tuple(read(plan, word) for read, word in zip(readers, words))
+
+
+def check_quorum(quorum: int, minority: int, inner: int) -> None:
+    """The rule of quorums."""
+    must(quorum <= inner, "quorum above inner")
+    must(2 * minority < quorum, "twice the minority isn't below the quorum")
+
+
+def read_saying(plan: Plan, words: Sequence[str]) -> tuple[Any, ...]:
+    """What stands behind `say`: who says what to whom for which poll, and more."""
+    must(len(words) >= 4, "`say` wants a sender, what it says, a receiver and a poll")
+    sender, receiver = CORRUPT(plan, words[0]), PEER(plan, words[2])
+    head = (sender, words[1], receiver, POLL(plan, words[3]))
+    if words[1] == "nominate":
+        must(len(words) <= 12, "more than 8 nominees")
+        return (*head, tuple(ID(plan, word) for word in words[4:]))
+    must(words[1] in SAYINGS, "no message has this name")
+    return (*head, *read_words(plan, words[1], SAYINGS[words[1]], words[4:]))
+
+
+def read_step(plan: Plan, name: str, words: Sequence[str]) -> Step:
+    """The step that a line says."""
+    if name == "say":
+        return Step(name, read_saying(plan, words))
+    if name == "cut":
+        must(len(words) >= 3, "`cut` wants calls, a choice and a step")
+        must(words[2] in OWN_STEPS or words[2] in ("next", "again"), "this step can't be cut")
+        must(words[2:] == ["next"] or words[2] != "next", "`next` has no count in a `cut`")
+        step = read_step(plan, words[2], words[3:])
+        return Step(name, (*read_words(plan, name, CUT, words[:2]), step))
+    step = Step(name, read_words(plan, name, STEPS[name], words if words or name != "next" else ["1"]))
+    if name == "tune":
+        check_quorum(step.values[1], step.values[2], plan.rules["inner"])
+    return step
+
+
+def is_idle(line: str) -> bool:
+    """An empty line, or a comment in ASCII."""
+    return line == "" or line[0] == "#" and line.isascii()
+
+
+def spelled(word: Word) -> str:
+    """A word of a script."""
+    if isinstance(word, (int, str)):
+        return str(word)
+    if isinstance(word, (bytes, bytearray)):
+        return word.hex() or "-"
+    return ",".join(f"{it[:1].hex()}*{len(it)}" if len(it) > 1 and it == it[:1] * len(it) else spelled(it) for it in word)
+
+
+class Script:
+    """A script as far as it is read or built: its lines, and the plan and the steps that they say."""
+
+    def __init__(self) -> None:
+        self.lines: list[str] = []
+        self.plan = Plan()
+        self.steps: list[Step] = []
+        self.part = "blank"
+        self.has_turns = False
+        self.hashed: set[int] = set()
+        self.copied = 0
+
+    def add(self, *words: Word) -> None:
+        """Adds a line of these words."""
+        self.add_line(" ".join(map(spelled, words)))
+
+    def add_line(self, line: str) -> None:
+        """Adds a line without its line feed, or raises `BadLine` and stays as it was."""
+        try:
+            self._judge(line)
+        except Broken as rule:
+            raise BadLine(len(self.lines) + 1, line, str(rule)) from None
+        self.lines.append(line)
+
+    def end(self) -> None:
+        """The script may end here, or `BadLine` is raised."""
+        if not self.plan.peers:
+            raise BadLine(len(self.lines) + 1, "", "the script ends before its first peer")
+
+    def text(self) -> str:
+        """All its lines."""
+        return "".join(line + "\n" for line in self.lines)
+
+    def _judge(self, line: str) -> None:
+        must("\n" not in line, "a line feed within the line")
+        if is_idle(line):
+            return
+        must(line.isascii(), "a byte that isn't ASCII")
+        must(line[-1] != "\r", "the line ends with a carriage return")
+        words = line.split(" ")
+        must("" not in words, "words are parted by exactly one space")
+        name, more = words[0], words[1:]
+        must(name in BEHIND, "no line begins with this word")
+        names, otherwise = PARTS[self.part]
+        must(name in names, f"`{name}` can't stand here: {otherwise}")
+        if name == "lockss":
+            must(more == ["1"], "the first line is `lockss 1`")
+        elif name in STEP_LINES:
+            self._add_step(name, more)
+        elif name in ("refs", "friends"):
+            self._add_list(name, more)
+        elif name in ("rules", "copy"):
+            getattr(self, f"_add_{name}")(more)
+        else:
+            getattr(self, f"_add_{name}")(*read_words(self.plan, name, PLAN_LINES[name], more))
+        self.part = BEHIND[name]
+
+    def _add_rules(self, words: list[str]) -> None:
+        must(words[::2] == list(BOUNDS) and len(words) == 2 * len(BOUNDS), f"the rules are {', '.join(BOUNDS)}")
+        readers = [number(name, *bounds) for name, bounds in BOUNDS.items()]
+        rules = dict(zip(BOUNDS, read_words(self.plan, "rules", readers, words[1::2])))
+        check_quorum(rules["quorum"], rules["minority"], rules["inner"])
+        self.plan.rules = rules
+
+    def _add_turns(self, turns: int) -> None:
+        must(not self.plan.aus and not self.has_turns, "`turns` comes once, before the AUs")
+        self.plan.turns, self.has_turns = turns, True
+
+    def _add_au(self, au: int, count: int) -> None:
+        must(au not in self.plan.aus, f"AU {au} is declared twice")
+        must(len(self.plan.aus) < 4, "more than 4 AUs")
+        self.plan.aus[au] = count
+
+    def _add_peer(self, peer: int, kind: str, seed: bytes, proof: bytes) -> None:
+        must(len(self.plan.aus) > 0, "a peer before any AU")
+        must(peer not in self.plan.peers, f"peer {peer} is declared twice")
+        must(len(self.plan.peers) < 32, "more than 32 peers")
+        self.plan.peers[peer] = Peer(peer, kind == "honest", seed.ljust(32, b"\0"), proof)
+
+    def _add_list(self, name: str, words: list[str]) -> None:
+        must(len(words) > 1, "the list is empty")
+        peer = self.plan.peers[HONEST(self.plan, words[0])]
+        must(not getattr(peer, name), f"peer {peer.id} has its {name} already")
+        members = tuple(PEER(self.plan, word) for word in words[1:])
+        must(peer.id not in members, f"peer {peer.id} lists itself")
+        must(len(set(members)) == len(members), "a peer is listed twice")
+        setattr(peer, name, members)
+
+    def _add_hash(self, peer: int, kind: str) -> None:
+        must(peer not in self.hashed, f"peer {peer} has its hash already")
+        self.hashed.add(peer)
+        self.plan.peers[peer].hash = kind
+
+    def _add_copy(self, words: list[str]) -> None:
+        must(len(words) in (3, 4), "`copy` wants a peer, an AU, and blocks or `like` and a peer")
+        peer, au = self.plan.peers[HONEST(self.plan, words[0])], au_id(self.plan, words[1])
+        if words[3:]:
+            one_of("like")(self.plan, words[2])
+            other = self.plan.peers[PEER(self.plan, words[3])]
+            must(au in other.copies, f"peer {other.id} has no copy of AU {au} yet")
+            content = other.copies[au].copy()
+        else:
+            content = blocks(self.plan, words[2])
+            must(len(content) == self.plan.aus[au], f"AU {au} has {self.plan.aus[au]} blocks, not {len(content)}")
+        must(au not in peer.copies, f"peer {peer.id} has its copy of AU {au} already")
+        self._count(sum(map(len, content)))
+        peer.copies[au] = content
+
+    def _add_damage(self, peer: int, au: int, at: int, content: bytes) -> None:
+        copies = self.plan.peers[peer].copies
+        must(au in copies, f"peer {peer} has no copy of AU {au} yet")
+        must(at < self.plan.aus[au], f"AU {au} has no block {at}")
+        self._count(len(content) - len(copies[au][at]))
+        copies[au][at] = content
+
+    def _count(self, more: int) -> None:
+        must(self.copied + more <= MOST_COPY_BYTES, f"all copies together above {MOST_COPY_BYTES} bytes")
+        self.copied += more
+
+    def _add_step(self, name: str, words: list[str]) -> None:
+        failures = sum(step.name in ("crash", "cut") for step in self.steps) if name in ("crash", "cut") else 0
+        must(failures < 16, "more than 16 power failures")
+        self.steps.append(read_step(self.plan, name, words))
+
+
+def read_lines(script: Script, data: bytes) -> None:
+    """Adds the lines of these bytes; a last one without its line feed is bad."""
+    *lines, last = data.split(b"\n")
+    for line in lines:
+        script.add_line(line.decode("latin-1"))
+    if last:
+        raise BadLine(len(script.lines) + 1, last.decode("latin-1"), "no line feed at the end of the file")
+
+
+def read(data: bytes) -> Script:
+    """The script that these bytes say, or `BadLine` for its first bad line."""
+    if len(data) > MOST_BYTES:
+        raise ValueError(f"more than {MOST_BYTES} bytes")
+    script = Script()
+    read_lines(script, data)
+    script.end()
+    return script
+
+
+def rules_words(**rules: int) -> list[Word]:
+    """The words of the `rules` line with these numbers, and 0 for all others."""
+    return ["rules", *(word for name in BOUNDS for word in (name, rules.get(name, 0)))]
+
+
+def drill(seed: int) -> Script:
+    """The scenario of a drill (docs/FORMATS.md, "Drills")."""
+    script, peers, front = Script(), range(1, 13), seed.to_bytes(8, "big")
+    script.add("lockss", 1)
+    sizes = {"inner": 8, "quorum": 5, "minority": 2, "outer": 2, "repairs": 4}
+    script.add(*rules_words(**sizes, overdue=1000, unknown=100, debt=100, churn=1))
+    for au in (1, 2):
+        script.add("au", au, 128)
+    for peer in peers:
+        script.add("peer", peer, "honest", front + peer.to_bytes(2, "big"), b"\1")
+    for peer in peers:
+        script.add("refs", peer, *(other for other in peers if other != peer))
+        script.add("friends", peer, peer % 12 + 1)
+    copies = [(peer, au) for peer in peers for au in (1, 2)]
+    for peer, au in copies:
+        script.add("copy", peer, au, [bytes([i]) * 512 for i in range(128)])
+    draws = Draws(front.ljust(32, b"\0"), 6, 0)
+    for peer, au in copies:
+        if draws.below(8) == 0:
+            script.add("damage", peer, au, draws.below(128), [bytes([200 + peer]) * 512])
+    for peer, au in copies:
+        script.add("open", peer, au)
+        script.add("finish")
+    return script
