@@ -6,6 +6,10 @@ small N  N polls of eight voters, one after another, on one block of one byte: 3
 hash N   N polls of three voters, one after another, on 128 blocks of 16 KiB
 wide N   32 honest peers with 512 blocks of 128 bytes, one block of two of them damaged: N rounds in which each of them
          opens a poll of eight inner voters and everything due is done, as far as 4,096 events go
+repairs N
+         one poll of three honest voters on 512 blocks of 3,072 bytes, of which the poller's first N are damaged
+widest N 32 honest peers on 256 blocks of 240 bytes, the first N of three of them damaged, each of which opens a poll of
+         eight inner voters
 together N
          N honest peers on 128 blocks of 16 KiB, each of which opens a poll whose voters are all others; the votes of all
          polls are hashed in one step, and the tallies of all in another
@@ -95,7 +99,25 @@ def together(count):
     yield "settle\n"
 
 
-FAMILIES = {"mend": mend, "small": small, "hash": large, "wide": wide, "together": together}
+def repairs(count):
+    peers = range(1, 5)
+    yield from honest(peers, "inner 3 quorum 3 minority 1 outer 0 repairs 512", [f"{block % 256:02x}*3072" for block in range(512)])
+    for block in range(count):
+        yield f"damage 1 1 {block} {255 - block % 256:02x}*3072\n"
+    yield "open 1 1\nfinish\n"
+
+
+def widest(count):
+    peers = range(1, 33)
+    blocks = [f"{block:02x}*240" for block in range(256)]
+    yield from honest(peers, "inner 8 quorum 5 minority 2 outer 2 repairs 512", blocks)
+    for peer in peers[7::11]:
+        yield from (f"damage {peer} 1 {block} ff*{240 - peer}\n" for block in range(count))
+    for peer in peers:
+        yield f"open {peer} 1\nfinish\n"
+
+
+FAMILIES = {"mend": mend, "small": small, "hash": large, "wide": wide, "repairs": repairs, "widest": widest, "together": together}
 
 if __name__ == "__main__":
     parser = argparse.ArgumentParser(description=__doc__, formatter_class=argparse.RawDescriptionHelpFormatter)

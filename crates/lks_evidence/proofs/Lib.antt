@@ -1,11 +1,16 @@
 pub mod Added
+pub mod Borne
 pub mod Circles
 pub mod Counts
 pub mod Deposited
 pub mod Doubts
 pub mod Evidenced
+pub mod Fronts
 pub mod Histories
+pub mod Holdings
+pub mod Marking
 pub mod Parts
+pub mod Recounting
 pub mod Restored
 pub mod Standing
 pub mod Told

@@ -1,7 +1,10 @@
+pub mod Held
 pub mod Histories
 pub mod Holding
+pub mod Marks
 pub mod Parts
 pub mod Records
+pub mod Recounts
 pub mod Rules
 pub mod Search
 pub mod Sizes

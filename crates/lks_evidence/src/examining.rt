@@ -1,17 +1,22 @@
 //! The search for the first doubt.
 
-ghost use Rattle.std.specs.Prelude.{◌≡◌, ◌≤◌, ◌↔◌, IfOk, All, [], length};
+ghost use Rattle.std.specs.Prelude.{◌≡◌, ◌≤◌, ◌↔◌, IfOk, OnOk, All, [], length, take};
+ghost use Rattle.lks_evidence.specs.Held.{IsHeldFrom};
 ghost use Rattle.lks_evidence.specs.Holding.{IsYes, SetHolds};
+ghost use Rattle.lks_evidence.specs.Marks.{IsMark};
+ghost use Rattle.lks_evidence.specs.Recounts.{IsRecountIf};
 ghost use Rattle.lks_evidence.specs.Search.{each, doubt_at, all_repairs, finding};
 ghost use Rattle.lks_evidence.specs.Search as search_of;
 ghost use Rattle.lks_evidence.specs.Rules as rules;
 ghost use Rattle.lks_evidence.specs.Sizes.{IsShort, IsSmall, most_records};
 
 use crate::findings::{Doubt, Finding, Shelf, Why};
-use crate::polls::doubt_poll;
+use crate::judging::{Judged, doubt_poll};
+use crate::marks::{self, Mark};
 use crate::records::{Repair, as_repair, count_deposits, count_repairs};
+use crate::recounts::{Recount, after};
 use crate::voters::{count_deposited, is_deposited};
-use lks_base::{AuPlan, OutOfMemory, PeerId, Plan, Record, has_honest};
+use lks_base::{AuId, AuPlan, OutOfMemory, PeerId, Plan, Record, has_honest};
 use std::alloc::Global;
 
 fn has_shelf(shelves: &[Shelf], peer: PeerId) -> bool
@@ -28,14 +33,40 @@ fn is_new(plan: &Plan, earlier: &[Shelf], peer: PeerId) -> bool
     has_honest(plan.peers.as_slice(), peer) && !has_shelf(earlier, peer)
 }
 
-/// Whether the AU is deposited before the place and nowhere else in the journal, and has the block.
+/// An AU that is held from some place of a journal on, with so many blocks.
+#[derive(Drop)]
+struct Held {
+    au: AuId,
+    count: usize,
+}
+
+/// Whether the AU is deposited before the place and nowhere else in the journal, and has the block. Finds it among the AUs
+/// that are held, or puts it there.
 #[tactic(auto, unfolding(crate::specs::Rules::is_held))]
-fn is_held(aus: &[AuPlan], journal: &[Record], before: &[Record], r: &Repair<'_>) -> bool
-    ensures { result ≡ rules.is_held aus.now journal.now before.now r.now }
+fn is_held(
+    aus: &[AuPlan],
+    journal: &[Record],
+    place: usize,
+    r: &Repair<'_>,
+    held: &mut Vec<Held>,
+) -> Result<bool, OutOfMemory>
+    requires within { place ≤ length journal.now }
+    requires held { All (IsHeldFrom aus.now journal.now place) held.old.items }
+    ensures is { IfOk result (λ t. t ≡ rules.is_held aus.now journal.now (take place journal.now) r.now) }
+    ensures held { OnOk result (All (IsHeldFrom aus.now journal.now place) held.new.items) }
 {
-    is_deposited(aus, r.au, before)
-        && (count_deposits(journal, r.au) == 1
-            && (r.block as usize) < count_deposited(before, r.au))
+    for h in held.iter() {
+        if h.au == r.au {
+            return Ok((r.block as usize) < h.count);
+        }
+    }
+    let before = &journal[..place];
+    if !is_deposited(aus, r.au, before) || count_deposits(journal, r.au) != 1 {
+        return Ok(false);
+    }
+    let count = count_deposited(before, r.au);
+    held.push(Held { au: r.au, count })?;
+    Ok((r.block as usize) < count)
 }
 
 /// A doubt of this peer's journal, at the place after these records.
@@ -55,38 +86,59 @@ fn doubt_at(peer: PeerId, before: &[Record], why: Option<Why>) -> Option<Doubt>
 }
 
 #[tactic(auto, unfolding(crate::specs::Search::held_doubt))]
-fn doubt_held(plan: &Plan, journal: &[Record], before: &[Record], item: &Record) -> Option<Why>
-    ensures { result ≡ search_of.held_doubt plan.now journal.now before.now item.now }
+fn doubt_held(
+    plan: &Plan,
+    journal: &[Record],
+    place: usize,
+    item: &Record,
+    held: &mut Vec<Held>,
+) -> Result<Option<Why>, OutOfMemory>
+    requires within { place ≤ length journal.now }
+    requires held { All (IsHeldFrom plan.now.aus journal.now place) held.old.items }
+    ensures why { IfOk result (λ why. why ≡ search_of.held_doubt plan.now journal.now (take place journal.now) item.now) }
+    ensures held { OnOk result (All (IsHeldFrom plan.now.aus journal.now place) held.new.items) }
 {
     match as_repair(item) {
-        Some(r) if !is_held(plan.aus.as_slice(), journal, before, &r) => Some(Why::Copy),
-        Some(_) | None => None,
+        Some(r) => {
+            if is_held(plan.aus.as_slice(), journal, place, &r, held)? {
+                Ok(None)
+            } else {
+                Ok(Some(Why::Copy))
+            }
+        }
+        None => Ok(None),
     }
 }
 
 /// The first round over one shelf.
 #[tactic(auto, unfolding(crate::specs::Search::first_of_shelf))]
-fn first_of_shelf(plan: &Plan, earlier: &[Shelf], shelf: &Shelf) -> Option<Doubt>
+fn first_of_shelf(
+    alloc: Global,
+    plan: &Plan,
+    earlier: &[Shelf],
+    shelf: &Shelf,
+) -> Result<Option<Doubt>, OutOfMemory>
     requires { IsShort shelf.now }
-    ensures { result ≡ search_of.first_of_shelf plan.now earlier.now shelf.now }
+    ensures { IfOk result (λ doubt. doubt ≡ search_of.first_of_shelf plan.now earlier.now shelf.now) }
 {
     let peer = shelf.peer;
     if !is_new(plan, earlier, peer) {
-        return Some(Doubt {
+        return Ok(Some(Doubt {
             peer,
             place: 0,
             why: Why::Peer,
-        });
+        }));
     }
     let journal = shelf.list.as_slice();
+    let mut held = Vec::new(alloc);
     for (i, item) in journal.iter().enumerate() {
-        let before = &journal[..i];
-        let doubt = doubt_at(peer, before, doubt_held(plan, journal, before, item));
+        let why = doubt_held(plan, journal, i, item, &mut held)?;
+        let doubt = doubt_at(peer, &journal[..i], why);
         if doubt.is_some() {
-            return doubt;
+            return Ok(doubt);
         }
     }
-    None
+    Ok(None)
 }
 
 #[tactic(auto, unfolding(crate::specs::Search::repair_doubt))]
@@ -96,13 +148,18 @@ fn doubt_repair(
     set: &[Shelf],
     poller: PeerId,
     before: &[Record],
+    mark: Mark,
     item: &Record,
-) -> Result<Option<Why>, OutOfMemory>
-    ensures { IfOk result (λ why. why ≡ search_of.repair_doubt plan.now set.now poller before.now item.now) }
+    last: Option<Recount>,
+) -> Result<Judged, OutOfMemory>
+    requires last { IsRecountIf plan.now set.now poller before.now last }
+    requires mark { IsMark before.now mark }
+    ensures why { IfOk result (λ j. j.why ≡ search_of.repair_doubt plan.now set.now poller before.now item.now) }
+    ensures last { IfOk result (λ j. IsRecountIf plan.now set.now poller before.now j.last) }
 {
     match as_repair(item) {
-        Some(r) => doubt_poll(alloc, plan, set, poller, before, &r),
-        None => Ok(None),
+        Some(r) => doubt_poll(alloc, plan, set, poller, before, mark, &r, last),
+        None => Ok(Judged { why: None, last }),
     }
 }
 
@@ -120,29 +177,37 @@ fn second_of_shelf(
 {
     let peer = shelf.peer;
     let journal = shelf.list.as_slice();
+    let mut last = None;
+    let mut mark = Mark {
+        place: 0,
+        high: 0,
+        seen: 0,
+    };
     for (i, item) in journal.iter().enumerate() {
         let before = &journal[..i];
-        let why = doubt_repair(alloc, plan, set, peer, before, item)?;
-        let doubt = doubt_at(peer, before, why);
+        let judged = doubt_repair(alloc, plan, set, peer, before, mark, item, last)?;
+        let doubt = doubt_at(peer, before, judged.why);
         if doubt.is_some() {
             return Ok(doubt);
         }
+        last = after(alloc, judged.last, item)?;
+        mark = marks::after(i, mark, item);
     }
     Ok(None)
 }
 
 /// The first round over all shelves.
-fn first_round(plan: &Plan, set: &[Shelf]) -> Option<Doubt>
+fn first_round(alloc: Global, plan: &Plan, set: &[Shelf]) -> Result<Option<Doubt>, OutOfMemory>
     requires { All IsShort set.now }
-    ensures { result ≡ each (search_of.first_of_shelf plan.now) [] set.now }
+    ensures { IfOk result (λ doubt. doubt ≡ each (search_of.first_of_shelf plan.now) [] set.now) }
 {
     for (k, shelf) in set.iter().enumerate() {
-        let doubt = first_of_shelf(plan, &set[..k], shelf);
+        let doubt = first_of_shelf(alloc, plan, &set[..k], shelf)?;
         if doubt.is_some() {
-            return doubt;
+            return Ok(doubt);
         }
     }
-    None
+    Ok(None)
 }
 
 /// The second round over all shelves.
@@ -176,7 +241,7 @@ fn find_doubt(alloc: Global, plan: &Plan, set: &[Shelf]) -> Result<Option<Doubt>
     requires { All IsShort set.now }
     ensures { IfOk result (λ doubt. doubt ≡ search_of.first_doubt plan.now set.now) }
 {
-    let doubt = first_round(plan, set);
+    let doubt = first_round(alloc, plan, set)?;
     if doubt.is_some() {
         return Ok(doubt);
     }

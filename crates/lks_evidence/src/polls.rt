@@ -1,21 +1,16 @@
 //! The poll that replaced a block: its opening, its votes, and what these say of the block.
 
-ghost use Rattle.std.specs.Prelude.{◌≡◌, IfOk, length, option_map, unwrap_or};
+ghost use Rattle.std.specs.Prelude.{◌≡◌, ◌≤◌, ◌-◌, nat_le, length, option_map, unwrap_or};
 ghost use Rattle.lks_law.specs.Polls.{limits_of, ballot_for};
 ghost use Rattle.lks_tally.specs.Keeping as keeping;
-ghost use Rattle.lks_evidence.specs.Rules.{told, first_twice, first_failing, poll_doubt_if};
+ghost use Rattle.lks_evidence.specs.declared.findings.Why.TheVariants as why;
+ghost use Rattle.lks_evidence.specs.Rules.{◌▹◌, unless, told, first_twice, first_failing};
 ghost use Rattle.lks_evidence.specs.Rules as rules;
 
-use crate::copies::{copy_of, put};
-use crate::findings::{Shelf, Why};
-use crate::hashing::count_for;
-use crate::records::{Opening, Repair, count_openings, find_opening, inner_votes_of, is_shut};
-use crate::voters::{count_in, doubt_voter};
-use lks_base::{
-    Bytes, Limits, OutOfMemory, PeerId, Plan, PollName, Record, Rules, obeys_quorum_rule,
-};
+use crate::findings::Why;
+use crate::records::{Opening, Repair, count_openings, is_shut};
+use lks_base::{Limits, PeerId, PollName, Record, Rules, obeys_quorum_rule};
 use lks_tally::{Ballot, Vote};
-use std::alloc::Global;
 
 /// A number of votes as a doubt tells it.
 #[tactic(auto, unfolding(crate::specs::Rules::told))]
@@ -57,7 +52,7 @@ fn first_unlike(count: u16, votes: &[Vote]) -> Option<PeerId>
 
 /// Whether each voter votes once, with a hash for each block.
 #[tactic(auto, unfolding(crate::specs::Rules::shape_doubt))]
-fn doubt_shape(count: u16, votes: &[Vote]) -> Option<Why>
+pub fn doubt_shape(count: u16, votes: &[Vote]) -> Option<Why>
     ensures { result ≡ rules.shape_doubt count votes.now }
 {
     if let Some(voter) = first_twice(votes) {
@@ -67,22 +62,12 @@ fn doubt_shape(count: u16, votes: &[Vote]) -> Option<Why>
 }
 
 /// Whether a quorum votes, and a minority at most for what was there.
-#[tactic(auto, unfolding(crate::specs::Rules::loss_doubt))]
-fn doubt_loss(
-    limits: Limits,
-    ballot: &Ballot,
-    votes: &[Vote],
-    copy: &[Bytes],
-    b: u16,
-) -> Option<Why>
-    ensures { result ≡ rules.loss_doubt limits ballot.now votes.now copy.now b }
+pub fn doubt_loss(limits: Limits, votes: usize, votes_for: usize) -> Option<Why>
+    ensures { result ≡ unless (nat_le limits.quorum votes) (why.Quorum (told votes)) ▹ unless (nat_le votes_for limits.minority) (why.For (told votes_for)) }
 {
-    if votes.len() < limits.quorum as usize {
-        return Some(Why::Quorum {
-            votes: told(votes.len()),
-        });
+    if votes < limits.quorum as usize {
+        return Some(Why::Quorum { votes: told(votes) });
     }
-    let votes_for = count_for(ballot, copy, b, votes);
     if votes_for > limits.minority as usize {
         return Some(Why::For {
             votes: told(votes_for),
@@ -92,11 +77,11 @@ fn doubt_loss(
 }
 
 /// Whether a minority at most votes against what came.
-#[tactic(auto, unfolding(crate::specs::Rules::win_doubt))]
-fn doubt_win(limits: Limits, ballot: &Ballot, votes: &[Vote], copy: &[Bytes], b: u16) -> Option<Why>
-    ensures { result ≡ rules.win_doubt limits ballot.now votes.now copy.now b }
+pub fn doubt_win(limits: Limits, votes: usize, votes_for: usize) -> Option<Why>
+    requires { votes_for ≤ votes }
+    ensures { result ≡ unless (nat_le (votes - votes_for) limits.minority) (why.Against (told (votes - votes_for))) }
 {
-    let votes_against = votes.len() - count_for(ballot, copy, b, votes);
+    let votes_against = votes - votes_for;
     if votes_against > limits.minority as usize {
         return Some(Why::Against {
             votes: told(votes_against),
@@ -105,34 +90,7 @@ fn doubt_win(limits: Limits, ballot: &Ballot, votes: &[Vote], copy: &[Bytes], b:
     None
 }
 
-/// What the votes leave in doubt of a repair, where the AU had these contents before it.
-fn doubt_votes(
-    alloc: Global,
-    plan: &Plan,
-    set: &[Shelf],
-    limits: Limits,
-    ballot: &Ballot,
-    votes: &[Vote],
-    copy: Vec<Bytes>,
-    r: &Repair<'_>,
-) -> Result<Option<Why>, OutOfMemory>
-    ensures { IfOk result (λ why. why ≡ rules.votes_doubt plan.now set.now limits ballot.now votes.now copy.items r.now) }
-{
-    let mut copy = copy;
-    if let Some(why) = doubt_shape(ballot.count, votes) {
-        return Ok(Some(why));
-    }
-    if let Some(why) = doubt_loss(limits, ballot, votes, &copy, r.block) {
-        return Ok(Some(why));
-    }
-    put(&mut copy, r.block, r.bytes)?;
-    if let Some(why) = doubt_win(limits, ballot, votes, &copy, r.block) {
-        return Ok(Some(why));
-    }
-    doubt_voter(alloc, plan.aus.as_slice(), set, ballot, votes)
-}
-
-fn limits_of(rules: &Rules, opening: &Opening<'_>) -> Limits
+pub fn limits_of(rules: &Rules, opening: &Opening<'_>) -> Limits
     ensures { result ≡ limits_of rules.now opening.now }
 {
     opening.limits.unwrap_or(Limits {
@@ -141,7 +99,7 @@ fn limits_of(rules: &Rules, opening: &Opening<'_>) -> Limits
     })
 }
 
-fn ballot_for(poller: PeerId, n: u32, opening: &Opening<'_>, count: u16) -> Ballot
+pub fn ballot_for(poller: PeerId, n: u32, opening: &Opening<'_>, count: u16) -> Ballot
     ensures { result ≡ ballot_for poller n opening.now count }
 {
     Ballot {
@@ -155,52 +113,10 @@ fn ballot_for(poller: PeerId, n: u32, opening: &Opening<'_>, count: u16) -> Ball
 
 /// Whether the poll was opened once, on the AU and with numbers that obey the quorum rule, and shut.
 #[tactic(auto, unfolding(crate::specs::Rules::is_polled))]
-fn is_polled(limits: Limits, before: &[Record], r: &Repair<'_>, opening: &Opening<'_>) -> bool
+pub fn is_polled(limits: Limits, before: &[Record], r: &Repair<'_>, opening: &Opening<'_>) -> bool
     ensures { result ≡ rules.is_polled limits before.now r.now opening.now }
 {
     count_openings(before, r.number) == 1
         && (opening.au == r.au
             && (is_shut(before, r.number) && obeys_quorum_rule(limits.quorum, limits.minority)))
-}
-
-/// What a poll that was opened so leaves in doubt of its repair.
-#[tactic(auto, unfolding(crate::specs::Rules::opened_doubt))]
-fn doubt_opened(
-    alloc: Global,
-    plan: &Plan,
-    set: &[Shelf],
-    poller: PeerId,
-    before: &[Record],
-    r: &Repair<'_>,
-    opening: &Opening<'_>,
-) -> Result<Option<Why>, OutOfMemory>
-    ensures { IfOk result (λ why. why ≡ rules.opened_doubt plan.now set.now poller before.now r.now opening.now) }
-{
-    let limits = limits_of(&plan.rules, opening);
-    if !is_polled(limits, before, r, opening) {
-        return Ok(Some(Why::Poll));
-    }
-    let count = count_in(plan.aus.as_slice(), r.au).unwrap_or(0);
-    let ballot = ballot_for(poller, r.number, opening, count);
-    let votes = inner_votes_of(alloc, before, r.number, opening.inner)?;
-    let copy = copy_of(alloc, before, r.au)?;
-    doubt_votes(alloc, plan, set, limits, &ballot, &votes, copy, r)
-}
-
-/// What its poll leaves in doubt of a repair in the poller's journal, which has these records before it.
-#[tactic(auto, unfolding(crate::specs::Rules::poll_doubt))]
-pub fn doubt_poll(
-    alloc: Global,
-    plan: &Plan,
-    set: &[Shelf],
-    poller: PeerId,
-    before: &[Record],
-    r: &Repair<'_>,
-) -> Result<Option<Why>, OutOfMemory>
-    ensures { IfOk result (λ why. why ≡ rules.poll_doubt plan.now set.now poller before.now r.now) }
-{
-    match find_opening(before, r.number) {
-        Some(opening) => doubt_opened(alloc, plan, set, poller, before, r, &opening),
-        None => Ok(Some(Why::Poll)),
-    }
 }

@@ -1,6 +1,6 @@
 //! What a journal says that evidence rests on.
 
-ghost use Rattle.std.specs.Prelude.{◌≡◌, ◌≤◌, IfOk, length, option_map};
+ghost use Rattle.std.specs.Prelude.{◌≡◌, ◌≤◌, IfOk, length, is_some, option_map};
 ghost use Rattle.lks_law.specs.Journal.{deposit_in, deposit_of, opening_in, opening_of, is_shut, vote_in};
 ghost use Rattle.lks_law.specs.Polls.{votes, inner_votes};
 ghost use Rattle.lks_law.specs.Sessions.{is_poll, commitment_in, commitment_of};
@@ -145,6 +145,13 @@ pub fn find_deposit(journal: &[Record], au: AuId) -> Option<&[Bytes]>
     None
 }
 
+/// Whether the record deposits the AU.
+pub fn deposits(r: &Record, au: AuId) -> bool
+    ensures { result ≡ is_some (deposit_in au r.now) }
+{
+    matches!(r, Record::Deposit { au: a, .. } if *a == au)
+}
+
 /// How often the AU is deposited.
 #[tactic(auto, unfolding(crate::specs::Records::deposits))]
 pub fn count_deposits(journal: &[Record], au: AuId) -> usize
@@ -219,6 +226,13 @@ pub fn find_opening(journal: &[Record], n: u32) -> Option<Opening<'_>>
     None
 }
 
+/// Whether the record opens the peer's poll `n`.
+pub fn opens(r: &Record, n: u32) -> bool
+    ensures { result ≡ is_some (opening_in n r.now) }
+{
+    matches!(r, Record::PollOpened { number, .. } if *number == n)
+}
+
 /// How often the peer opened its poll `n`.
 #[tactic(auto, unfolding(crate::specs::Records::openings))]
 pub fn count_openings(journal: &[Record], n: u32) -> usize
@@ -237,6 +251,13 @@ pub fn is_shut(journal: &[Record], n: u32) -> bool
     journal
         .iter()
         .any(|r| matches!(r, Record::Shut { number } if *number == n))
+}
+
+/// Whether the record says that a vote in the peer's poll `n` came in.
+pub fn is_vote(r: &Record, n: u32) -> bool
+    ensures { result ≡ is_some (vote_in n r.now) }
+{
+    matches!(r, Record::VoteIn { number, .. } if *number == n)
 }
 
 /// A copy of the vote that the record says came in, if it is of this poll.

@@ -1,19 +1,24 @@
 //! What the journals of voters say of their votes.
 
-ghost use Rattle.std.specs.Prelude.{◌≡◌, IfOk, length, option_map};
+ghost use Rattle.std.specs.Prelude.{◌≡◌, IfOk, length, option_map, take};
 ghost use Rattle.lks_law.specs.Journal.{is_number};
 ghost use Rattle.lks_law.specs.Sessions.{commitment_of};
-ghost use Rattle.lks_evidence.specs.Rules.{count_in, deposited, is_deposited, is_kind, is_committed, bears_out, shelf_of, is_founded, first_failing};
+ghost use Rattle.lks_base.specs.Kinds.{is_second};
+ghost use Rattle.lks_hash.specs.Running.{running};
+ghost use Rattle.lks_tally.specs.Counting.{key_for};
+ghost use Rattle.lks_tally.specs.Heads.{heads};
+ghost use Rattle.lks_evidence.specs.Recounts as recounts;
+ghost use Rattle.lks_evidence.specs.Rules.{count_in, deposited, is_deposited, is_kind, bears_out, shelf_of, is_founded};
 ghost use Rattle.lks_evidence.specs.Rules as rules;
 
 use crate::copies::copy_at;
 use crate::findings::{Shelf, Why};
-use crate::hashing::is_over;
+use crate::hashing::{Start, hash_before, start_over};
 use crate::records::{
     Commitment, count_commitments, count_deposits, count_joins, count_versions, find_commitment,
     find_deposit, find_join,
 };
-use lks_base::{AuId, AuPlan, HashKind, OutOfMemory, PeerId, Record};
+use lks_base::{AuId, AuPlan, Bytes, HashKind, OutOfMemory, PeerId, Record};
 use lks_tally::{Ballot, Vote};
 use std::alloc::Global;
 
@@ -71,25 +76,6 @@ fn is_for(ballot: &Ballot, journal: &[Record], commitment: &Commitment<'_>) -> b
         && commitment.version as usize <= count_versions(journal, ballot.au)
 }
 
-/// Whether it did, and the vote is the one over that version.
-#[tactic(auto, unfolding(crate::specs::Rules::is_committed))]
-fn is_committed(
-    alloc: Global,
-    ballot: &Ballot,
-    journal: &[Record],
-    vote: &Vote,
-) -> Result<bool, OutOfMemory>
-    ensures { IfOk result (λ r. r ≡ is_committed ballot.now journal.now vote.now (commitment_of ballot.now.poll journal.now)) }
-{
-    match find_commitment(journal, &ballot.poll) {
-        Some(named) if is_for(ballot, journal, &named) => {
-            let blocks = copy_at(alloc, journal, ballot.au, named.version as usize)?;
-            is_over(alloc, ballot, &blocks, vote)
-        }
-        Some(_) | None => Ok(false),
-    }
-}
-
 /// Whether the voter joined the poll once, on its AU.
 #[tactic(auto, unfolding(crate::specs::Rules::is_joined))]
 fn is_joined(ballot: &Ballot, journal: &[Record]) -> bool
@@ -99,24 +85,39 @@ fn is_joined(ballot: &Ballot, journal: &[Record]) -> bool
     count_joins(journal, &ballot.poll) == 1 && joined.is_some_and(|au| au == ballot.au)
 }
 
-/// Whether the voter's own journal bears out the vote.
-#[tactic(auto, unfolding(crate::specs::Rules::bears_out))]
-fn bears_out(
+/// The version to which the voter committed.
+fn version_if(
+    alloc: Global,
+    ballot: &Ballot,
+    journal: &[Record],
+) -> Result<Option<Vec<Bytes>>, OutOfMemory>
+    ensures { IfOk result (λ o. option_map (λ v. v.items) o ≡ recounts.version_if ballot.now journal.now (commitment_of ballot.now.poll journal.now)) }
+{
+    match find_commitment(journal, &ballot.poll) {
+        Some(named) if is_for(ballot, journal, &named) => {
+            Ok(Some(copy_at(alloc, journal, ballot.au, named.version as usize)?))
+        }
+        Some(_) | None => Ok(None),
+    }
+}
+
+/// The version over which a voter votes: the one to which its journal commits it, if it does as it has to.
+#[tactic(auto, unfolding(crate::specs::Recounts::version_of))]
+fn version_of(
     alloc: Global,
     aus: &[AuPlan],
     ballot: &Ballot,
     journal: &[Record],
-    vote: &Vote,
-) -> Result<bool, OutOfMemory>
-    ensures { IfOk result (λ r. r ≡ bears_out aus.now ballot.now journal.now vote.now) }
+) -> Result<Option<Vec<Bytes>>, OutOfMemory>
+    ensures { IfOk result (λ o. option_map (λ v. v.items) o ≡ recounts.version_of aus.now ballot.now journal.now) }
 {
     if !is_deposited(aus, ballot.au, journal)
         || !is_joined(ballot, journal)
         || count_commitments(journal, &ballot.poll) != 1
     {
-        return Ok(false);
+        return Ok(None);
     }
-    is_committed(alloc, ballot, journal, vote)
+    version_if(alloc, ballot, journal)
 }
 
 /// The first shelf of this peer.
@@ -132,38 +133,81 @@ fn shelf_of(set: &[Shelf], peer: PeerId) -> Option<&Shelf>
     None
 }
 
-/// Whether nothing in the set speaks against the vote.
+/// What a vote comes to, whose voter has this journal.
+fn start_of(
+    alloc: Global,
+    aus: &[AuPlan],
+    ballot: &Ballot,
+    journal: &[Record],
+    vote: &Vote,
+    copy: &[Bytes],
+    b: u16,
+) -> Result<Start, OutOfMemory>
+    ensures founded { IfOk result (λ s. s.founded ≡ bears_out aus.now ballot.now journal.now vote.now) }
+    ensures hash { IfOk result (λ s. s.hash ≡ running (is_second ballot.now.kind) (key_for ballot.now vote.now.voter) (take b copy.now)) }
+{
+    match version_of(alloc, aus, ballot, journal)? {
+        Some(version) => start_over(alloc, ballot, vote, &version, copy, b),
+        None => Ok(Start {
+            founded: false,
+            hash: hash_before(ballot, vote.voter, copy, b),
+        }),
+    }
+}
+
+/// What a vote comes to: whether nothing in the set speaks against it, and the voter's running hash over the blocks of the
+/// copy before block `b`.
 #[tactic(auto, unfolding(crate::specs::Rules::is_founded))]
-fn is_founded(
+fn start(
     alloc: Global,
     aus: &[AuPlan],
     set: &[Shelf],
     ballot: &Ballot,
     vote: &Vote,
-) -> Result<bool, OutOfMemory>
-    ensures { IfOk result (λ r. r ≡ is_founded aus.now set.now ballot.now vote.now) }
+    copy: &[Bytes],
+    b: u16,
+) -> Result<Start, OutOfMemory>
+    ensures founded { IfOk result (λ s. s.founded ≡ is_founded aus.now set.now ballot.now vote.now) }
+    ensures hash { IfOk result (λ s. s.hash ≡ running (is_second ballot.now.kind) (key_for ballot.now vote.now.voter) (take b copy.now)) }
 {
     match shelf_of(set, vote.voter) {
-        Some(shelf) => bears_out(alloc, aus, ballot, &shelf.list, vote),
-        None => Ok(true),
+        Some(shelf) => start_of(alloc, aus, ballot, &shelf.list, vote, copy, b),
+        None => Ok(Start {
+            founded: true,
+            hash: hash_before(ballot, vote.voter, copy, b),
+        }),
     }
 }
 
-/// The first vote against which the journal of its voter speaks.
+/// What the votes of a poll come to: the first against which the journal of its voter speaks, and each voter's hash.
+#[derive(Drop)]
+pub struct Begun {
+    pub doubt: Option<Why>,
+    pub hashes: Vec<[u8; 32]>,
+}
+
+/// What the votes come to before block `b` of the copy.
 #[tactic(auto, unfolding(crate::specs::Rules::voter_doubt))]
-pub fn doubt_voter(
+pub fn begin(
     alloc: Global,
     aus: &[AuPlan],
     set: &[Shelf],
     ballot: &Ballot,
     votes: &[Vote],
-) -> Result<Option<Why>, OutOfMemory>
-    ensures { IfOk result (λ why. why ≡ rules.voter_doubt aus.now set.now ballot.now votes.now) }
+    copy: &[Bytes],
+    b: u16,
+) -> Result<Begun, OutOfMemory>
+    ensures doubt { IfOk result (λ k. k.doubt ≡ rules.voter_doubt aus.now set.now ballot.now votes.now) }
+    ensures hashes { IfOk result (λ k. k.hashes.items ≡ heads ballot.now (take b copy.now) votes.now) }
 {
+    let mut doubt = None;
+    let mut hashes = Vec::new(alloc);
     for vote in votes {
-        if !is_founded(alloc, aus, set, ballot, vote)? {
-            return Ok(Some(Why::Vote { voter: vote.voter }));
+        let start = start(alloc, aus, set, ballot, vote, copy, b)?;
+        hashes.push(start.hash)?;
+        if doubt.is_none() && !start.founded {
+            doubt = Some(Why::Vote { voter: vote.voter });
         }
     }
-    Ok(None)
+    Ok(Begun { doubt, hashes })
 }
