@@ -14,10 +14,9 @@ use lks_hash::Steps;
 use lks_work::{Gate, Job, JobDone, TallyDone, TallyJob, hash_tally, hash_vote};
 use std::alloc::Global;
 use std::marker::Brand;
-use std::mem;
 use std::sync::ledger::{Blank, Ledger};
-use std::thread;
 use std::thread::Threads;
+use std::{mem, thread};
 
 /// From how many bytes on a batch is hashed by several threads: below, starting them takes longer than they save.
 pub const SHARED_BYTES: u64 = 262144;

@@ -18,12 +18,12 @@ use super::*;
 use Status::{Alarmed, Done, Doubted};
 use lks_disk::{Disk, MemDisk};
 use lks_outside::{MemSink, MemSource};
+use lks_work::FreeGate;
 use std::alloc::Global;
 use std::process::Abort;
-use lks_work::FreeGate;
 use std::sync::Wait;
-use std::thread::Threads;
 use std::test::Fail;
+use std::thread::Threads;
 
 const REPLAY: &[&str] = &["replay"];
 
@@ -576,7 +576,11 @@ fn replayed<R: Threads + Wait + Sync>(
 }
 
 /// Runs each script, and compares what it answers and writes.
-fn check_rows<R: Abort + Threads + Wait + Sync>(rt: &R, alloc: Global, rows: &[Row]) -> Result<(), Fail> {
+fn check_rows<R: Abort + Threads + Wait + Sync>(
+    rt: &R,
+    alloc: Global,
+    rows: &[Row],
+) -> Result<(), Fail> {
     for (at, (answer, script, report)) in rows.iter().enumerate() {
         let (status, written) = replayed(alloc, rt, REPLAY, script, &[], &[])?;
         assert_eq!(rt; status, *answer, "row {at}");

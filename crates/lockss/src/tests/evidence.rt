@@ -31,14 +31,22 @@ const MANY: &[&str] = &[PEERS, "settle\nshut 1 1\nsettle\n"];
 const ONE: &[&str] = &[HEAD, REPAIRED];
 
 /// What `journals` writes for a script.
-fn told<R: Abort + Threads + Wait + Sync>(rt: &R, alloc: Global, script: &[&str]) -> Result<Vec<u8>, Fail> {
+fn told<R: Abort + Threads + Wait + Sync>(
+    rt: &R,
+    alloc: Global,
+    script: &[&str],
+) -> Result<Vec<u8>, Fail> {
     let (status, written) = replayed(alloc, rt, JOURNALS, script, &[], &[])?;
     assert_eq!(rt; status, Done);
     Ok(written)
 }
 
 /// What `evidence` answers and writes.
-fn found<R: Threads + Wait + Sync>(alloc: Global, rt: &R, bytes: &[u8]) -> Result<(Status, Vec<u8>), Fail> {
+fn found<R: Threads + Wait + Sync>(
+    alloc: Global,
+    rt: &R,
+    bytes: &[u8],
+) -> Result<(Status, Vec<u8>), Fail> {
     let words = words_of(alloc, EVIDENCE)?;
     let mut source = MemSource::new(alloc, bytes.to_vec(alloc)?, [].to_vec(alloc)?);
     let mut sink = MemSink::new(alloc, [].to_vec(alloc)?);

@@ -11,4 +11,4 @@ invariant-loop-share l =
     (goal.iterator-loop-share).can_next l.share-iterator ×
     (goal.iterator-loop-share).is_finite l.share-iterator ×
     ((jobs : List (List Job)) → AllZip IsHashed jobs l.fn.shares.items
-        → (left : List (List Job)) × AllZip IsHashed left l.share-iterator.rest.items × (map asked_done l.all.items ++ map asked_of (flat_map (λ s. s) left) ≡ map asked_of (flat_map (λ s. s) jobs)))
+    → (left : List (List Job)) × AllZip IsHashed left l.share-iterator.rest.items × (map asked_done l.all.items ++ map asked_of (flat_map (λ s. s) left) ≡ map asked_of (flat_map (λ s. s) jobs)))
