@@ -1,0 +1,7 @@
+mod Again
+mod Beginnings
+mod FrameLaws
+mod HowFar
+mod Moving
+mod Onward
+mod Turning

@@ -1,0 +1,7 @@
+use Rattle.std.proofs.Common.{◌≡◌, drop}
+use Rattle.std.specs.Prelude.{max}
+use Rattle.lks_law.specs.Behind.{latest}
+use Rattle.lks_node.proofs.opening.latest.Given as goal
+
+abbrev pub invariant-loop-r : goal.invariant-loop-r
+invariant-loop-r l = max l.found (latest (drop l.r-index l.records)) ≡ latest l.records

@@ -1,0 +1,12 @@
+pub mod Again
+pub mod Being
+pub mod Codes
+pub mod Ending
+pub mod Framing
+pub mod Going
+pub mod Opening
+pub mod Orders
+pub mod Promise
+pub mod Replies
+pub mod Telling
+pub mod Words

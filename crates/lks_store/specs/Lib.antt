@@ -1,0 +1,3 @@
+pub mod Files
+pub mod Mem
+pub mod Opening
