@@ -10,6 +10,8 @@ repairs N
          one poll of three honest voters on 512 blocks of 3,072 bytes, of which the poller's first N are damaged
 widest N 32 honest peers on 256 blocks of 240 bytes, the first N of three of them damaged, each of which opens a poll of
          eight inner voters
+pair N   100 polls of two honest voters, one after another, on seven blocks of 16 KiB and one of N bytes: the two votes of each
+         are ready together
 together N
          N honest peers on 128 blocks of 16 KiB, each of which opens a poll whose voters are all others; the votes of all
          polls are hashed in one step, and the tallies of all in another
@@ -117,7 +119,14 @@ def widest(count):
         yield f"open {peer} 1\nfinish\n"
 
 
-FAMILIES = {"mend": mend, "small": small, "hash": large, "wide": wide, "repairs": repairs, "widest": widest, "together": together}
+def pair(last):
+    blocks = [f"{block:02x}*16384" for block in range(7)] + [f"07*{last}"]
+    yield from honest(range(1, 4), "inner 2 quorum 1 minority 0 outer 0 repairs 4", blocks)
+    for number in range(1, 101):
+        yield f"open 1 1\nsettle\nshut 1 {number}\nsettle\n"
+
+
+FAMILIES = {"mend": mend, "small": small, "hash": large, "wide": wide, "repairs": repairs, "widest": widest, "pair": pair, "together": together}
 
 if __name__ == "__main__":
     parser = argparse.ArgumentParser(description=__doc__, formatter_class=argparse.RawDescriptionHelpFormatter)
