@@ -30,6 +30,7 @@ const JOBS: [JobName; 4] = [
 ];
 
 /// Counts how often each of these jobs began, and all others, and how many entries were told.
+#[derive(Drop)]
 struct Counting {
     begun: [AtomicU64; 4],
     others: AtomicU64,
@@ -78,6 +79,7 @@ impl Gate for Counting {
 }
 
 /// Holds the first job that begins until another has begun.
+#[derive(Drop)]
 struct Holding {
     begun: AtomicU64,
     failed: AtomicU64,
