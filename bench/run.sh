@@ -1,8 +1,9 @@
 #!/bin/sh
 # Times the program on inputs that grow, and prints a line for each: what it is, the least of five times, or of TIMES, and
-# how what it writes ends. Run it by hand, on a machine that does nothing else: bench/run.sh [TIMES]
+# how what it writes ends. Run it by hand, on a machine that does nothing else: bench/run.sh [TIMES [replay | evidence]]
 count=${1:-5}
-[ "$count" -gt 0 ] 2>/dev/null || { echo "usage: bench/run.sh [TIMES]" >&2; exit 64; }
+only=${2:-}
+[ "$count" -gt 0 ] 2>/dev/null || { echo "usage: bench/run.sh [TIMES [replay | evidence]]" >&2; exit 64; }
 top=$(CDPATH= cd -- "$(dirname -- "$0")/.." && pwd) || exit 70
 program=$top/crates/lockss/out/lockss
 input=$(mktemp) || exit 70
@@ -27,11 +28,13 @@ print(f"{command} {run:14} {min(times) * 1000:9.1f} ms   {ended.stdout.decode().
 PYTHON
 }
 
-for run in "mend 16" "mend 32" "mend 64" "small 15" "small 30" "small 60" "small 115" "hash 2" "hash 4" "hash 8" "wide 1" "wide 2" "together 8"; do
+[ "$only" = evidence ] || for run in "mend 16" "mend 32" "mend 64" "small 15" "small 30" "small 60" "small 115" "hash 2" "hash 4" "hash 8" "wide 1" "wide 2" "pair 16383" "pair 16384" "together 8"; do
     # shellcheck disable=SC2086
     python3 "$top/bench/scripts.py" $run >"$input" || exit 70
     measure replay "$run"
 done
+
+[ "$only" = replay ] && exit 0
 
 # The journals of a run, whose plan needs no copies to examine them.
 for run in "repairs 100" "repairs 200" "repairs 400" "widest 64"; do
