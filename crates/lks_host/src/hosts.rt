@@ -1,7 +1,7 @@
 //! Hosts.
 
 ghost use Rattle.std.specs.List.{filter_map};
-ghost use Rattle.std.specs.Prelude.{◌≡◌, ◌≤◌, ◌+◌, ◌-◌, ◌*◌, [], ℕ, List, length, true, false, Some, None, Err, IfErr, IfOk, IfSome, OnErr, IsSome, is_some, IsErrOf, map, option_map, slice_get};
+ghost use Rattle.std.specs.Prelude.{◌≡◌, ◌≤◌, ◌+◌, ◌-◌, ◌*◌, [], ℕ, List, length, true, false, Some, None, Err, IfErr, IfOk, IfSome, OnErr, IsSome, is_some, IsErrOf, find, map, option_map, slice_get};
 ghost use Rattle.lks_base.specs.Checking.{plan_fault};
 ghost use Rattle.lks_base.specs.declared.records.Record.{Record as Recorded};
 ghost use Rattle.lks_disk.specs.Face.{HasFuse, HasLost};
@@ -17,9 +17,9 @@ ghost use Rattle.lks_law.specs.Table.{react_on};
 ghost use Rattle.lks_law.specs.Turning.{ready_on, turns_on, has_inner_in};
 ghost use Rattle.lks_law.specs.World.{deposits, station_of, standing_of, honest_peer};
 ghost use Rattle.lks_blocks.specs.Block.{AllOf};
-ghost use Rattle.lks_peer.specs.Accepting.{input_of, is_ready_for, tag_for, IsJobOf, StaysTold};
+ghost use Rattle.lks_peer.specs.Accepting.{input_of, is_ready_for, tag_for, works_in, IsJobOf, StaysTold};
 ghost use Rattle.lks_peer.specs.Knows.{knowing_of};
-ghost use Rattle.lks_work.specs.Names.{name_of, refs_of, refs_done, tag_done};
+ghost use Rattle.lks_work.specs.Names.{is_left, name_of, refs_of, refs_done, tag_done};
 
 use crate::answering::{answer, work_of};
 use crate::deposits::write_each;
@@ -271,6 +271,13 @@ impl<D: Disk> Host<D> {
     {
         let input = work_of(&done);
         self.act(rt, pool, tick, &input, Some(done))
+    }
+
+    /// The first work for which the peer is ready and whose job is none of these, in the order of `ready`.
+    pub fn work_left(&self, out: &[JobName]) -> Option<JobName>
+        ensures { result ≡ find (is_left out.now) (works_in self.now.peer.own self.now.peer.state) }
+    {
+        self.peer.work_left(out)
     }
 
     /// The work of this name as a job, to be hashed elsewhere. `None` exactly where the peer isn't ready for it.

@@ -1,31 +1,22 @@
--- A history and one event more: what may happen, what is asked, and what is due.
+-- A history and one event more: what may happen, and what is asked.
 use Rattle.std.proofs.Common.{◌≡◌, ◌<◌, ◌==◌, ◌∙◌, ap, sym, subst, ℕ, zero, suc, Bool, true, false, cond, List, [], ◌∷◌, ◌++◌, length, filter, refl, arith, append_assoc}
-use Rattle.std.specs.Prelude.{Option, Some, None, is_some, map, slice_get, ◌&&◌, ◌||◌}
-use Rattle.std.specs.List.{list_any, filter_map, cons_option, flat_map, range_with_len}
+use Rattle.std.specs.Prelude.{Option, Some, None, is_some, slice_get, ◌&&◌, ◌||◌}
+use Rattle.std.specs.List.{list_any}
 use Rattle.std.proofs.lemmas.Bool.{eq-eqb, and_from, or_left, or_right}
 use Rattle.std.proofs.lemmas.List.{length-append, append-nil}
 use Rattle.lks_alarm.specs.declared.alarms.Alarm.{Alarm}
 use Rattle.lks_base.specs.Checking.{has_honest}
-use Rattle.lks_base.specs.declared.events.Due.{Due}
-use Rattle.lks_base.specs.declared.events.Due.TheVariants.{Delivery, Own}
 use Rattle.lks_base.specs.declared.events.Event.{Event}
-use Rattle.lks_base.specs.declared.events.PeerStep.{PeerStep}
-use Rattle.lks_base.specs.declared.events.PeerStep.TheVariants.{Tally, Work}
 use Rattle.lks_base.specs.declared.limits.TheConstants.{MOST_EVENTS}
 use Rattle.lks_base.specs.declared.names.Judged.TheVariants.{Accepted, Refused}
-use Rattle.lks_base.specs.declared.names.PollName.{PollName}
 use Rattle.lks_base.specs.declared.plans.PeerPlan.{PeerPlan}
 use Rattle.lks_base.specs.declared.plans.Plan.{Plan}
-use Rattle.lks_base.specs.declared.records.Record.{Record}
 use Rattle.lks_effort.specs.declared.questions.Question.{Question}
 use Rattle.lks_law.specs.Alarms.{alarms_by, alarms_from, alarms}
-use Rattle.lks_law.specs.Due.{pending, works_at, tallies_at, ready_at, ready, turn_at, turn_of, turns_at, turns, first_own, first_due, first_waiting, next_to_lose, next_to_deliver, next_to_settle, next_to_finish}
+use Rattle.lks_law.specs.Due.{pending, first_waiting, next_to_lose}
 use Rattle.lks_law.specs.Facts.{HasJournal}
-use Rattle.lks_law.specs.Histories.{was_judged, IsHonest, MayStep, MayHappen, MayAllHappen, IsHistory}
-use Rattle.lks_law.specs.Journal.{openings, is_running, is_voting, is_widened, unanswered}
-use Rattle.lks_law.specs.Questions.{Verdicts, judged, question_at, asked_by, questions_from, questions, delivery_of, event_of}
-use Rattle.lks_law.specs.Reaction.{may_tally}
-use Rattle.lks_law.specs.Sessions.{may_work, committed_polls}
+use Rattle.lks_law.specs.Histories.{was_judged, IsHonest, MayHappen, MayAllHappen, IsHistory}
+use Rattle.lks_law.specs.Questions.{Verdicts, judged, question_at, asked_by, questions_from, questions, delivery_of}
 use Rattle.lks_law.specs.World.{World, Standing, is_honest, start, happens, happen_all, world}
 use Rattle.lks_law.proofs.Histories.{waiting_stands}
 use Rattle.lks_law.proofs.Journals.{journals_are_own}
@@ -87,62 +78,6 @@ standing_honest plan history place s at = by_plan (slice_get (filter is_honest p
     by_plan None listed has = absurd has
     by_plan (Some p) listed has = subst (λ own. IsHonest plan own.id) (sym has.0) (listed_honest plan.peers place p listed)
 
--- What is due may happen.
-
-abbrev MayEach : Plan → World → List PeerStep → Type 0
-MayEach plan w [] = Unit {0}
-MayEach plan w (s ∷ ss) = MayStep plan w s × MayEach plan w ss
-
-each_append : (plan : Plan) (w : World) (ss ts : List PeerStep) → MayEach plan w ss → MayEach plan w ts → MayEach plan w (ss ++ ts)
-each_append plan w [] ts first then = then
-each_append plan w (s ∷ ss) ts first then = (first.0, each_append plan w ss ts first.1 then)
-
-abbrev AreHonest : Plan → List Standing → Type 0
-AreHonest plan ss = (place : ℕ) (s : Standing) → slice_get ss place ≡ Some s → IsHonest plan s.own.id
-
-module _ (plan : Plan) (w : World) where
-  tallies_may : (id : ℕ) → IsHonest plan id → (ns : List ℕ) → MayEach plan w (map (Tally id) ns)
-  tallies_may id honest [] = tt
-  tallies_may id honest (n ∷ ns) = (honest, tallies_may id honest ns)
-
-  votes_may : (id : ℕ) → IsHonest plan id → (qs : List PollName) → MayEach plan w (map (Work id) qs)
-  votes_may id honest [] = tt
-  votes_may id honest (q ∷ qs) = (honest, votes_may id honest qs)
-
-  ready_may : (ss : List Standing) → AreHonest plan ss → MayEach plan w (flat_map ready_at ss)
-  unfolding works_at tallies_at
-  ready_may [] honest = tt
-  ready_may (s ∷ ss) honest =
-      each_append plan w (ready_at s) (flat_map ready_at ss)
-      (each_append plan w (works_at s) (tallies_at s)
-      (votes_may s.own.id (honest 0 s refl) (filter (λ q. may_work q s.journal) (committed_polls s.journal)))
-      (tallies_may s.own.id (honest 0 s refl) (filter (λ n. may_tally n s.journal) (range_with_len 1 (openings s.journal))))) (ready_may ss (λ k x at. honest (suc k) x at))
-
-  turn_may : (id : ℕ) → IsHonest plan id → (journal : List Record) (n : ℕ) (rest : List PeerStep) → MayEach plan w rest → MayEach plan w (cons_option (turn_of id journal n) rest)
-  unfolding turn_of
-  turn_may id honest journal n rest may = by_running (is_running n journal)
-    where
-      by_turn : (asked voting widened : Bool) → MayEach plan w (cons_option (turn_at id n asked voting widened) rest)
-      by_turn true voting widened = (honest, may)
-      by_turn false true true = (honest, may)
-      by_turn false true false = (honest, may)
-      by_turn false false widened = may
-
-      by_running : (b : Bool) → MayEach plan w (cons_option (cond b (turn_at id n (is_some (unanswered n journal)) (is_voting n journal) (is_widened n journal)) None) rest)
-      by_running true = by_turn (is_some (unanswered n journal)) (is_voting n journal) (is_widened n journal)
-      by_running false = may
-
-  turns_of : (id : ℕ) → IsHonest plan id → (journal : List Record) (ns : List ℕ) → MayEach plan w (filter_map (turn_of id journal) ns)
-  turns_of id honest journal [] = tt
-  turns_of id honest journal (n ∷ ns) = turn_may id honest journal n (filter_map (turn_of id journal) ns) (turns_of id honest journal ns)
-
-  turns_may : (ss : List Standing) → AreHonest plan ss → MayEach plan w (flat_map turns_at ss)
-  unfolding turns_at
-  turns_may [] honest = tt
-  turns_may (s ∷ ss) honest =
-      each_append plan w (turns_at s) (flat_map turns_at ss)
-      (turns_of s.own.id (honest 0 s refl) s.journal (range_with_len 1 (openings s.journal))) (turns_may ss (λ k x at. honest (suc k) x at))
-
 was_judged_is : (verdict : Verdicts) (before : List Question) (q : Option Question) → was_judged (judged verdict before q) ≡ is_some q
 was_judged_is verdict before None = refl
 was_judged_is verdict before (Some q) = by_verdict (verdict before q)
@@ -155,39 +90,6 @@ module _ (verdict : Verdicts) (plan : Plan) (history : List Event) where
   -- an envelope that was sent is delivered
   pub delivery_may : (i : ℕ) → i < length (world plan history).bag → MayHappen plan (world plan history) (delivery_of verdict plan history i)
   delivery_may i sent = (sent, was_judged_is verdict (questions plan history) (question_at (world plan history) i))
-
-  own_may : (ss : List PeerStep) (d : Due) → MayEach plan (world plan history) ss → first_own ss ≡ Some d → MayHappen plan (world plan history) (event_of verdict plan history d)
-  own_may [] d may is = absurd cc
-  own_may (s ∷ ss) d may is = let same : Own s ≡ d = cc in subst (λ x. MayHappen plan (world plan history) (event_of verdict plan history x)) same may.0
-
-  due_may : (waiting : List ℕ) (ss : List PeerStep) (d : Due) → pending plan history ≡ waiting → MayEach plan (world plan history) ss → first_due waiting ss ≡ Some d
-      → MayHappen plan (world plan history) (event_of verdict plan history d)
-  due_may [] ss d wait may is = own_may ss d may is
-  due_may (i ∷ is) ss d wait may due =
-      let same : Delivery i ≡ d = cc in
-      subst (λ x. MayHappen plan (world plan history) (event_of verdict plan history x)) same (delivery_may i (waiting_stands plan history i is wait))
-
-  works_may : MayEach plan (world plan history) (ready (world plan history))
-  unfolding ready
-  works_may = ready_may plan (world plan history) (world plan history).peers (standing_honest plan history)
-
-  all_turns_may : MayEach plan (world plan history) (turns (world plan history))
-  unfolding turns
-  all_turns_may = turns_may plan (world plan history) (world plan history).peers (standing_honest plan history)
-
-  pub deliver_may : (d : Due) → next_to_deliver plan history ≡ Some d → MayHappen plan (world plan history) (event_of verdict plan history d)
-  unfolding next_to_deliver
-  deliver_may d is = due_may (pending plan history) [] d refl tt is
-
-  pub settle_may : (d : Due) → next_to_settle plan history ≡ Some d → MayHappen plan (world plan history) (event_of verdict plan history d)
-  unfolding next_to_settle
-  settle_may d is = due_may (pending plan history) (ready (world plan history)) d refl works_may is
-
-  pub finish_may : (d : Due) → next_to_finish plan history ≡ Some d → MayHappen plan (world plan history) (event_of verdict plan history d)
-  unfolding next_to_finish
-  finish_may d is =
-      due_may (pending plan history) (ready (world plan history) ++ turns (world plan history)) d refl
-      (each_append plan (world plan history) (ready (world plan history)) (turns (world plan history)) works_may all_turns_may) is
 
   pub lose_may : (i : ℕ) → next_to_lose plan history ≡ Some i → i < length (world plan history).bag
   unfolding next_to_lose

@@ -5,6 +5,7 @@ pub mod Breaking
 pub mod Colliding
 pub mod Counts
 pub mod Doing
+pub mod Dues
 pub mod Fitting
 pub mod Growing
 pub mod Grown

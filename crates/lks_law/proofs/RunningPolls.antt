@@ -1,6 +1,6 @@
 -- The polls that run, as a journal has them, and one record more.
-use Rattle.std.proofs.Common.{◌≡◌, ◌∙◌, ap, sym, subst, ℕ, Bool, true, false, cond, eqb, not, List, [], ◌∷◌, ◌++◌, filter, refl}
-use Rattle.std.specs.Prelude.{Option, Some, None, is_some, map}
+use Rattle.std.proofs.Common.{◌≡◌, ◌∙◌, ap, sym, subst, ℕ, zero, suc, Bool, true, false, cond, eqb, not, List, [], ◌∷◌, ◌++◌, filter, refl}
+use Rattle.std.specs.Prelude.{Option, Some, None, is_some, map, slice_get}
 use Rattle.std.specs.List.{list_any, filter_map, cons_option}
 use Rattle.std.proofs.lemmas.Bool.{eqb-true, eq-eqb, or_parts}
 use Rattle.std.proofs.lemmas.List.{append-nil, append_assoc}
@@ -316,6 +316,18 @@ absent n f [] e = refl
 absent n f (p ∷ ps) e =
     let parts = not_first p n ps (eqb p.number n) e in
     λ i. off (eqb n p.number) (f p) p (eqb_swap n p.number ∙ parts.0) i ∷ absent n f ps parts.1 i
+
+-- each is found by its number
+pub found_at : (ps : List Poll) → AreApart ps → (k : ℕ) (p : Poll) → slice_get ps k ≡ Some p → poll_at p.number ps ≡ Some p
+found_at [] apart k p at = absurd cc
+found_at (x ∷ ps) apart zero p at =
+    let same : x ≡ p = cc in
+    ap (λ (y : Poll). cond (eqb y.number p.number) (Some y) (poll_at p.number ps)) same ∙ ap (λ b. cond b (Some p) (poll_at p.number ps)) (eq-eqb p.number p.number refl)
+found_at (x ∷ ps) apart (suc k) p at = by_test (eqb x.number p.number) refl (found_at ps apart.1 k p at)
+  where
+    by_test : (b : Bool) → eqb x.number p.number ≡ b → poll_at p.number ps ≡ Some p → cond (eqb x.number p.number) (Some x) (poll_at p.number ps) ≡ Some p
+    by_test true e found = let gone : None ≡ Some p = sym apart.0 ∙ ap (λ n. poll_at n ps) (eqb-true x.number p.number e) ∙ found in absurd cc
+    by_test false e found = ap (λ b. cond b (Some x) (poll_at p.number ps)) e ∙ found
 
 only : (n : ℕ) (f : Poll → Poll) (ps : List Poll) → AreApart ps → map (λ p. cond (eqb n p.number) (f p) p) ps ≡ changed n f ps
 only n f [] apart = refl

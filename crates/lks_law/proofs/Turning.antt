@@ -1,6 +1,6 @@
 -- A walk over the numbers of a journal's polls, which passes over those that don't run, is a walk over the running polls.
-use Rattle.std.proofs.Common.{◌≡◌, ◌∙◌, ap, sym, ℕ, Bool, true, false, cond, not, List, [], ◌∷◌, ◌++◌, filter, refl}
-use Rattle.std.specs.Prelude.{Option, Some, None, is_some, map, ◌&&◌}
+use Rattle.std.proofs.Common.{◌≡◌, ◌∙◌, ap, sym, subst, ℕ, Bool, true, false, cond, not, List, [], ◌∷◌, ◌++◌, filter, refl}
+use Rattle.std.specs.Prelude.{Option, Some, None, is_some, map, slice_get, ◌&&◌}
 use Rattle.std.specs.List.{filter_map, cons_option, range_with_len}
 use Rattle.std.proofs.lemmas.Bool.{eq-eqb}
 use Rattle.lks_base.specs.declared.events.PeerStep.TheVariants.{Tally, Work}
@@ -19,7 +19,7 @@ use Rattle.lks_law.specs.Written.{AreWritten}
 use Rattle.lks_law.proofs.Grown.{closed_more}
 use Rattle.lks_law.proofs.Kept.{same_opening}
 use Rattle.lks_law.proofs.Parts.{poll_of_pinned}
-use Rattle.lks_law.proofs.RunningPolls.{poll_as, running_in, polls_of, running_by}
+use Rattle.lks_law.proofs.RunningPolls.{poll_as, running_in, polls_of, running_by, found_at, AreApart}
 use Rattle.lks_law.proofs.Scans.{widened_is}
 use Rattle.lks_law.proofs.Standing.{poll_is, state_stands}
 use Rattle.lks_law.proofs.Writing.{written_more}
@@ -119,6 +119,12 @@ inner_is own js written n voter runs =
     by_opening None c e = refl
     by_opening (Some o) true e = absurd cc
     by_opening (Some o) false e = refl
+
+-- each poll of the state is found by its number
+pub poll_there : (own : Station) (js : List Record) → AreWritten [] js → (k : ℕ) (p : Poll) → slice_get (state_of own js).polls k ≡ Some p → poll_at p.number (state_of own js).polls ≡ Some p
+poll_there own js written k p at =
+    let stands = state_stands own js written in
+    found_at (state_of own js).polls (subst AreApart (sym stands.polls) stands.apart) k p at
 
 -- a poll that is found in the state runs
 pub runs_there : (own : Station) (js : List Record) → AreWritten [] js → (n : ℕ) → is_some (poll_at n (state_of own js).polls) ≡ true → is_running n js ≡ true

@@ -1,5 +1,5 @@
 -- What is due after a history: envelopes that wait, work that is ready, and turns of peers. It is chosen without a verdict.
-use Rattle.std.specs.Prelude.{ℕ, Bool, false, not, ◌==◌, if◌then◌else◌, Option, Some, None, is_some, List, [], ◌∷◌, ◌++◌, length, map, filter}
+use Rattle.std.specs.Prelude.{◌≡◌, ℕ, Bool, true, false, not, ◌==◌, if◌then◌else◌, Option, Some, None, is_some, List, [], ◌∷◌, ◌++◌, length, map, filter, slice_get}
 use Rattle.std.specs.List.{list_any, filter_map, flat_map, range_with_len}
 use Rattle.lks_base.specs.Steps.{Act, act_of}
 use Rattle.lks_base.specs.declared.events.Due.{Due}
@@ -7,7 +7,8 @@ use Rattle.lks_base.specs.declared.events.Due.TheVariants.{Delivery, Own}
 use Rattle.lks_base.specs.declared.events.Event.{Event}
 use Rattle.lks_base.specs.declared.events.Event.TheVariants.{Step, Cut, Tick, Lose, Forge, Crash}
 use Rattle.lks_base.specs.declared.events.PeerStep.{PeerStep}
-use Rattle.lks_base.specs.declared.events.PeerStep.TheVariants.{Widen, Shut, Tally, GiveUp, Work}
+use Rattle.lks_base.specs.declared.events.PeerStep.TheVariants.{OpenPoll, Widen, Shut, Tally, Nudge, GiveUp, Work, Expire, Check, Tune, Deliver}
+use Rattle.lks_base.specs.declared.names.Judged.{Judged}
 use Rattle.lks_base.specs.declared.plans.Plan.{Plan}
 use Rattle.lks_base.specs.declared.records.Record.{Record}
 use Rattle.lks_law.specs.Journal.{openings, is_running, is_voting, is_widened, unanswered}
@@ -101,3 +102,53 @@ next_to_settle plan history = first_due (pending plan history) (ready (world pla
 -- until nothing is due, else a peer takes its turn.
 unfoldable pub next_to_finish : Plan → List Event → Option Due
 next_to_finish plan history = first_due (pending plan history) (ready (world plan history) ++ turns (world plan history))
+
+-- What is due at all, of which threads take what they meet: each envelope that waits and each ready work, and the turns of peers
+-- only where there is neither.
+
+abbrev pub or_else : List Due → List Due → List Due
+or_else [] others = others
+or_else (d ∷ ds) others = d ∷ ds
+
+unfoldable pub dues : Plan → List Event → List Due
+dues plan history =
+    or_else (map Delivery (pending plan history) ++ map Own (ready (world plan history))) (map Own (turns (world plan history)))
+
+-- the event of what is due, whatever a judge says
+abbrev pub IsEventOf : Due → Event → Type 0
+IsEventOf (Delivery i) e = (says : Judged) × (e ≡ Step (Deliver i says))
+IsEventOf (Own s) e = e ≡ Step s
+
+-- the event is due after this history
+pub record IsDue (plan : Plan) (history : List Event) (e : Event) : Type 0 where
+  pub due : Due
+  pub place : ℕ
+  pub there : slice_get (dues plan history) place ≡ Some due
+  pub made : IsEventOf due e
+
+-- whether a step is the hashing of a vote or of a tally
+abbrev pub is_work : PeerStep → Bool
+is_work (OpenPoll peer au) = false
+is_work (Widen peer number) = false
+is_work (Shut peer number) = false
+is_work (Tally peer number) = true
+is_work (Nudge peer number) = false
+is_work (GiveUp peer number) = false
+is_work (Work peer poll) = true
+is_work (Expire peer poll) = false
+is_work (Check peer) = false
+is_work (Tune peer quorum minority repairs) = false
+is_work (Deliver envelope says) = false
+
+abbrev pub is_work_event : Event → Bool
+is_work_event (Step s) = is_work s
+is_work_event (Cut s kept) = is_work s
+is_work_event (Tick by) = false
+is_work_event (Lose envelope) = false
+is_work_event (Forge from to bytes) = false
+is_work_event (Crash peer) = false
+
+-- each of these events is due at its place
+abbrev pub AreDue : Plan → List Event → List Event → Type 0
+AreDue plan history [] = Unit {0}
+AreDue plan history (e ∷ es) = IsDue plan history e × AreDue plan (history ++ e ∷ []) es

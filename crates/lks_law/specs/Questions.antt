@@ -1,5 +1,5 @@
 -- What the judge of proofs of effort is asked in a history, and how it judges what is delivered.
-use Rattle.std.specs.Prelude.{ℕ, Bool, if◌then◌else◌, Option, Some, None, List, [], ◌∷◌, ◌++◌, slice_get}
+use Rattle.std.specs.Prelude.{◌≡◌, ℕ, Bool, if◌then◌else◌, Option, Some, None, List, [], ◌∷◌, ◌++◌, slice_get}
 use Rattle.std.specs.Option.{option_to_list}
 use Rattle.lks_base.specs.Steps.{Act, act_of}
 use Rattle.lks_base.specs.declared.events.Due.{Due}
@@ -86,3 +86,32 @@ delivery_of verdict plan history i = Step (Deliver i (judged verdict (questions 
 abbrev pub event_of : Verdicts → Plan → List Event → Due → Event
 event_of verdict plan history (Delivery i) = delivery_of verdict plan history i
 event_of verdict plan history (Own s) = Step s
+
+-- a step that a peer takes of its own asks nothing
+abbrev pub OwnAsksNothing : World → Due → Type 0
+OwnAsksNothing w (Delivery i) = Unit {0}
+OwnAsksNothing w (Own s) = question_on w s ≡ None
+
+-- Which events carry what a judge says: a delivery has the verdict on the question that it puts, after these questions.
+
+abbrev pub IsJudgedStep : Verdicts → List Question → World → PeerStep → Type 0
+IsJudgedStep verdict before w s = Says (act_of s) where
+  Says : Act → Type 0
+  Says (Act.Own peer) = Unit {0}
+  Says (Act.Delivery envelope says) = says ≡ judged verdict before (question_at w envelope)
+
+abbrev pub IsJudged : Verdicts → List Question → World → Event → Type 0
+IsJudged verdict before w (Step s) = IsJudgedStep verdict before w s
+IsJudged verdict before w (Cut s kept) = IsJudgedStep verdict before w s
+IsJudged verdict before w (Tick by) = Unit {0}
+IsJudged verdict before w (Lose envelope) = Unit {0}
+IsJudged verdict before w (Forge from to bytes) = Unit {0}
+IsJudged verdict before w (Crash peer) = Unit {0}
+
+abbrev pub AreJudgedFrom : Verdicts → List Question → World → List Event → Type 0
+AreJudgedFrom verdict before w [] = Unit {0}
+AreJudgedFrom verdict before w (e ∷ es) = IsJudged verdict before w e × AreJudgedFrom verdict (before ++ asked_by w e) (happens w e) es
+
+-- each delivery of a history has the verdict on its question after the questions before
+unfoldable pub AreJudged : Verdicts → Plan → List Event → Type 0
+AreJudged verdict plan history = AreJudgedFrom verdict [] (start plan) history

@@ -19,7 +19,7 @@ ghost use Rattle.lks_law.specs.Batches.{together, journal_at, batches_at};
 ghost use Rattle.lks_law.specs.Behind.{latest, StandsBehind, StandBehind, AreHeardBehind};
 ghost use Rattle.lks_law.specs.Broken.{with_lax_numbers, with_one_vote, with_one_voter, with_later_votes, with_strange_vote, with_strange_bytes, with_no_envelope};
 ghost use Rattle.lks_law.specs.Circles.{Samples};
-ghost use Rattle.lks_law.specs.Due.{next_to_finish, ready_at, turns_at};
+ghost use Rattle.lks_law.specs.Due.{dues, next_to_finish, ready_at, turns_at};
 ghost use Rattle.lks_law.specs.Entries.{entries, is_inner};
 ghost use Rattle.lks_law.specs.Facts.{IsHeard, AddsFor, IsJournalOf, HaveJournals, HasPolls};
 ghost use Rattle.lks_law.specs.Fitting.{Fits, AreFitting, IsSound, has_room, most_numbered};
@@ -80,9 +80,11 @@ pub fn every_history_goes_on()
     ensures more { (plan : Plan) (history : List Event) (e : Event) → IsHistory plan history → length history < MOST_EVENTS → MayHappen plan (world plan history) e → IsHistory plan (history ++ e ∷ []) }
 {}
 
-/// What is due in the world of a history may happen there, whatever the judge says.
+/// Whatever is due in the world of a history may happen there, whatever the judge says. What comes next until nothing is due is
+/// the first of it.
 pub fn whatever_is_due_may_happen()
-    ensures { (verdict : Verdicts) (plan : Plan) (history : List Event) (d : Due) → next_to_finish plan history ≡ Some d → MayHappen plan (world plan history) (event_of verdict plan history d) }
+    ensures may { (verdict : Verdicts) (plan : Plan) (history : List Event) (place : ℕ) (d : Due) → slice_get (dues plan history) place ≡ Some d → MayHappen plan (world plan history) (event_of verdict plan history d) }
+    ensures first { (plan : Plan) (history : List Event) → next_to_finish plan history ≡ slice_get (dues plan history) 0 }
 {}
 
 /// What an event asks and what it raises comes behind the questions and the alarms of the events before it.

@@ -1,5 +1,6 @@
 -- Work that leaves a peer as a job, and comes back.
-use Rattle.std.specs.Prelude.{◌≡◌, ◌≢◌, ◌==◌, ◌&&◌, Bool, false, Option, Some, None, is_some, List, [], map}
+use Rattle.std.specs.Prelude.{◌≡◌, ◌≢◌, ◌==◌, ◌&&◌, ◌++◌, ℕ, Bool, false, not, if◌then◌else◌, Option, Some, None, is_some, List, [], map}
+use Rattle.std.specs.List.{filter_map}
 use Rattle.lks_audit.specs.Kept.{Kept, kept_at}
 use Rattle.lks_audit.specs.Tallying.{IsTallyIn, is_ready, tag_ready}
 use Rattle.lks_versions.specs.declared.places.Place.{Place}
@@ -8,7 +9,7 @@ use Rattle.lks_base.specs.declared.reactions.Input.{Input}
 use Rattle.lks_base.specs.declared.reactions.Input.TheVariants as input
 use Rattle.lks_law.specs.Polls.{Station}
 use Rattle.lks_law.specs.State.{Poll, State, poll_at}
-use Rattle.lks_law.specs.Taking.{pinned_at}
+use Rattle.lks_law.specs.Taking.{Pinned, pinned_at}
 use Rattle.lks_peer.specs.declared.faults.AcceptFault.{AcceptFault}
 use Rattle.lks_peer.specs.declared.faults.AcceptFault.TheVariants.{Stale, Memory}
 use Rattle.lks_sessions.specs.Working.{IsVoteIn, tag_waiting}
@@ -46,6 +47,14 @@ is_poll_ready (Some p) = is_ready p
 abbrev pub is_ready_for : Station → State → JobName → Bool
 is_ready_for own s (names.Vote peer poll) = (peer == own.id) && is_some (pinned_at poll s.voter.pinned)
 is_ready_for own s (names.Tally peer number) = (peer == own.id) && is_poll_ready (poll_at number s.polls)
+
+-- the tally of a running poll that is shut and waits for nothing
+abbrev pub tally_in : ℕ → Poll → Option JobName
+tally_in id p = if p.shut && not (is_some p.request) then Some (names.Tally id p.number) else None
+
+-- all work for which the peer is ready: the votes in order of its commitments, and then the tallies in order of its running polls
+abbrev pub works_in : Station → State → List JobName
+works_in own s = map (λ (p : Pinned). names.Vote own.id p.session.poll) s.voter.pinned ++ filter_map (tally_in own.id) s.polls
 
 -- It is the vote of the session, or the tally of the poll with as many hashes as are kept, where deposits stand at these places.
 abbrev pub IsJobOf : Station → State → List Kept → List Place → JobName → Job → Type 0

@@ -1,10 +1,11 @@
 //! The work for which a peer is ready, as jobs, and what a result of such work finds.
 
-ghost use Rattle.std.specs.Prelude.{◌≡◌, ◌↔◌, ◌==◌, ◌&&◌, ℕ, List, IsTrue, IfOk, IfSome, Some, is_some, All};
+ghost use Rattle.std.specs.Prelude.{◌≡◌, ◌↔◌, ◌==◌, ◌&&◌, ◌++◌, ℕ, List, IsTrue, IfOk, IfSome, Some, is_some, All, find, map};
+ghost use Rattle.std.specs.List.{filter_map};
 ghost use Rattle.lks_audit.specs.Copied.{copies_of};
 ghost use Rattle.lks_audit.specs.Copied.{IsOf as IsCopyOf};
 ghost use Rattle.lks_audit.specs.Kept.{kept_at, kept_of};
-ghost use Rattle.lks_audit.specs.Seen.{polls_of, IsOn};
+ghost use Rattle.lks_audit.specs.Seen.{poll_of, polls_of, IsOn};
 ghost use Rattle.lks_audit.specs.Tallying.{IsTallyIn};
 ghost use Rattle.lks_blocks.specs.Block.{AllOf};
 ghost use Rattle.lks_law.specs.State.{poll_at};
@@ -15,12 +16,13 @@ ghost use Rattle.lks_peer.specs.Knows.{state_of, IsTied};
 ghost use Rattle.lks_sessions.specs.Kept.{voter_of, IsOf};
 ghost use Rattle.lks_sessions.specs.Sendable.{IsSendable};
 ghost use Rattle.lks_sessions.specs.Working.{IsVoteIn};
-ghost use Rattle.lks_work.specs.Names.{name_of, refs_of};
+ghost use Rattle.lks_work.specs.Names.{is_left, name_of, refs_of};
 ghost use Rattle.lks_work.specs.declared.jobs.JobName.TheVariants as names;
 
 use crate::known::Known;
 use lks_audit::{Held, Station, find_poll, tag_ready};
 use lks_base::{OutOfMemory, PeerId, PollName, Seq};
+use lks_poller::PollSession;
 use lks_sessions::{Sessions, tag_waiting};
 use lks_versions::{PinTag, Place};
 use lks_work::{Job, JobDone, JobName, TallyJob, VoteJob};
@@ -90,6 +92,44 @@ fn tally_job(
     }
 }
 
+/// The tally of this poll, if the peer is ready for it.
+fn tally_in(id: PeerId, poll: &PollSession) -> Option<JobName>
+    ensures { result ≡ accepting.tally_in id (poll_of poll.now) }
+{
+    if poll.is_shut() && poll.unanswered().is_none() {
+        Some(JobName::Tally {
+            peer: id,
+            number: poll.poll().number,
+        })
+    } else {
+        None
+    }
+}
+
+fn tally_left(id: PeerId, polls: &[PollSession], out: &[JobName]) -> Option<JobName>
+    ensures { result ≡ find (is_left out.now) (filter_map (λ s. accepting.tally_in id (poll_of s)) polls.now) }
+{
+    for poll in polls {
+        if let Some(name) = tally_in(id, poll) {
+            if name.is_left(out) {
+                return Some(name);
+            }
+        }
+    }
+    None
+}
+
+/// The first work, votes before tallies, for which the peer is ready and whose job is none of these.
+#[tactic(auto, using(crate::proofs::Listing::left_front, crate::proofs::Listing::left_behind))]
+pub fn work_left(id: PeerId, known: &Known, out: &[JobName]) -> Option<JobName>
+    ensures { result ≡ find (is_left out.now) (map (λ p. names.Vote id p.session.poll) (voter_of known.now.sessions).pinned ++ filter_map (accepting.tally_in id) (polls_of known.now.polls)) }
+{
+    match known.sessions.vote_left(id, out) {
+        Some(name) => Some(name),
+        None => tally_left(id, known.polls.as_slice(), out),
+    }
+}
+
 /// The work of this name as a job, if the peer is ready for it.
 pub fn job(
     alloc: Global,
@@ -130,7 +170,7 @@ pub fn tag_for(known: &Known, places: &[Place], done: &JobDone) -> Option<PinTag
     }
 }
 
-/// Whether it is this name.
+/// Whether the version that is expected is the one of this name.
 pub fn is_tag(expected: Option<PinTag>, found: PinTag) -> bool
     ensures { IsTrue result ↔ (expected ≡ Some found) }
 {

@@ -11,5 +11,6 @@ mod reacting;
 mod rows;
 
 pub use faults::AcceptFault;
+pub use jobs::is_tag;
 pub use lks_base::{Input, Outgoing, Reaction};
 pub use peers::{Peer, find_honest};

@@ -19,11 +19,11 @@ ghost use Rattle.lks_law.specs.Table.{react_on};
 ghost use Rattle.lks_law.specs.State.{after, after_all, blank, poll_at};
 ghost use Rattle.lks_law.specs.Turning.{ready_in, turn_in, ready_on, turns_on, has_inner_in};
 ghost use Rattle.lks_law.specs.World.{station_of, is_honest_at, honest_peer};
-ghost use Rattle.lks_peer.specs.Accepting.{input_of, is_ready_for, tag_for, IsJobOf, IsRefused, StaysTold, WhereStale};
+ghost use Rattle.lks_peer.specs.Accepting.{input_of, is_ready_for, tag_for, works_in, IsJobOf, IsRefused, StaysTold, WhereStale};
 ghost use Rattle.lks_peer.specs.Keeping.{Keeps, kept_after, kept_after_all};
 ghost use Rattle.lks_peer.specs.Knows.{state_of, IsFit, IsWell, IsMade, knowing_of};
 ghost use Rattle.lks_sessions.specs.Kept.{voter_of};
-ghost use Rattle.lks_work.specs.Names.{name_of, refs_of, refs_done, tag_done};
+ghost use Rattle.lks_work.specs.Names.{is_left, name_of, refs_of, refs_done, tag_done};
 
 use crate::faults::AcceptFault;
 use crate::jobs;
@@ -307,6 +307,14 @@ impl Peer {
             self.places = places_of(self.alloc, self.known.copies.as_slice())?;
         }
         Ok(())
+    }
+
+    /// The first work for which the peer is ready and whose job is none of these: the votes of its sessions in order of their
+    /// commitments, and then the tallies in order of its running polls.
+    pub fn work_left(&self, out: &[JobName]) -> Option<JobName>
+        ensures { result ≡ find (is_left out.now) (works_in self.now.own self.now.state) }
+    {
+        jobs::work_left(self.own.id, &self.known, out)
     }
 
     /// The work of this name as a job, to be hashed elsewhere: a vote over the version to which the peer committed, or the

@@ -15,6 +15,8 @@ ghost use Rattle.lks_law.specs.Sessions.{is_poll};
 ghost use Rattle.lks_law.specs.Taking.{newcomer, voter_after, session_at, pinned_at, cast_at, mark_at};
 ghost use Rattle.lks_sessions.specs.Kept.{session_of, pinned_of, cast_of, voter_of, IsOf, StaysOf, StaysSendable};
 ghost use Rattle.lks_sessions.specs.Sendable.{IsSendable, MayServe, PinsBlocks};
+ghost use Rattle.lks_work.specs.Names.{is_left};
+ghost use Rattle.lks_work.specs.declared.jobs.JobName.TheVariants as names;
 
 use crate::marks::{Mark, can_all_grow, count_given, count_received, mark_of};
 use crate::moves;
@@ -24,6 +26,7 @@ use crate::stages::{
 use lks_base::{AuId, HashKind, Hashes, OutOfMemory, PeerId, PeerStep, PollName, Rules};
 use lks_blocks::Refs;
 use lks_voter::Joined;
+use lks_work::JobName;
 use std::alloc::Global;
 use std::marker::Model;
 
@@ -85,6 +88,21 @@ fn ready_among(pinned: &[PinnedSession], id: PeerId, k: u32) -> Option<PeerStep>
         peer: id,
         poll: pinned[k as usize].committed.joined().poll(),
     })
+}
+
+fn vote_left(pinned: &[PinnedSession], id: PeerId, out: &[JobName]) -> Option<JobName>
+    ensures { result ≡ find (is_left out.now) (map (λ p. names.Vote id p.session.poll) (map pinned_of pinned.now)) }
+{
+    for session in pinned {
+        let name = JobName::Vote {
+            peer: id,
+            poll: session.committed.joined().poll(),
+        };
+        if name.is_left(out) {
+            return Some(name);
+        }
+    }
+    None
 }
 
 impl Sessions {
@@ -312,5 +330,12 @@ impl Sessions {
         ensures { result ≡ slice_get (map (λ p. steps.Work id p.session.poll) (voter_of self.now).pinned) k }
     {
         ready_among(&self.pinned, id, k)
+    }
+
+    /// The first vote, in order of the commitments, for which this peer is ready and whose job is none of these.
+    pub fn vote_left(&self, id: PeerId, out: &[JobName]) -> Option<JobName>
+        ensures { result ≡ find (is_left out.now) (map (λ p. names.Vote id p.session.poll) (voter_of self.now).pinned) }
+    {
+        vote_left(&self.pinned, id, out)
     }
 }

@@ -25,6 +25,7 @@
 mod gates;
 mod hashing;
 mod jobs;
+mod names;
 mod results;
 
 pub use gates::{FreeGate, Gate};

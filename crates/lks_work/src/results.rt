@@ -4,7 +4,7 @@ ghost use Rattle.std.specs.Prelude.{◌≡◌};
 ghost use Rattle.lks_tally.specs.Keeping.{kept_after};
 ghost use Rattle.lks_work.specs.Asked.{verdict_of, vote_of};
 
-use crate::jobs::{TallyJob, VoteJob};
+use crate::jobs::{JobName, TallyJob, VoteJob};
 use lks_base::Hashes;
 use lks_tally::Verdict;
 use lks_versions::PinTag;
@@ -36,7 +36,23 @@ pub enum JobDone {
 }
 
 impl JobDone {
-    ghost use Rattle.lks_work.specs.Names.{tag_done};
+    ghost use Rattle.lks_work.specs.Names.{name_done, tag_done};
+
+    /// Which job was done.
+    pub fn name(&self) -> JobName
+        ensures { result ≡ name_done self.now }
+    {
+        match self {
+            JobDone::Vote(done) => JobName::Vote {
+                peer: done.job.peer,
+                poll: done.job.poll,
+            },
+            JobDone::Tally(done) => JobName::Tally {
+                peer: done.job.peer,
+                number: done.job.number,
+            },
+        }
+    }
 
     /// The name of the version that was hashed.
     pub fn tag(&self) -> PinTag

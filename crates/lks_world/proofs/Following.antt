@@ -14,7 +14,7 @@ use Rattle.lks_base.specs.declared.events.PeerStep.{PeerStep}
 use Rattle.lks_base.specs.declared.limits.TheConstants.{MOST_EVENTS}
 use Rattle.lks_base.specs.declared.plans.PeerPlan.{PeerPlan}
 use Rattle.lks_base.specs.declared.plans.Plan.{Plan}
-use Rattle.lks_law.proofs.Happening.{history_more, delivery_may, deliver_may, settle_may, finish_may, lose_may}
+use Rattle.lks_law.proofs.Happening.{history_more, delivery_may, lose_may}
 use Rattle.lks_law.specs.Due.{next_to_settle, next_to_deliver, next_to_lose, next_to_finish}
 use Rattle.lks_host.proofs.Cuts.{none_or_some}
 use Rattle.lks_law.specs.Histories.{MayStep, MayHappen, IsHistory, added_by}
@@ -25,6 +25,7 @@ use Rattle.lks_script.specs.StepRules.{is_step_of, are_steps_of}
 use Rattle.lks_script.specs.declared.steps.Step.{Step}
 use Rattle.lks_script.specs.declared.steps.Step.TheVariants as step
 use Rattle.lks_world.proofs.CutLaws.{cut_may, honest_at, some_length}
+use Rattle.lks_world.proofs.DueLaws.{course_may}
 use Rattle.lks_world.proofs.OwnSteps.{step_may, ticks_within, forgery_may, crash_may, cut_legal}
 use Rattle.lks_world.specs.Cuts.{taker_of, step_cut, IsCutOff, Cuts, CutsOff}
 use Rattle.lks_saying.proofs.Ends.{said_may}
@@ -33,6 +34,7 @@ use Rattle.lks_saying.specs.Bytes.{AreBytes, GivesBytes, GiveBytes}
 use Rattle.lks_saying.specs.Sayings.{Saying, MayBeSaid, said_by}
 use Rattle.lks_world.specs.Follows.{next_event, done_within, done, lost, delivered_again, spoken, Performs, Follows}
 use Rattle.lks_world.specs.Kept.{kept}
+use Rattle.lks_world.specs.declared.settling.Course.TheVariants.{Settling, Delivering, Finishing}
 
 -- ---- one event more, or a few
 
@@ -134,13 +136,13 @@ module _ (verdict : Verdicts) (plan : Plan) (good : plan_fault plan ≡ None) (p
   performed_history history after (step.Tick by) is legal are made =
       subst (IsHistory plan) (sym made) (kept_history plan history (events.Tick by) is (ticks_within plan (step.Tick by) by refl legal))
   performed_history history after (step.Next times) is legal are made =
-      subst (IsHistory plan) (sym made) (done_history plan (next_event verdict next_to_deliver) times history (event_may plan verdict next_to_deliver (deliver_may verdict plan)) is)
+      subst (IsHistory plan) (sym made) (done_history plan (next_event verdict next_to_deliver) times history (event_may plan verdict next_to_deliver (λ h d next. course_may plan h verdict Delivering d next)) is)
   performed_history history after step.Lose is legal are made = subst (IsHistory plan) (sym made) (lost_history plan verdict history is)
   performed_history history after (step.Again envelope) is legal are made = subst (IsHistory plan) (sym made) (again_history plan verdict envelope history is)
   performed_history history after step.Settle is legal are made =
-      subst (IsHistory plan) (sym made) (done_history plan (next_event verdict next_to_settle) MOST_EVENTS history (event_may plan verdict next_to_settle (settle_may verdict plan)) is)
+      subst (IsHistory plan) (sym made) (done_history plan (next_event verdict next_to_settle) MOST_EVENTS history (event_may plan verdict next_to_settle (λ h d next. course_may plan h verdict Settling d next)) is)
   performed_history history after step.Finish is legal are made =
-      subst (IsHistory plan) (sym made) (done_history plan (next_event verdict next_to_finish) MOST_EVENTS history (event_may plan verdict next_to_finish (finish_may verdict plan)) is)
+      subst (IsHistory plan) (sym made) (done_history plan (next_event verdict next_to_finish) MOST_EVENTS history (event_may plan verdict next_to_finish (λ h d next. course_may plan h verdict Finishing d next)) is)
   performed_history history after (step.Forge from to bytes) is legal are made =
       let may = forgery_may plan (step.Forge from to bytes) from to bytes refl legal in
       subst (IsHistory plan) (sym made) (kept_history plan history (events.Forge from to bytes) is (record { corrupt = may.0; known = may.1; few = may.2; are = are }))

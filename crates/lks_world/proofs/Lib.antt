@@ -5,24 +5,30 @@ pub mod BegunUpTo
 pub mod CountLaws
 mod CutActs
 mod CutLaws
+mod DueLaws
 mod Ending
 mod Fallen
 mod Following
 mod FuseLaws
+mod GivingLaws
 mod HeldOnce
 mod HostLaws
+mod Judging
 mod Keeping
 mod Named
 mod NextLaws
 mod OwnSteps
+mod Places
 mod PowerEnds
 pub mod PowerLaws
 mod ReadyLaws
 mod SeatEnds
+mod Remembering
 mod SeatLaws
 pub mod ServingLaws
 mod StateLaws
 pub mod Stopped
+mod Turned
 mod Unsafe
 mod UpTo
 mod Watched

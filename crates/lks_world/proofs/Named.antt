@@ -17,11 +17,11 @@ use Rattle.lks_base.specs.declared.reactions.Reaction.{Reaction}
 use Rattle.lks_base.specs.declared.records.Record.{Record}
 use Rattle.lks_law.specs.Table.{react_on}
 use Rattle.lks_law.specs.World.{Deed, deed_of, own_deed_of}
-use Rattle.lks_work.specs.Names.{refs_done}
+use Rattle.lks_work.specs.Names.{name_done, refs_done, step_named}
 use Rattle.lks_work.specs.declared.jobs.JobName.{JobName}
 use Rattle.lks_work.specs.declared.results.JobDone.{JobDone}
 use Rattle.lks_work.specs.declared.results.JobDone.TheVariants as results
-use Rattle.lks_world.specs.Beside.{name_done, step_named, IsFor, IsForDue}
+use Rattle.lks_world.specs.Beside.{IsFor, IsForDue}
 
 -- the input of the step that was worked for
 named : (pool : List ℕ) (bag : List Envelope) (d : JobDone) → AllOf pool (refs_done d) → IfSome (deed_of bag (step_named (name_done d))) (λ x. IsResultOf pool x.input d)

@@ -13,7 +13,7 @@ use Rattle.lks_base.specs.declared.events.PeerStep.TheVariants.{Deliver}
 use Rattle.lks_base.specs.declared.names.Judged.{Judged}
 use Rattle.lks_base.specs.declared.plans.Plan.{Plan}
 use Rattle.lks_effort.specs.declared.questions.Question.{Question}
-use Rattle.lks_law.proofs.Happening.{delivery_may, deliver_may, settle_may, finish_may, lose_may}
+use Rattle.lks_law.proofs.Happening.{delivery_may, lose_may}
 use Rattle.lks_law.specs.Due.{ready, turns, first_due, first_own, first_waiting, next_to_settle, next_to_deliver, next_to_lose, next_to_finish}
 use Rattle.lks_law.specs.Histories.{MayHappen, WasSent}
 use Rattle.lks_law.specs.Questions.{Verdicts, judged, question_at, questions, delivery_of, event_of}
@@ -23,7 +23,8 @@ use Rattle.lks_script.specs.declared.steps.Step.{Step as Line}
 use Rattle.lks_script.specs.declared.steps.Step.TheVariants as line
 use Rattle.lks_watch.specs.declared.watches.Watch.{Watch}
 use Rattle.lks_world.proofs.OwnSteps.{step_may}
-use Rattle.lks_world.proofs.Watched.{next_asks, step_asks}
+use Rattle.lks_world.proofs.DueLaws.{course_may, course_asks}
+use Rattle.lks_world.proofs.Watched.{step_asks}
 use Rattle.lks_world.specs.Doable.{IsDoable}
 use Rattle.lks_world.specs.Follows.{next_event, lost, delivered_again}
 use Rattle.lks_world.specs.Kept.{kept}
@@ -63,13 +64,6 @@ module _ {D : Type 0} (f : Face D) (plan : Plan) (s : State D) (is : IsStateOf f
   pub own_first : (course : Course) → slice_get s.pending.items 0 ≡ None → first_own (own_steps course (peers_of f (hosts_of s.seats.items))) ≡ next_of course plan (events_in s)
   own_first course none = own_is s.pending.items (own_steps course (peers_of f (hosts_of s.seats.items))) none ∙ course_is course
 
-  -- what comes next on a course may happen
-
-  course_may : (verdict : Verdicts) (course : Course) (d : Due) → next_of course plan (events_in s) ≡ Some d → MayHappen plan (world plan (events_in s)) (event_of verdict plan (events_in s) d)
-  course_may verdict Settling d next = settle_may verdict plan (events_in s) d next
-  course_may verdict Delivering d next = deliver_may verdict plan (events_in s) d next
-  course_may verdict Finishing d next = finish_may verdict plan (events_in s) d next
-
   pub next_is : (verdict : Verdicts) (course : Course) (d : Due) → Some d ≡ next_of course plan (events_in s) → Some (event_of verdict plan (events_in s) d) ≡ next_event verdict (next_of course) plan (events_in s)
   next_is verdict course d next = ap (option_map (event_of verdict plan (events_in s))) next
 
@@ -84,7 +78,7 @@ module _ {D : Type 0} (f : Face D) (plan : Plan) (s : State D) (is : IsStateOf f
 
   module _ {J B : Type 0} (hears : J → List Question) (x : Watch J B) (heard : hears x.judge ≡ questions plan (events_in s)) where
     pub next_doable : (course : Course) (d : Due) → Some d ≡ next_of course plan (events_in s) → IsDoable f hears plan s x d
-    next_doable course d next = record { state = is; heard = heard; may = λ verdict. course_may verdict course d (sym next); asks = next_asks course plan (events_in s) d (sym next) }
+    next_doable course d next = record { state = is; heard = heard; may = λ verdict. course_may plan (events_in s) verdict course d (sym next); asks = course_asks plan (events_in s) course d (sym next) }
 
     pub sent_doable : (i : ℕ) → nat_lt i (length s.bag.items) ≡ true → IsDoable f hears plan s x (Delivery i)
     sent_doable i sent =

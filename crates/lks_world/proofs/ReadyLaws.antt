@@ -10,7 +10,6 @@ use Rattle.lks_base.specs.declared.plans.Plan.{Plan}
 use Rattle.lks_base.specs.declared.records.Record.{Record}
 use Rattle.lks_disk.specs.Face.{Face}
 use Rattle.lks_host.proofs.Journals.{journal_is}
-use Rattle.lks_host.specs.Hosted.{StandsFor}
 use Rattle.lks_host.specs.Journals.{journal_on}
 use Rattle.lks_host.specs.declared.hosts.Host.{Host}
 use Rattle.lks_law.proofs.Journals.{polls_keep}
@@ -42,7 +41,7 @@ later : (xs ys : List PeerStep) → slice_get xs 0 ≡ None → first_own (xs ++
 later [] ys e = refl
 later (x ∷ xs) ys e = absurd cc
 
-front : {X : Type 0} (peers : List X) (i : ℕ) (p : X) → i < length peers → p ≡ get_or peers i p → drop i peers ≡ p ∷ drop (i + 1) peers
+pub front : {X : Type 0} (peers : List X) (i : ℕ) (p : X) → i < length peers → p ≡ get_or peers i p → drop i peers ≡ p ∷ drop (i + 1) peers
 front peers i p within is = drop-cons peers i p within ∙ ap (λ q. q ∷ drop (suc i) peers) (sym is) ∙ ap (λ k. p ∷ drop k peers) (sym (add-one i))
 
 module _ {X : Type 0} (steps : X → List PeerStep) where
@@ -72,18 +71,21 @@ module _ {D : Type 0} (f : Face D) where
   steps_seated part (seat.Host h ∷ ss) same = λ i. same 0 h refl i ++ steps_seated part ss (λ place. same (suc place)) i
   steps_seated part (seat.Idle d ∷ ss) same = steps_seated part ss same
 
+  -- a peer is in the state that its journal says
+  pub state_is : (plan : Plan) (s : State D) → IsStateOf f plan s → (place : ℕ) (h : Host D) → slice_get (hosts_of s.seats.items) place ≡ Some h → h.peer.state ≡ state_of h.peer.own (journal_on f h.journal.disk)
+  state_is plan s is place h at =
+      let stood = (is.hosts place h at).stands in
+      stood.state ∙ ap (state_of h.peer.own) (sym (journal_is f h (batches_at place plan (events_in s)) stood))
+
   -- a peer takes in its state the steps that it takes over its journal
   steps_there_are : (plan : Plan) (s : State D) → IsStateOf f plan s → (part : Part) (place : ℕ) (h : Host D) → slice_get (hosts_of s.seats.items) place ≡ Some h → steps_on part h.peer ≡ steps_of part (peer_in f h)
   steps_there_are plan s is part place h at = by_part part
     where
-      stood : StandsFor f h (batches_at place plan (events_in s))
-      stood = (is.hosts place h at).stands
-
       journal : List Record
       journal = journal_on f h.journal.disk
 
       state : h.peer.state ≡ state_of h.peer.own journal
-      state = stood.state ∙ ap (state_of h.peer.own) (sym (journal_is f h (batches_at place plan (events_in s)) stood))
+      state = state_is plan s is place h at
 
       there : slice_get (world plan (events_in s)).peers place ≡ Some (peer_in f h)
       there = peer_there f plan s is place h at
@@ -98,8 +100,11 @@ module _ {D : Type 0} (f : Face D) where
       by_part Ready = ap (ready_on h.peer.own) state ∙ ready_is h.peer.own journal written numbered
       by_part Turns = ap (turns_on h.peer.own) state ∙ turns_are h.peer.own journal written numbered
 
+  -- the steps of all seats are those of the peers in the world
+  pub part_is : (plan : Plan) (s : State D) → IsStateOf f plan s → (part : Part) → flat_map (seat_steps part) s.seats.items ≡ flat_map (steps_of part) (peers_of f (hosts_of s.seats.items))
+  part_is plan s is part = steps_seated part s.seats.items (steps_there_are plan s is part)
+
   pub steps_are : (plan : Plan) (s : State D) → IsStateOf f plan s → (course : Course) → steps_there course s.seats.items ≡ own_steps course (peers_of f (hosts_of s.seats.items))
-  steps_are plan s is Settling = steps_seated Ready s.seats.items (steps_there_are plan s is Ready)
+  steps_are plan s is Settling = part_is plan s is Ready
   steps_are plan s is Delivering = refl
-  steps_are plan s is Finishing =
-      λ i. steps_seated Ready s.seats.items (steps_there_are plan s is Ready) i ++ steps_seated Turns s.seats.items (steps_there_are plan s is Turns) i
+  steps_are plan s is Finishing = λ i. part_is plan s is Ready i ++ part_is plan s is Turns i

@@ -21,7 +21,7 @@ use Rattle.lks_world.specs.Doable.{IsDoable}
 use Rattle.lks_world.specs.Hosts.{disks_of, peer_in, peers_of, IsHostAt}
 use Rattle.lks_world.specs.Seats.{disks_at, disks_on, hosts_of, ids_at, Counted, Powered}
 use Rattle.lks_world.specs.States.{IsStateOf, events_in}
-use Rattle.lks_world.specs.Watched.{OwnAsksNothing}
+use Rattle.lks_law.specs.Questions.{OwnAsksNothing}
 use Rattle.lks_world.specs.declared.faults.WorldFault.{WorldFault}
 use Rattle.lks_world.specs.declared.faults.WorldFault.TheVariants.{Disk}
 use Rattle.lks_world.specs.declared.seats.Seat.{Seat}
@@ -64,7 +64,7 @@ module _ {D : Type 0} where
   pub same_ids : (xs ys : List (Seat D)) → AreSameSeats xs ys → ids_at ys ≡ ids_at xs
   same_ids xs ys same = sym (ids_plain ys) ∙ ap ids_at same ∙ ids_plain xs
 
-  same_disks : (xs ys : List (Seat D)) → AreSameSeats xs ys → disks_at ys ≡ disks_at xs
+  pub same_disks : (xs ys : List (Seat D)) → AreSameSeats xs ys → disks_at ys ≡ disks_at xs
   same_disks xs ys same = sym (disks_plain ys) ∙ ap disks_at same ∙ disks_plain xs
 
   same_on : (xs ys : List (Seat D)) → AreSameSeats xs ys → disks_on ys ≡ disks_on xs

@@ -46,79 +46,14 @@ use Rattle.lks_world.specs.Hosts.{peers_of}
 use Rattle.lks_world.specs.Kept.{kept}
 use Rattle.lks_world.specs.Seats.{hosts_of}
 use Rattle.lks_world.specs.States.{events_in, world_in, IsStateOf, next_of}
-use Rattle.lks_world.specs.Watched.{OwnAsksNothing}
+use Rattle.lks_law.specs.Questions.{OwnAsksNothing}
 use Rattle.lks_world.specs.declared.cutting.Ending.{Ending}
 use Rattle.lks_world.specs.declared.cutting.Ending.TheVariants.{Whole, Kept, Lost}
 use Rattle.lks_world.specs.declared.settling.Course.{Course}
 use Rattle.lks_world.specs.declared.settling.Course.TheVariants.{Settling, Delivering, Finishing}
 use Rattle.lks_world.specs.declared.states.State.{State}
 
--- What peers do of their own asks nothing.
-
-module _ (w : World) where
-  abbrev AskNothing : List PeerStep → Type 0
-  AskNothing [] = Unit {0}
-  AskNothing (s ∷ ss) = (question_on w s ≡ None) × AskNothing ss
-
-  both_ask : (ss ts : List PeerStep) → AskNothing ss → AskNothing ts → AskNothing (ss ++ ts)
-  both_ask [] ts first then = then
-  both_ask (s ∷ ss) ts first then = (first.0, both_ask ss ts first.1 then)
-
-  tallies_ask : (id : ℕ) (ns : List ℕ) → AskNothing (map (peers.Tally id) ns)
-  tallies_ask id [] = tt
-  tallies_ask id (n ∷ ns) = (refl, tallies_ask id ns)
-
-  votes_ask : (id : ℕ) (qs : List PollName) → AskNothing (map (peers.Work id) qs)
-  votes_ask id [] = tt
-  votes_ask id (q ∷ qs) = (refl, votes_ask id qs)
-
-  ready_asks : (ss : List Standing) → AskNothing (flat_map ready_at ss)
-  unfolding works_at tallies_at
-  ready_asks [] = tt
-  ready_asks (s ∷ ss) =
-      both_ask (ready_at s) (flat_map ready_at ss)
-      (both_ask (works_at s) (tallies_at s)
-      (votes_ask s.own.id (filter (λ q. may_work q s.journal) (committed_polls s.journal)))
-      (tallies_ask s.own.id (filter (λ n. may_tally n s.journal) (range_with_len 1 (openings s.journal))))) (ready_asks ss)
-
-  turn_asks : (id : ℕ) (journal : List Record) (n : ℕ) (rest : List PeerStep) → AskNothing rest → AskNothing (cons_option (turn_of id journal n) rest)
-  unfolding turn_of
-  turn_asks id journal n rest asks = by_running (is_running n journal)
-    where
-      by_turn : (asked voting widened : Bool) → AskNothing (cons_option (turn_at id n asked voting widened) rest)
-      by_turn true voting widened = (refl, asks)
-      by_turn false true true = (refl, asks)
-      by_turn false true false = (refl, asks)
-      by_turn false false widened = asks
-
-      by_running : (b : Bool) → AskNothing (cons_option (cond b (turn_at id n (is_some (unanswered n journal)) (is_voting n journal) (is_widened n journal)) None) rest)
-      by_running true = by_turn (is_some (unanswered n journal)) (is_voting n journal) (is_widened n journal)
-      by_running false = asks
-
-  turns_of : (id : ℕ) (journal : List Record) (ns : List ℕ) → AskNothing (filter_map (turn_of id journal) ns)
-  turns_of id journal [] = tt
-  turns_of id journal (n ∷ ns) = turn_asks id journal n (filter_map (turn_of id journal) ns) (turns_of id journal ns)
-
-  turns_ask : (ss : List Standing) → AskNothing (flat_map turns_at ss)
-  unfolding turns_at
-  turns_ask [] = tt
-  turns_ask (s ∷ ss) = both_ask (turns_at s) (flat_map turns_at ss) (turns_of s.own.id s.journal (range_with_len 1 (openings s.journal))) (turns_ask ss)
-
-  first_asks : (ss : List PeerStep) (d : Due) → AskNothing ss → first_own ss ≡ Some d → OwnAsksNothing w d
-  first_asks [] d asks is = absurd cc
-  first_asks (s ∷ ss) d asks is = let same : Own s ≡ d = cc in subst (OwnAsksNothing w) same asks.0
-
-  due_asks : (waiting : List ℕ) (ss : List PeerStep) (d : Due) → AskNothing ss → first_due waiting ss ≡ Some d → OwnAsksNothing w d
-  due_asks [] ss d asks is = first_asks ss d asks is
-  due_asks (i ∷ more) ss d asks is = let same : Delivery i ≡ d = cc in subst (OwnAsksNothing w) same tt
-
-pub next_asks : (course : Course) (plan : Plan) (history : List Event) (d : Due) → next_of course plan history ≡ Some d → OwnAsksNothing (world plan history) d
-unfolding next_to_settle next_to_deliver next_to_finish ready turns
-next_asks Settling plan history d is = due_asks (world plan history) (pending plan history) (ready (world plan history)) d (ready_asks (world plan history) (world plan history).peers) is
-next_asks Delivering plan history d is = due_asks (world plan history) (pending plan history) [] d tt is
-next_asks Finishing plan history d is =
-    due_asks (world plan history) (pending plan history) (ready (world plan history) ++ turns (world plan history)) d
-    (both_ask (world plan history) (ready (world plan history)) (turns (world plan history)) (ready_asks (world plan history) (world plan history).peers) (turns_ask (world plan history) (world plan history).peers)) is
+-- What a script lets peers do of their own asks nothing.
 
 pub own_asks : (plan : Plan) (w : World) (s : PeerStep) → is_own_step plan s ≡ true → question_on w s ≡ None
 unfolding is_own_step

@@ -3,25 +3,12 @@ use Rattle.std.specs.Prelude.{◌≡◌, ℕ, List, [], All, map}
 use Rattle.lks_base.specs.declared.events.Due.{Due}
 use Rattle.lks_base.specs.declared.events.Due.TheVariants as dues
 use Rattle.lks_base.specs.declared.events.PeerStep.{PeerStep}
-use Rattle.lks_base.specs.declared.events.PeerStep.TheVariants as steps
 use Rattle.lks_blocks.specs.Block.{AllOf}
 use Rattle.lks_host.specs.declared.hosts.Host.{Host}
-use Rattle.lks_work.specs.Names.{refs_done}
-use Rattle.lks_work.specs.declared.jobs.JobName.{JobName}
-use Rattle.lks_work.specs.declared.jobs.JobName.TheVariants as names
+use Rattle.lks_work.specs.Names.{name_done, refs_done, step_named}
 use Rattle.lks_work.specs.declared.results.JobDone.{JobDone}
-use Rattle.lks_work.specs.declared.results.JobDone.TheVariants as results
 use Rattle.lks_world.specs.declared.seats.Seat.{Seat}
 use Rattle.lks_world.specs.declared.seats.Seat.TheVariants as seat
-
--- the step that is worked for
-abbrev pub step_named : JobName → PeerStep
-step_named (names.Vote peer poll) = steps.Work peer poll
-step_named (names.Tally peer number) = steps.Tally peer number
-
-abbrev pub name_done : JobDone → JobName
-name_done (results.Vote done) = names.Vote done.job.peer done.job.poll
-name_done (results.Tally done) = names.Tally done.job.peer done.job.number
 
 -- it is a result of the work of this step, over blocks of this pool
 pub record IsFor (pool : List ℕ) (s : PeerStep) (d : JobDone) : Type 0 where

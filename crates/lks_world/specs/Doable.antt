@@ -9,7 +9,7 @@ use Rattle.lks_law.specs.Questions.{Verdicts, event_of, questions}
 use Rattle.lks_law.specs.World.{world}
 use Rattle.lks_watch.specs.declared.watches.Watch.{Watch}
 use Rattle.lks_world.specs.States.{IsStateOf, events_in}
-use Rattle.lks_world.specs.Watched.{OwnAsksNothing}
+use Rattle.lks_law.specs.Questions.{OwnAsksNothing}
 use Rattle.lks_world.specs.declared.states.State.{State}
 
 -- the state is that of a history of the plan, the judge has heard what it asks, and what is due may happen next

@@ -6,6 +6,8 @@ pub mod Disks
 pub mod Doable
 pub mod Endings
 pub mod Follows
+pub mod Giving
+pub mod Handing
 pub mod Held
 pub mod Hosts
 pub mod Kept

@@ -2,8 +2,6 @@
 use Rattle.std.specs.Prelude.{◌≡◌, ℕ, List, [], ◌++◌, Option, Some, None}
 use Rattle.std.specs.Option.{option_to_list}
 use Rattle.lks_alarm.specs.Bells.{left_of}
-use Rattle.lks_base.specs.declared.events.Due.{Due}
-use Rattle.lks_base.specs.declared.events.Due.TheVariants.{Delivery, Own}
 use Rattle.lks_base.specs.declared.events.PeerStep.{PeerStep}
 use Rattle.lks_base.specs.declared.events.Event.{Event}
 use Rattle.lks_base.specs.declared.plans.Plan.{Plan}
@@ -13,11 +11,6 @@ use Rattle.lks_law.specs.Questions.{question_on, questions}
 use Rattle.lks_law.specs.World.{World, world}
 use Rattle.lks_watch.specs.Watching.{Ears, Watching, seen_by}
 use Rattle.lks_watch.specs.declared.watches.Watch.{Watch}
-
--- a step that a peer takes of its own asks nothing
-abbrev pub OwnAsksNothing : World → Due → Type 0
-OwnAsksNothing w (Delivery i) = Unit {0}
-OwnAsksNothing w (Own s) = question_on w s ≡ None
 
 -- what a step that was begun asks, if one was
 abbrev pub asked_next : World → Option PeerStep → List Question

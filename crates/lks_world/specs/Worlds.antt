@@ -1,29 +1,44 @@
 -- What a world keeps.
-use Rattle.std.specs.Prelude.{◌≡◌, ◌≤◌, ◌+◌, Option, None, List, [], ◌++◌, length, reverse, vec_len, vec_capacity, Result}
+use Rattle.std.specs.Prelude.{◌≡◌, ◌≤◌, ◌+◌, ℕ, Option, Some, None, List, [], ◌++◌, length, map, reverse, vec_len, vec_capacity, Result}
+use Rattle.lks_alarm.specs.Bells.{left_of, seen}
 use Rattle.lks_disk.specs.Face.{Face}
 use Rattle.lks_base.specs.Checking.{plan_fault}
 use Rattle.lks_base.specs.declared.events.Event.{Event}
+use Rattle.lks_base.specs.declared.plans.PeerPlan.{PeerPlan}
 use Rattle.lks_base.specs.declared.plans.Plan.{Plan}
+use Rattle.lks_law.specs.Alarms.{alarms}
 use Rattle.lks_law.specs.Entries.{entries}
-use Rattle.lks_effort.specs.declared.questions.Question.{Question}
 use Rattle.lks_law.specs.Histories.{IsHistory}
-use Rattle.lks_law.specs.Questions.{Verdicts, questions}
+use Rattle.lks_law.specs.Questions.{Verdicts, questions, AreJudged}
 use Rattle.lks_script.specs.declared.steps.Step.{Step}
 use Rattle.lks_watch.specs.Watching.{Ears, Watches, watching}
-use Rattle.lks_world.specs.Counts.{fault_in}
+use Rattle.lks_work.specs.declared.jobs.JobName.{JobName}
+use Rattle.lks_world.specs.Counts.{fault_in, ServesHonest}
 use Rattle.lks_world.specs.Follows.{Performs}
 use Rattle.lks_world.specs.Held.{AreUnfused}
 use Rattle.lks_world.specs.Seats.{disks_at, AreSeats}
 use Rattle.lks_world.specs.Spending.{Spends}
 use Rattle.lks_world.specs.States.{events_in, IsStateOf}
 use Rattle.lks_world.specs.declared.faults.WorldFault.{WorldFault}
+use Rattle.lks_world.specs.declared.faults.WorldFault.TheVariants.{Memory}
 use Rattle.lks_world.specs.declared.worlds.World.TheInside.{Inside}
 
--- A world as callers see it: its plan, the events that it kept, the fault that stopped it, all disks in the order in which
--- they were handed in, the judge, and the bells that hang there.
+-- What a world remembers of its beginning beside its plan and its pool: the limits of the bells, and the counts of faults of the
+-- disks that were handed in.
+pub record Start : Type 0 where
+  pub limits : List ℕ
+  pub faults : List ℕ
+
+-- A world as callers see it: its plan, the pool of its blocks and its beginning, the events that it kept, how many of them were
+-- turns, which jobs are out, the fault that stopped it, all disks in the order in which they were handed in, the judge, and the
+-- bells that hang there.
 pub record Seen (D J B : Type 0) : Type 0 where
   pub plan : Plan
+  pub pool : List ℕ
+  pub start : Start
   pub history : List Event
+  pub turns : ℕ
+  pub out : List JobName
   pub stopped : Option WorldFault
   pub disks : List D
   pub judge : J
@@ -32,33 +47,68 @@ pub record Seen (D J B : Type 0) : Type 0 where
 abbrev pub seen_in : {D J B : Type 0} → Inside D J B → Seen D J B
 seen_in a = record {
   plan = a.plan;
+  pool = a.state.pool.now;
+  start = record { limits = a.first_limits.numbers; faults = a.first_faults.numbers };
   history = events_in a.state;
+  turns = a.turns;
+  out = a.out.items;
   stopped = a.stopped;
   disks = disks_at a.state.seats.items ++ reverse a.rest.items;
   judge = a.watch.judge;
   bells = a.watch.desk;
 }
 
--- The plan is good, the events are a history of it, each with its entry, and while the world isn't stopped its state is that
--- of the history, and the judge has heard what it asks. Each peer has its seat, no disk has a fuse, and the list that was
--- handed in has room for all disks.
-pub record IsKept {D J B : Type 0} (f : Face D) (hears : J → List Question) (a : Inside D J B) : Type 0 where
+-- bells that rang for nothing yet and want to
+abbrev pub AreSilent : {J B : Type 0} → Ears J B → List B → Type 0
+AreSilent e bells = seen e.rung e.limit bells ≡ left_of [] (map e.limit bells)
+
+-- The judge has heard what the history asks, and what it says of that stands there; the bells are those with these limits that want
+-- more than the history's alarms, for which they rang.
+pub record HasWatched {J B : Type 0} (e : Ears J B) (plan : Plan) (limits : List ℕ) (history : List Event) (judge : J) (bells : List B) : Type 0 where
+  pub heard : e.heard judge ≡ questions plan history
+  pub judged : AreJudged (e.verdict judge) plan history
+  pub rung : seen e.rung e.limit bells ≡ left_of (alarms plan history) limits
+
+-- What became of disks with these counts of faults is what calls on those of honest peers may do: a fault blames only a disk whose
+-- count rose.
+pub record HaveServed {D : Type 0} (f : Face D) (peers : List PeerPlan) (counts : List ℕ) (disks : List D) (fault : Option WorldFault) : Type 0 where
+  pub first : List D
+  pub counted : map f.faults first ≡ counts
+  pub serves : ServesHonest f peers first disks fault
+
+-- The plan is good, and the events are a history of it, each with its entry, of which no more were turns than the plan has. While
+-- the world isn't stopped its state is that of the history, which its judge and its bells have watched. Each peer has its seat, no
+-- disk has a fuse, the list that was handed in has room for all disks, and these have served since the beginning.
+pub record IsKept {D J B : Type 0} (f : Face D) (e : Ears J B) (a : Inside D J B) : Type 0 where
   pub good : plan_fault a.plan ≡ None
   pub happened : IsHistory a.plan (events_in a.state)
+  pub used : a.turns ≤ a.plan.turns
   pub entries : a.state.history.items ≡ entries a.plan (events_in a.state)
   pub state : a.stopped ≡ None → IsStateOf f a.plan a.state
-  pub heard : a.stopped ≡ None → hears a.watch.judge ≡ questions a.plan (events_in a.state)
+  pub watched : a.stopped ≡ None → HasWatched e a.plan a.first_limits.numbers (events_in a.state) a.watch.judge a.watch.desk
   pub seats : AreSeats a.plan.peers a.state.seats.items
   pub unfused : AreUnfused f (disks_at a.state.seats.items ++ reverse a.rest.items)
   pub room : vec_len a.rest + length a.state.seats.items ≤ vec_capacity a.rest
+  pub served : HaveServed f a.plan.peers a.first_faults.numbers (disks_at a.state.seats.items ++ reverse a.rest.items) a.stopped
 
--- a world in which nothing happened yet, with this plan, judge and bells
-pub record Begins {D J B : Type 0} (p : Plan) (j : J) (bs : List B) (world : Seen D J B) : Type 0 where
+-- a world in which nothing happened yet, with this plan, pool, judge, bells and disks' counts of faults
+pub record Begins {D J B : Type 0} (e : Ears J B) (p : Plan) (pool : List ℕ) (faults : List ℕ) (j : J) (bs : List B) (world : Seen D J B) : Type 0 where
   pub plan : world.plan ≡ p
+  pub pooled : world.pool ≡ pool
+  pub limits : world.start.limits ≡ map e.limit bs
+  pub counts : world.start.faults ≡ faults
   pub history : world.history ≡ []
+  pub turns : world.turns ≡ 0
+  pub out : world.out ≡ []
   pub running : world.stopped ≡ None
   pub judge : world.judge ≡ j
   pub bells : world.bells ≡ bs
+
+-- what no call changes: the plan, the pool and what is remembered of the beginning
+pub record Remembers {D J B : Type 0} (old new : Seen D J B) : Type 0 where
+  pub plan : new.plan ≡ old.plan
+  pub pool : new.pool ≡ old.pool
+  pub start : new.start ≡ old.start
 
 -- What a step makes of a world: its history goes on as the step says, while its judge and bells watch.
 pub record PerformsIn {D J B : Type 0} (e : Ears J B) (s : Step) (old new : Seen D J B) : Type 0 where
@@ -68,3 +118,8 @@ pub record PerformsIn {D J B : Type 0} (e : Ears J B) (s : Step) (old new : Seen
 -- what a step costs the honest peers of power
 abbrev pub SpendsPower : {D J B T : Type 0} → Face D → (J → Verdicts) → Step → Seen D J B → Seen D J B → Result T WorldFault → Type 0
 SpendsPower f verdict s old new result = Spends f (verdict old.judge) old.plan s old.history new.history (fault_in result) old.disks new.disks
+
+-- the fault of a world that was stopped, by want of memory if by nothing before
+abbrev pub halted : Option WorldFault → Option WorldFault
+halted None = Some Memory
+halted (Some fault) = Some fault

@@ -158,6 +158,7 @@ pub fn add_due<R: Wait, D: CrashDisk, J: EffortJudge, B: Bell>(
         Extends plan state.old.history.items state.new.history.items }
     ensures counted { Counted D.face state.old.seats.items state.new.seats.items result }
     ensures power { (plan : Plan) (who : List ℕ) → SeatsPower D.face plan who (events_in state.old) (events_in state.new) state.old.seats.items state.new.seats.items result }
+    ensures pool { state.new.pool.now ≡ state.old.pool.now }
 {
     if room(state) > 0 {
         do_due(alloc, rt, state, watch, due, None)?;
@@ -183,6 +184,7 @@ pub fn add_forgery<D: CrashDisk>(
         Extends plan state.old.history.items state.new.history.items }
     ensures err { OnErr result (state.new.history.items ≡ state.old.history.items) }
     ensures seats { state.new.seats.items ≡ state.old.seats.items }
+    ensures pool { state.new.pool.now ≡ state.old.pool.now }
 {
     are_bytes(bytes.as_slice());
     if room(state) > 0 {
@@ -201,6 +203,7 @@ pub fn add_ticks<D: CrashDisk>(state: &mut State<'_, D>, by: u32) -> Result<(), 
     ensures extends { (plan : Plan) → IsStateOf D.face plan state.old → Extends plan state.old.history.items state.new.history.items }
     ensures err { OnErr result (state.new.history.items ≡ state.old.history.items) }
     ensures seats { state.new.seats.items ≡ state.old.seats.items }
+    ensures pool { state.new.pool.now ≡ state.old.pool.now }
 {
     if room(state) > 0 {
         tick(state, by)?;
@@ -216,6 +219,7 @@ pub fn add_loss<D: CrashDisk>(state: &mut State<'_, D>, envelope: u32) -> Result
         Extends plan state.old.history.items state.new.history.items }
     ensures err { OnErr result (state.new.history.items ≡ state.old.history.items) }
     ensures seats { state.new.seats.items ≡ state.old.seats.items }
+    ensures pool { state.new.pool.now ≡ state.old.pool.now }
 {
     if room(state) > 0 {
         lose(state, envelope)?;
@@ -230,6 +234,7 @@ pub fn add_crash<D: CrashDisk>(state: &mut State<'_, D>, peer: PeerId) -> Result
     ensures extends { (plan : Plan) → IsStateOf D.face plan state.old → IsHonest plan peer → Extends plan state.old.history.items state.new.history.items }
     ensures err { OnErr result (state.new.history.items ≡ state.old.history.items) }
     ensures seats { state.new.seats.items ≡ state.old.seats.items }
+    ensures pool { state.new.pool.now ≡ state.old.pool.now }
 {
     if room(state) > 0 {
         crash(state, peer)?;

@@ -148,6 +148,7 @@ pub fn begin<'a, R: Wait, D: CrashDisk + Drop>(
     requires disks { CanBegin D.face plan.now disks.old }
     ensures state { IfOk result (λ state. IsStateOf D.face plan.now state) }
     ensures nothing { IfOk result (λ state. state.history.items ≡ []) }
+    ensures pool { IfOk result (λ state. state.pool.now ≡ pool.now) }
     ensures seats { IfOk result (λ state. AreSeats plan.now.peers state.seats.items) }
     ensures stops { OnErr result (HaveBegunUpTo D.face plan.now (reverse disks.old.items) (disks_after result disks.new.items)) }
     ensures serves { ServesHonest D.face plan.now.peers (reverse disks.old.items) (disks_after result disks.new.items) (fault_in result) }

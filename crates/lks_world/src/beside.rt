@@ -4,12 +4,12 @@ ghost use Rattle.std.specs.Prelude.{◌≡◌, ℕ, List, IfOk, IfSome};
 ghost use Rattle.lks_base.specs.declared.events.Due.TheVariants as dues;
 ghost use Rattle.lks_blocks.specs.Block.{AllOf};
 ghost use Rattle.lks_farm.specs.Batches.{AreDoneOf, AreOf};
-ghost use Rattle.lks_work.specs.Names.{refs_done};
-ghost use Rattle.lks_world.specs.Beside.{name_done, step_named, unplaced, unplaced_at, ArePooled, AreSameSeats, IsForDue, IsPooled};
+ghost use Rattle.lks_work.specs.Names.{name_done, refs_done, step_named};
+ghost use Rattle.lks_world.specs.Beside.{unplaced, unplaced_at, ArePooled, AreSameSeats, IsForDue, IsPooled};
 
 use crate::seats::{Seat, place_of};
 use crate::states::State;
-use lks_base::{Due, Entry, OutOfMemory, PeerId, PeerStep};
+use lks_base::{Due, Entry, OutOfMemory, PeerStep};
 use lks_blocks::BlockPool;
 use lks_disk::{CrashDisk, Disk};
 use lks_farm::hash_batch;
@@ -46,29 +46,8 @@ fn work_in(due: Due) -> Option<JobName>
     }
 }
 
-fn name_of(done: &JobDone) -> JobName
-    ensures { result ≡ name_done done.now }
-{
-    match done {
-        JobDone::Vote(done) => JobName::Vote {
-            peer: done.job.peer,
-            poll: done.job.poll,
-        },
-        JobDone::Tally(done) => JobName::Tally {
-            peer: done.job.peer,
-            number: done.job.number,
-        },
-    }
-}
-
-fn peer_of(name: JobName) -> PeerId {
-    match name {
-        JobName::Vote { peer, .. } | JobName::Tally { peer, .. } => peer,
-    }
-}
-
 fn has_result(beside: &[JobDone], name: JobName) -> bool {
-    beside.iter().any(|done| name_of(done) == name)
+    beside.iter().any(|done| done.name() == name)
 }
 
 /// Takes the result of this job, if it waits.
@@ -77,7 +56,7 @@ fn take_result(beside: &mut Vec<JobDone>, name: JobName) -> Option<JobDone>
     ensures of { (pool : List ℕ) → AreDoneOf pool beside.old.items → IfSome result (λ d. AllOf pool (refs_done d)) }
     ensures rest { (pool : List ℕ) → AreDoneOf pool beside.old.items → AreDoneOf pool beside.new.items }
 {
-    let place = beside.iter().position(|done| name_of(done) == name)?;
+    let place = beside.iter().position(|done| done.name() == name)?;
     Some(beside.remove(place))
 }
 
@@ -194,7 +173,7 @@ fn take_fresh<D: Disk>(
     let Some(done) = take_result(beside, name) else {
         return Ok(None);
     };
-    let Some(place) = place_of(seats, peer_of(name)) else {
+    let Some(place) = place_of(seats, name.peer()) else {
         return Ok(None);
     };
     if seats[place].would_take(&done)? {

@@ -252,6 +252,7 @@ fn cut_there<R: Wait, D: CrashDisk, J: EffortJudge, B: Bell>(
         OnOk result (WatchesBy (ears J.heard J.verdict B.rung B.limit) plan.now (events_in state.old) (events_in state.new) first watch.new) }
     ensures stops { (first : Watch J B) → AsksOn (ears J.heard J.verdict B.rung B.limit) (world_in D.face state.old) s first watch.old →
         OnErr result (StopsBy (ears J.heard J.verdict B.rung B.limit) plan.now (events_in state.old) (events_in state.new) (Some s) first watch.new) }
+    ensures pool { state.new.pool.now ≡ state.old.pool.now }
 {
     let id = taker(&state.bag, s);
     let ending = cut_at(
@@ -296,6 +297,7 @@ fn cut_off<R: Wait, D: CrashDisk, J: EffortJudge, B: Bell>(
         OnOk result (WatchesBy (ears J.heard J.verdict B.rung B.limit) plan.now (events_in state.old) (events_in state.new) first watch.new) }
     ensures stops { (first : Watch J B) → AsksOn (ears J.heard J.verdict B.rung B.limit) (world_in D.face state.old) s first watch.old →
         OnErr result (HasStopped D.face (ears J.heard J.verdict B.rung B.limit) plan.now (Cuts plan.now (events_in state.old) power.calls s) (events_in state.old) first state.new watch.new) }
+    ensures pool { state.new.pool.now ≡ state.old.pool.now }
 {
     let id = taker(&state.bag, s);
     if place_of(&state.seats, id).is_none() {
@@ -349,6 +351,7 @@ pub fn cut<R: Wait, D: CrashDisk, J: EffortJudge, B: Bell>(
     ensures counted { Counted D.face state.old.seats.items state.new.seats.items result }
     ensures power { SeatsPower D.face plan.now (cut_of (J.verdict watch.old.judge) plan.now (events_in state.old) step) (events_in state.old) (events_in state.new) state.old.seats.items state.new.seats.items result }
     ensures burns { OnOk result (IfSome (step_cut (J.verdict watch.old.judge) plan.now (events_in state.old) step) (SeatsBurn D.face plan.now (events_in state.old) power.calls power.choice state.old.seats.items state.new.seats.items)) }
+    ensures pool { state.new.pool.now ≡ state.old.pool.now }
 {
     if room(state) == 0 {
         return Ok(());
@@ -403,6 +406,7 @@ pub fn crash<R: Wait, D: CrashDisk>(
     ensures fallen { OnErr result (AreLeft D.face plan.now None state.new) }
     ensures counted { Counted D.face state.old.seats.items state.new.seats.items result }
     ensures power { SeatsPower D.face plan.now (peer ∷ []) (events_in state.old) (events_in state.new) state.old.seats.items state.new.seats.items result }
+    ensures pool { state.new.pool.now ≡ state.old.pool.now }
 {
     if room(state) == 0 {
         return Ok(());

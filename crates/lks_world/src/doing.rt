@@ -58,6 +58,7 @@ fn go_on<R: Threads + Wait + Sync, D: CrashDisk, J: EffortJudge, B: Bell, G: Gat
         Extends plan state.old.history.items state.new.history.items }
     ensures counted { Counted D.face state.old.seats.items state.new.seats.items result }
     ensures power { (plan : Planned) (who : List ℕ) → SeatsPower D.face plan who (events_in state.old) (events_in state.new) state.old.seats.items state.new.seats.items result }
+    ensures pool { state.new.pool.now ≡ state.old.pool.now }
 {
     let mut beside = Vec::new(alloc);
     for turn in 0..times.min(room(state)) {
@@ -78,6 +79,7 @@ fn lose_first<D: CrashDisk>(state: &mut State<'_, D>) -> Result<(), OutOfMemory>
     ensures extends { (plan : Planned) → IsStateOf D.face plan state.old → Extends plan state.old.history.items state.new.history.items }
     ensures err { OnErr result (state.new.history.items ≡ state.old.history.items) }
     ensures seats { state.new.seats.items ≡ state.old.seats.items }
+    ensures pool { state.new.pool.now ≡ state.old.pool.now }
 {
     match first_waiting(state) {
         Some(envelope) => add_loss(state, envelope),
@@ -104,6 +106,7 @@ fn deliver_again<R: Wait, D: CrashDisk, J: EffortJudge, B: Bell>(
         Extends plan state.old.history.items state.new.history.items }
     ensures counted { Counted D.face state.old.seats.items state.new.seats.items result }
     ensures power { (plan : Planned) (who : List ℕ) → SeatsPower D.face plan who (events_in state.old) (events_in state.new) state.old.seats.items state.new.seats.items result }
+    ensures pool { state.new.pool.now ≡ state.old.pool.now }
 {
     if !was_sent(state, envelope) {
         return Ok(());
@@ -124,6 +127,7 @@ fn speak<D: CrashDisk>(
         Extends plan state.old.history.items state.new.history.items }
     ensures err { OnErr result (state.new.history.items ≡ state.old.history.items) }
     ensures seats { state.new.seats.items ≡ state.old.seats.items }
+    ensures pool { state.new.pool.now ≡ state.old.pool.now }
 {
     let Some(said) = said else {
         return Ok(());
@@ -150,6 +154,7 @@ fn say<D: CrashDisk>(
     ensures extends { Extends plan.now state.old.history.items state.new.history.items }
     ensures err { OnErr result (state.new.history.items ≡ state.old.history.items) }
     ensures seats { state.new.seats.items ≡ state.old.seats.items }
+    ensures pool { state.new.pool.now ≡ state.old.pool.now }
 {
     let said = what_is_said(alloc, plan, step)?;
     speak(alloc, state, &said)
@@ -178,6 +183,7 @@ fn do_step<R: Threads + Wait + Sync, D: CrashDisk, J: EffortJudge, B: Bell, G: G
     ensures power { SeatsPower D.face plan.now (loser_of (J.verdict watch.old.judge) plan.now (events_in state.old) step.now) (events_in state.old) (events_in state.new) state.old.seats.items state.new.seats.items result }
     ensures burns { (calls choice : ℕ) (given : CutStep) → step.now ≡ Step.Cut calls choice given →
         OnOk result (IfSome (step_cut (J.verdict watch.old.judge) plan.now (events_in state.old) given) (SeatsBurn D.face plan.now (events_in state.old) calls choice state.old.seats.items state.new.seats.items)) }
+    ensures pool { state.new.pool.now ≡ state.old.pool.now }
 {
     match step {
         Step::Peer(s) => add_due(alloc, rt, state, watch, Due::Own(*s)),
@@ -258,6 +264,7 @@ pub fn perform<R: Threads + Wait + Sync, D: CrashDisk, J: EffortJudge, B: Bell, 
     ensures power { SeatsPower D.face plan.now (loser_of (J.verdict watch.old.judge) plan.now (events_in state.old) step.now) (events_in state.old) (events_in state.new) state.old.seats.items state.new.seats.items result }
     ensures burns { (calls choice : ℕ) (given : CutStep) → step.now ≡ Step.Cut calls choice given →
         OnOk result (IfSome (step_cut (J.verdict watch.old.judge) plan.now (events_in state.old) given) (SeatsBurn D.face plan.now (events_in state.old) calls choice state.old.seats.items state.new.seats.items)) }
+    ensures pool { state.new.pool.now ≡ state.old.pool.now }
 {
     let mut told = state.history.len();
     let result = do_step(alloc, rt, gate, plan, state, watch, step, &mut told);

@@ -4,11 +4,14 @@
 mod adding;
 mod beginning;
 mod beside;
+mod copies;
 mod cutting;
 mod deeds;
 mod doing;
 mod faults;
+mod giving;
 mod laws;
+mod marks;
 mod other_events;
 mod seats;
 mod settling;
@@ -16,6 +19,7 @@ mod states;
 mod worlds;
 
 pub use faults::WorldFault;
+pub use giving::{Back, Taken};
 pub use laws::{
     disks_may_hold_other_batches, what_follows_a_script_is_a_history, worlds_may_be_unsafe,
 };

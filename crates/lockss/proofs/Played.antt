@@ -75,7 +75,7 @@ stays_there (Drill seed) verdict plan history = refl
 stays_there Journals verdict plan history = refl
 
 -- bells that have rung for nothing and want more are those that are left before the first alarm
-silent_left : {B : Type 0} (rung : B → List Alarm) (limit : B → ℕ) (bells : List B) → All (IsSilent rung limit) bells → seen rung limit bells ≡ left_of [] (map limit bells)
+pub silent_left : {B : Type 0} (rung : B → List Alarm) (limit : B → ℕ) (bells : List B) → All (IsSilent rung limit) bells → seen rung limit bells ≡ left_of [] (map limit bells)
 silent_left rung limit [] silent = refl
 silent_left rung limit (b ∷ bs) silent =
     let here = All-head (IsSilent rung limit) b bs silent in
@@ -187,7 +187,7 @@ reads_again Journals reads plan history again also = again
 
 -- the world began with the script's plan and no events, and did its steps
 module _ {D K J B : Type 0} (e : Senses D K J B) (command : Play) (s : Script) (before after : Devices D K J B) (first now : Seen D J B) (steps : List Step) (asked : J) (hung : List B) (handed : List D)
-    (good : plan_fault s.plan ≡ None) (given : AreGiven e before) (asked_is : before.judge ≡ Some asked) (hung_is : hung ≡ before.bells) (handed_is : handed ≡ before.disks) (begins : Begins s.plan asked hung first) (same : steps ≡ s.steps)
+    (good : plan_fault s.plan ≡ None) (given : AreGiven e before) (asked_is : before.judge ≡ Some asked) (hung_is : hung ≡ before.bells) (handed_is : handed ≡ before.disks) (pool faults : List ℕ) (begins : Begins e.ears s.plan pool faults asked hung first) (same : steps ≡ s.steps)
     (kept : now.plan ≡ first.plan) (disks_back : after.disks ≡ now.disks) (judge_back : after.judge ≡ Some now.judge) (bells_back : after.bells ≡ now.bells)
     (made : ServesHonest e.face s.plan.peers handed first.disks None) (calm : map (power_of e.face) first.disks ≡ map (power_of e.face) handed) (occurred : IsHistory now.plan now.history)
     (holds : now.stopped ≡ None → HaveBatches e.face now.plan now.history now.disks) where

@@ -15,7 +15,7 @@ use Rattle.lks_world.proofs.Watched.{can_ask}
 use Rattle.lks_world.specs.Doable.{IsDoable}
 use Rattle.lks_world.specs.Follows.{step_in}
 use Rattle.lks_world.specs.States.{Becomes, events_in, events_of, world_in}
-use Rattle.lks_world.specs.Watched.{OwnAsksNothing}
+use Rattle.lks_law.specs.Questions.{OwnAsksNothing}
 use Rattle.lks_world.proofs.adding.do_due.Given.{Over}
 use Rattle.lks_world.proofs.adding.do_due.Goals.{In_ok-s}
 use Rattle.lks_world.proofs.adding.do_due.Goals as goal

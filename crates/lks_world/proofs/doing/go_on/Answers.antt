@@ -38,6 +38,7 @@ loop-turn-init g c =
           seats_still g.D.Disk.face plan who (events_in c.args.state.now) (events_in c.args.state.now) xs xs (Ok (tt {0})) refl (power_still g.D.Disk.face xs xs refl);
       counted = counted_start g.D.Disk.face c.args.state.now.seats.items;
       beside = rw c.new-beside.ensures.items (All-nil (λ d. AllOf c.args.state.now.pool.now (refs_done d)));
+      pooled = refl;
     }
 
 -- what comes next can be done
@@ -96,6 +97,7 @@ loop-turn-preserved g c =
       power = λ plan who. seats_then f plan who (events_in c.args.state.now) (events_in s) (events_in t) c.args.state.now.seats.items s.seats.items t.seats.items (Ok (tt {0})) kept.counted.ids (kept.power plan who) (done.power plan who);
       counted = counted_then f c.args.state.now.seats.items s.seats.items t.seats.items (Ok tt) (Ok tt) kept.counted done.counted;
       beside = subst (λ (pool : List ℕ). AreDoneOf pool c.do_next.new.beside.items) (sym done.pool) done.of;
+      pooled = done.pool ∙ kept.pooled;
     }
 
 pub returns-in-None-clause-becomes : goal.returns-in-None-clause-becomes

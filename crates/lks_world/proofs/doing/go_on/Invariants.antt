@@ -23,4 +23,5 @@ invariant-loop-turn g l = record {
   power : (plan : Plan) (who : List ℕ) → SeatsPower {T = Unit {0}} g.D.Disk.face plan who (events_in l.fn.state) (events_in l.state) l.fn.state.seats.items l.state.seats.items (Ok tt);
   counted : Counted {T = Unit {0}} g.D.Disk.face l.fn.state.seats.items l.state.seats.items (Ok tt);
   beside : AreDoneOf l.state.pool.now l.beside.items;
+  pooled : l.state.pool.now ≡ l.fn.state.pool.now;
 }

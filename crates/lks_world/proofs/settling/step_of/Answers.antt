@@ -2,7 +2,7 @@ use Rattle.std.proofs.Common.{subst}
 use Rattle.lks_watch.specs.Watching.{ears}
 use Rattle.lks_world.proofs.Watched.{asked_nothing}
 use Rattle.lks_world.specs.States.{world_in}
-use Rattle.lks_world.specs.Watched.{OwnAsksNothing}
+use Rattle.lks_law.specs.Questions.{OwnAsksNothing}
 use Rattle.lks_world.proofs.settling.step_of.Goals as goal
 
 pub returns-in_ok-make_deed-in-Own-clause-asks : goal.returns-in_ok-make_deed-in-Own-clause-asks

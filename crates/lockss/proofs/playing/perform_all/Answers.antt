@@ -70,7 +70,7 @@ spent_next g c =
 
 pub loop-step-preserved : goal.loop-step-preserved
 loop-step-preserved g c = record {
-  plan = c.in_ok-perform.ensures.plan ∙ c.loop-step.invariant.plan;
+  plan = c.in_ok-perform.ensures.remembers.plan ∙ c.loop-step.invariant.plan;
   running = c.in_ok-perform.ensures.stopped;
   legal = grind (arith, common_steps);
   follows = λ after rest.

@@ -5,7 +5,8 @@ use Rattle.lks_watch.specs.Watching.{ears}
 use Rattle.lks_world.specs.Counts.{ServesHonest}
 use Rattle.lks_world.specs.Held.{AreFresh, AreUnfused, HaveBegunUpTo}
 use Rattle.lks_world.specs.Powers.{power_of}
-use Rattle.lockss.proofs.Played.{can_read_as, none_made, played_as}
+use Rattle.lks_world.specs.Worlds.{AreSilent}
+use Rattle.lockss.proofs.Played.{can_read_as, none_made, played_as, silent_left}
 use Rattle.lockss.specs.Handed.{devices, senses}
 use Rattle.lockss.proofs.playing.play.Goals as goal
 
@@ -18,13 +19,18 @@ new-requires-4-clause-enough g c = λ κs lives.
 pub new-requires-4-clause-fresh : goal.new-requires-4-clause-fresh
 new-requires-4-clause-fresh g c = λ κs lives. subst (AreFresh g.D.Disk.face) (sym (ap (λ v. v.items) c.replace-handed.ensures.value)) c.requires.given.fresh
 
+pub new-requires-4-clause-silent : goal.new-requires-4-clause-silent
+new-requires-4-clause-silent g c = λ κs lives.
+    subst (AreSilent (ears g.J.EffortJudge.heard g.J.EffortJudge.verdict g.B.Bell.rung g.B.Bell.limit)) (sym (ap (λ v. v.items) c.replace-hung.ensures.value))
+    (silent_left g.B.Bell.rung g.B.Bell.limit c.args.bells.now.items c.requires.given.silent)
+
 pub go_on-requires-clause-can : goal.go_on-requires-clause-can
 go_on-requires-clause-can g c = λ κs lives.
     let e = senses g.D.Disk.face (ears g.J.EffortJudge.heard g.J.EffortJudge.verdict g.B.Bell.rung g.B.Bell.limit) g.K.Sink.taken g.K.Sink.faults in
     let before = devices c.args.disks.now.items c.args.sink.now c.args.judge.now c.args.bells.now.items in
     let mid = devices c.hand_back-2.new.disks.items c.play_in-course.new.sink c.hand_back-2.new.judge c.hand_back-2.new.bells.items in
     can_read_as e c.args.command c.args.script before mid c.in-Ok-new.world c.play_in-course.new.world c.as_slice.result.now c.in-Some.asked c.replace-hung.result.items c.replace-handed.result.items
-    c.requires.good c.requires.given (sym c.take.ensures.value ∙ c.in-Some.is) (ap (λ v. v.items) c.replace-hung.ensures.value) (ap (λ v. v.items) c.replace-handed.ensures.value) c.in-Ok-new.ensures.begins c.as_slice.ensures c.play_in-course.ensures.plan
+    c.requires.good c.requires.given (sym c.take.ensures.value ∙ c.in-Some.is) (ap (λ v. v.items) c.replace-hung.ensures.value) (ap (λ v. v.items) c.replace-handed.ensures.value) _ _ c.in-Ok-new.ensures.begins c.as_slice.ensures c.play_in-course.ensures.plan
     (c.hand_back-2.ensures.disks ∙ c.into_parts.ensures.disks) (c.hand_back-2.ensures.judge ∙ ap Some c.into_parts.ensures.watched.0) (c.hand_back-2.ensures.bells ∙ c.into_parts.ensures.watched.1)
     c.in-Ok-new.ensures.disks c.in-Ok-new.ensures.power c.into_parts.ensures.happened c.into_parts.ensures.holds c.play_in-course.result c.play_in-course.ensures.comes
     (subst (AreUnfused g.D.Disk.face) (sym c.hand_back-2.ensures.disks) c.into_parts.ensures.unfused)
@@ -36,7 +42,7 @@ returns-clause-plays g c =
     let mid = devices c.hand_back-2.new.disks.items c.play_in-course.new.sink c.hand_back-2.new.judge c.hand_back-2.new.bells.items in
     let after = devices c.go_on.new.disks.items c.go_on.new.sink c.hand_back-2.new.judge c.hand_back-2.new.bells.items in
     played_as e c.args.command c.args.script before mid c.in-Ok-new.world c.play_in-course.new.world c.as_slice.result.now c.in-Some.asked c.replace-hung.result.items c.replace-handed.result.items
-    c.requires.good c.requires.given (sym c.take.ensures.value ∙ c.in-Some.is) (ap (λ v. v.items) c.replace-hung.ensures.value) (ap (λ v. v.items) c.replace-handed.ensures.value) c.in-Ok-new.ensures.begins c.as_slice.ensures c.play_in-course.ensures.plan
+    c.requires.good c.requires.given (sym c.take.ensures.value ∙ c.in-Some.is) (ap (λ v. v.items) c.replace-hung.ensures.value) (ap (λ v. v.items) c.replace-handed.ensures.value) _ _ c.in-Ok-new.ensures.begins c.as_slice.ensures c.play_in-course.ensures.plan
     (c.hand_back-2.ensures.disks ∙ c.into_parts.ensures.disks) (c.hand_back-2.ensures.judge ∙ ap Some c.into_parts.ensures.watched.0) (c.hand_back-2.ensures.bells ∙ c.into_parts.ensures.watched.1)
     c.in-Ok-new.ensures.disks c.in-Ok-new.ensures.power c.into_parts.ensures.happened c.into_parts.ensures.holds after refl refl c.requires.said c.play_in-course.result c.play_in-course.ensures.comes c.go_on.result c.go_on.ensures.goes
 

@@ -1,9 +1,11 @@
-use Rattle.std.proofs.Common.{rules, ◌∙◌, ◌++◌, ap, sym, subst, refl}
+use Rattle.std.proofs.Common.{rules, arith, ◌∙◌, ◌++◌, [], ap, sym, subst, refl}
 use Rattle.std.specs.Prelude.{Some, None, reverse, map}
 use Rattle.std.proofs.lemmas.List.{reverse-reverse}
 use Rattle.lks_world.proofs.FuseLaws.{same_fuses, fuses_told, fresh_unfused}
 use Rattle.lks_watch.specs.declared.watches.Watch.{Watch}
-use Rattle.lks_world.proofs.Watched.{asked_first}
+use Rattle.lks_alarm.specs.Bells.{left_of, seen}
+use Rattle.lks_watch.specs.Watching.{ears}
+use Rattle.lks_world.proofs.Remembering.{begins_watched}
 use Rattle.lks_world.specs.Counts.{ServesHonest}
 use Rattle.lks_world.specs.Held.{AreFresh}
 use Rattle.lks_world.specs.Powers.{power_of}
@@ -27,14 +29,23 @@ invariant_of-result g c =
     record {
       good = c.requires.good;
       happened = made.state.happened;
+      used = omega arith;
       entries = made.state.entries;
       state = λ running. made.state;
-      heard = λ running. ap (λ (w : Watch g.row.J.Denot g.row.B.Denot). g.J.EffortJudge.heard w.judge) c.new.ensures ∙ c.requires.unasked ∙ asked_first c.args.plan (ap events_of made.nothing);
+      watched = λ running.
+          begins_watched (ears g.J.EffortJudge.heard g.J.EffortJudge.verdict g.B.Bell.rung g.B.Bell.limit) c.args.plan c.of-first_limits.result.numbers (events_of c.in-Ok.state.history.items) c.new.result.judge c.new.result.desk
+          (ap events_of made.nothing) (ap (λ (w : Watch g.row.J.Denot g.row.B.Denot). g.J.EffortJudge.heard w.judge) c.new.ensures ∙ c.requires.unasked)
+          (ap (λ (w : Watch g.row.J.Denot g.row.B.Denot). seen g.B.Bell.rung g.B.Bell.limit w.desk) c.new.ensures ∙ c.requires.silent ∙ ap (left_of []) (sym c.of-first_limits.ensures));
       seats = made.seats;
       unfused =
           let now = disks_at c.in-Ok.state.seats.items ++ reverse c.begin.new.disks.items in
           same_fuses f disks now (fuses_told f disks now (made.power ∙ ap (map (power_of f)) back)) (fresh_unfused f disks c.requires.fresh);
       room = made.room;
+      served = record {
+        first = disks;
+        counted = sym c.of-first_faults.ensures;
+        serves = subst (λ ds. ServesHonest f c.args.plan.peers ds (disks_at c.in-Ok.state.seats.items ++ reverse c.begin.new.disks.items) None) back made.serves;
+      };
     }
 
 pub returns-in-Ok-clause-disks : goal.returns-in-Ok-clause-disks
@@ -71,3 +82,17 @@ returns-clause-power g c =
     let back = ap reverse c.turn_round.ensures.items ∙ reverse-reverse c.args.disks.items in
     let given = c.turn_round-in-Err.ensures.items in
     ap (map (power_of g.D.Disk.face)) given ∙ c.in-Err.ensures.power ∙ ap (map (power_of g.D.Disk.face)) back
+
+pub returns-in-Ok-clause-begins : goal.returns-in-Ok-clause-begins
+returns-in-Ok-clause-begins g c = record {
+  plan = refl;
+  pooled = c.in-Ok.ensures.pool;
+  limits = c.of-first_limits.ensures;
+  counts = c.of-first_faults.ensures;
+  history = ap events_of c.in-Ok.ensures.nothing;
+  turns = refl;
+  out = search rules;
+  running = refl;
+  judge = ap (λ (w : Watch g.row.J.Denot g.row.B.Denot). w.judge) c.new.ensures;
+  bells = ap (λ (w : Watch g.row.J.Denot g.row.B.Denot). w.desk) c.new.ensures;
+}

@@ -1,7 +1,10 @@
-use Rattle.std.proofs.Common.{◌∙◌, ◌++◌, ap, arith, length, subst}
+use Rattle.std.proofs.Common.{◌≡◌, ◌∙◌, ◌++◌, ap, sym, arith, length, subst}
 use Rattle.std.specs.Prelude.{Some, None, Ok, Err, reverse}
 use Rattle.std.proofs.lemmas.List.{length-map}
+use Rattle.lks_base.specs.declared.plans.Plan.{Plan}
+use Rattle.lks_script.specs.StepRules.{is_step_of}
 use Rattle.lks_world.proofs.CutLaws.{if_some}
+use Rattle.lks_world.proofs.Remembering.{performs_watched, served_on}
 use Rattle.lks_world.proofs.FuseLaws.{same_fuses}
 use Rattle.lks_world.proofs.SeatLaws.{fuses_joined}
 use Rattle.lks_world.specs.Counts.{ServesHonest}
@@ -13,7 +16,7 @@ use Rattle.lks_world.proofs.SeatLaws.{disks_left}
 use Rattle.lks_watch.specs.Watching.{ears}
 use Rattle.lks_world.specs.Stopping.{StopsIn}
 use Rattle.lks_world.proofs.PowerEnds.{honest_power}
-use Rattle.lks_world.specs.Worlds.{SpendsPower, seen_in}
+use Rattle.lks_world.specs.Worlds.{HaveServed, PerformsIn, SpendsPower, seen_in}
 use Rattle.lks_world.specs.declared.worlds.World.TheInside.{Inside}
 use Rattle.lks_world.proofs.worlds.World.perform.Goals as goal
 
@@ -34,18 +37,26 @@ invariant_of-self g c =
     let f = g.D.Disk.face in
     let a = c.self.inside in
     let kept = c.self.invariant in
+    let runs : a.stopped ≡ None = ap (λ (v : Seen g.row.D.Denot g.row.J.Denot g.row.B.Denot). v.stopped) c.self.view_is ∙ c.requires.running in
     let did = c.in-Ok.ensures in
     let before = a.state.seats.items in
     let after = c.perform.new.state.seats.items in
     record {
       good = kept.good;
       happened = did.extends.happened;
+      used = kept.used;
       entries = did.extends.entries;
       state = λ running. did.state;
-      heard = λ running. did.performs.1.heard (kept.heard (ap (λ (v : Seen g.row.D.Denot g.row.J.Denot g.row.B.Denot). v.stopped) c.self.view_is ∙ c.requires.running));
+      watched = λ running.
+          performs_watched (ears g.J.EffortJudge.heard g.J.EffortJudge.verdict g.B.Bell.rung g.B.Bell.limit) a.plan a.first_limits.numbers (events_in a.state) (events_in c.perform.new.state) a.watch c.perform.new.watch c.args.step.now
+          (ap (λ (p : Plan). is_step_of p c.args.step.now) (ap (λ (v : Seen g.row.D.Denot g.row.J.Denot g.row.B.Denot). v.plan) c.self.view_is) ∙ c.requires.legal) (kept.watched runs) did.performs.0 did.performs.1;
       seats = did.counted.ids ∙ kept.seats;
       unfused = same_fuses f (disks_at before ++ reverse a.rest.items) (disks_at after ++ reverse a.rest.items) (fuses_joined f (disks_at before) (disks_at after) (reverse a.rest.items) did.counted.fuses) kept.unfused;
       room = omega (arith, kept.room, ap length did.counted.ids, length-map before id_at, length-map after id_at);
+      served =
+          subst (λ fault. HaveServed f a.plan.peers a.first_faults.numbers (disks_at after ++ reverse a.rest.items) fault) (sym runs)
+          (served_on f a.plan.peers a.first_faults.numbers (disks_at before ++ reverse a.rest.items) (disks_at after ++ reverse a.rest.items) None
+          (subst (λ fault. HaveServed f a.plan.peers a.first_faults.numbers (disks_at before ++ reverse a.rest.items) fault) runs kept.served) (did.counted.serves a.plan.peers (reverse a.rest.items) kept.seats));
     }
 
 pub invariant_of-self-in-Err : goal.invariant_of-self-in-Err
@@ -53,18 +64,23 @@ invariant_of-self-in-Err g c =
     let f = g.D.Disk.face in
     let a = c.self.inside in
     let kept = c.self.invariant in
+    let runs : a.stopped ≡ None = ap (λ (v : Seen g.row.D.Denot g.row.J.Denot g.row.B.Denot). v.stopped) c.self.view_is ∙ c.requires.running in
     let did = c.in-Err.ensures in
     let before = a.state.seats.items in
     let after = c.perform.new.state.seats.items in
     record {
       good = kept.good;
       happened = did.extends.happened;
+      used = kept.used;
       entries = did.extends.entries;
       state = λ running. absurd cc;
-      heard = λ running. absurd cc;
+      watched = λ running. absurd cc;
       seats = did.counted.ids ∙ kept.seats;
       unfused = same_fuses f (disks_at before ++ reverse a.rest.items) (disks_at after ++ reverse a.rest.items) (fuses_joined f (disks_at before) (disks_at after) (reverse a.rest.items) did.counted.fuses) kept.unfused;
       room = omega (arith, kept.room, ap length did.counted.ids, length-map before id_at, length-map after id_at);
+      served =
+          served_on f a.plan.peers a.first_faults.numbers (disks_at before ++ reverse a.rest.items) (disks_at after ++ reverse a.rest.items) (Some c.in-Err.fault)
+          (subst (λ fault. HaveServed f a.plan.peers a.first_faults.numbers (disks_at before ++ reverse a.rest.items) fault) runs kept.served) (did.counted.serves a.plan.peers (reverse a.rest.items) kept.seats);
     }
 
 pub returns-in-Err-clause-stops : goal.returns-in-Err-clause-stops
@@ -76,7 +92,7 @@ returns-in-Err-clause-stops g c =
     let w = c.perform.new.watch in
     let disks = disks_at t.seats.items ++ reverse a.rest.items in
     let had = c.in-Err.ensures.stops in
-    let new : Seen g.row.D.Denot g.row.J.Denot g.row.B.Denot = record { plan = a.plan; history = events_in t; stopped = Some c.in-Err.fault; disks = disks; judge = w.judge; bells = w.desk } in
+    let new : Seen g.row.D.Denot g.row.J.Denot g.row.B.Denot = seen_in (record { alloc = a.alloc; plan = a.plan; state = t; watch = w; rest = a.rest; stopped = Some c.in-Err.fault; turns = a.turns; out = a.out; first_limits = a.first_limits; first_faults = a.first_faults }) in
     let left = disks_left f a.plan had.next t (reverse a.rest.items) had.left (c.in-Err.ensures.counted.ids ∙ c.self.invariant.seats) in
     subst (λ (v : Seen g.row.D.Denot g.row.J.Denot g.row.B.Denot). StopsIn f e c.args.step.now v new) c.self.view_is (record { next = had.next; up_to = had.up_to; stops = had.stops; left = left })
 
@@ -85,7 +101,7 @@ returns-in-Ok-clause-power g c =
     let f = g.D.Disk.face in
     let a = c.self.inside in
     let t = c.perform.new.state in
-    let b : Inside g.row.D.Denot g.row.J.Denot g.row.B.Denot = record { alloc = a.alloc; plan = a.plan; state = t; watch = c.perform.new.watch; rest = a.rest; stopped = a.stopped } in
+    let b : Inside g.row.D.Denot g.row.J.Denot g.row.B.Denot = record { alloc = a.alloc; plan = a.plan; state = t; watch = c.perform.new.watch; rest = a.rest; stopped = a.stopped; turns = a.turns; out = a.out; first_limits = a.first_limits; first_faults = a.first_faults } in
     let did = c.in-Ok.ensures in
     subst (λ (v : Seen g.row.D.Denot g.row.J.Denot g.row.B.Denot). SpendsPower f g.J.EffortJudge.verdict c.args.step.now v (seen_in b) (Ok (tt {0}))) c.self.view_is
     (record {
@@ -100,10 +116,16 @@ returns-in-Err-clause-power g c =
     let f = g.D.Disk.face in
     let a = c.self.inside in
     let t = c.perform.new.state in
-    let b : Inside g.row.D.Denot g.row.J.Denot g.row.B.Denot = record { alloc = a.alloc; plan = a.plan; state = t; watch = c.perform.new.watch; rest = a.rest; stopped = Some c.in-Err.fault } in
+    let b : Inside g.row.D.Denot g.row.J.Denot g.row.B.Denot = record { alloc = a.alloc; plan = a.plan; state = t; watch = c.perform.new.watch; rest = a.rest; stopped = Some c.in-Err.fault; turns = a.turns; out = a.out; first_limits = a.first_limits; first_faults = a.first_faults } in
     let did = c.in-Err.ensures in
     subst (λ (v : Seen g.row.D.Denot g.row.J.Denot g.row.B.Denot). SpendsPower {T = Unit {0}} f g.J.EffortJudge.verdict c.args.step.now v (seen_in b) (Err c.in-Err.fault)) c.self.view_is
     (record {
       counted = honest_power f a.plan _ (events_in a.state) (events_in t) (Some c.in-Err.fault) a.plan.peers a.state.seats.items t.seats.items (reverse a.rest.items) c.self.invariant.seats did.counted.ids did.power;
       burned = λ calls choice given is none. absurd cc;
     })
+
+pub returns-in-Ok-clause-performs : goal.returns-in-Ok-clause-performs
+returns-in-Ok-clause-performs g c =
+    let a = c.self.inside in
+    subst (λ (v : Seen g.row.D.Denot g.row.J.Denot g.row.B.Denot). PerformsIn (ears g.J.EffortJudge.heard g.J.EffortJudge.verdict g.B.Bell.rung g.B.Bell.limit) c.args.step.now v (seen_in (record a { state = c.perform.new.state; watch = c.perform.new.watch }))) c.self.view_is
+    (record { performs = c.in-Ok.ensures.performs.0; watches = c.in-Ok.ensures.performs.1 })

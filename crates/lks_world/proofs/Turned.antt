@@ -1,0 +1,126 @@
+-- What a world keeps when something that is due was given out or done.
+use Rattle.std.proofs.Common.{◌≡◌, ◌≢◌, ◌≤◌, ◌<◌, ◌+◌, ◌∙◌, ap, sym, subst, refl, arith, ℕ, List, [], ◌∷◌, ◌++◌, length}
+use Rattle.std.specs.Prelude.{Option, Some, None, Result, Ok, Err, Vec, reverse, slice_get}
+use Rattle.std.specs.declared.alloc.Global.{Global}
+use Rattle.std.proofs.lemmas.List.{length-map}
+use Rattle.lks_base.specs.declared.events.Due.{Due}
+use Rattle.lks_base.specs.declared.events.Event.{Event}
+use Rattle.lks_disk.specs.Face.{Face}
+use Rattle.lks_law.proofs.Dues.{event_is_of, is_due}
+use Rattle.lks_law.specs.Due.{dues, IsEventOf}
+use Rattle.lks_law.specs.Entries.{entries}
+use Rattle.lks_law.specs.Histories.{IsHistory}
+use Rattle.lks_law.specs.Questions.{event_of}
+use Rattle.lks_watch.specs.Watching.{Ears, WatchesBy}
+use Rattle.lks_watch.specs.declared.watches.Watch.{Watch}
+use Rattle.lks_work.specs.declared.jobs.JobName.{JobName}
+use Rattle.lks_world.proofs.DueLaws.{due_doable}
+use Rattle.lks_world.proofs.FuseLaws.{same_fuses}
+use Rattle.lks_world.proofs.Judging.{due_judged}
+use Rattle.lks_world.proofs.Remembering.{event_watched, served_on}
+use Rattle.lks_world.proofs.SameSeats.{same_counted, same_disks, same_state}
+use Rattle.lks_world.proofs.SeatLaws.{fuses_joined}
+use Rattle.lks_world.specs.Beside.{AreSameSeats}
+use Rattle.lks_world.specs.Doable.{IsDoable}
+use Rattle.lks_world.specs.Giving.{HasTurn, TakesTurn}
+use Rattle.lks_world.specs.Seats.{disks_at, id_at, Counted}
+use Rattle.lks_world.specs.States.{events_in, events_of, Becomes, IsStateOf}
+use Rattle.lks_world.specs.Worlds.{HaveServed, IsKept, seen_in}
+use Rattle.lks_world.specs.declared.faults.WorldFault.{WorldFault}
+use Rattle.lks_world.specs.declared.faults.WorldFault.TheVariants.{Memory}
+use Rattle.lks_world.specs.declared.seats.Seat.{Seat}
+use Rattle.lks_world.specs.declared.states.State.{State}
+use Rattle.lks_world.specs.declared.worlds.World.TheInside.{Inside}
+
+module _ {D J B : Type 0} (f : Face D) (e : Ears J B) (a : Inside D J B) (kept : IsKept f e a) (runs : a.stopped ≡ None) where
+  pub due_here : (k : ℕ) (d : Due) → slice_get (dues a.plan (events_in a.state)) k ≡ Some d → IsDoable f e.heard a.plan a.state a.watch d
+  due_here k d at = due_doable f e.heard a.plan a.state a.watch k d (kept.state runs) (kept.watched runs).heard at
+
+  abbrev the_event : Due → Event
+  the_event d = event_of (e.verdict a.watch.judge) a.plan (events_in a.state) d
+
+  -- after a turn
+  pub kept_turned : (k : ℕ) (d : Due) → slice_get (dues a.plan (events_in a.state)) k ≡ Some d → a.turns < a.plan.turns → (t : State D) (w : Watch J B) → Becomes f a.plan (events_in a.state ++ the_event d ∷ []) t
+      → WatchesBy e a.plan (events_in a.state) (events_in t) a.watch w → Counted {T = Unit {0}} f a.state.seats.items t.seats.items (Ok tt) → IsKept f e (record a { state = t; watch = w; turns = a.turns + 1 })
+  kept_turned k d at left t w becomes watches counted =
+      let before = a.state.seats.items in
+      let after = t.seats.items in
+      let can = due_here k d at in
+      record {
+        good = kept.good;
+        happened = becomes.state.happened;
+        used = omega (arith, left);
+        entries = becomes.state.entries;
+        state = λ running. becomes.state;
+        watched = λ running.
+            event_watched e a.plan a.first_limits.numbers (events_in a.state) (events_in t) (the_event d) a.watch w (kept.watched runs) becomes.events
+            (due_judged (e.verdict a.watch.judge) a.plan (events_in a.state) d (can.may (e.verdict a.watch.judge)) can.asks) watches;
+        seats = counted.ids ∙ kept.seats;
+        unfused = same_fuses f (disks_at before ++ reverse a.rest.items) (disks_at after ++ reverse a.rest.items) (fuses_joined f (disks_at before) (disks_at after) (reverse a.rest.items) counted.fuses) kept.unfused;
+        room = omega (arith, kept.room, ap length counted.ids, length-map before id_at, length-map after id_at);
+        served =
+            subst (λ fault. HaveServed f a.plan.peers a.first_faults.numbers (disks_at after ++ reverse a.rest.items) fault) (sym runs)
+            (served_on f a.plan.peers a.first_faults.numbers (disks_at before ++ reverse a.rest.items) (disks_at after ++ reverse a.rest.items) None
+            (subst (λ fault. HaveServed f a.plan.peers a.first_faults.numbers (disks_at before ++ reverse a.rest.items) fault) runs kept.served) (counted.serves a.plan.peers (reverse a.rest.items) kept.seats));
+      }
+
+  -- after a fault that left the history
+  pub kept_faulted : (t : State D) (w : Watch J B) (fault : WorldFault) → t.history.items ≡ a.state.history.items → Counted {T = Unit {0}} f a.state.seats.items t.seats.items (Err fault)
+      → (out : Vec JobName Global) → IsKept f e (record a { state = t; watch = w; stopped = Some fault; out = out })
+  kept_faulted t w fault history counted out =
+      let before = a.state.seats.items in
+      let after = t.seats.items in
+      let same : events_in t ≡ events_in a.state = ap events_of history in
+      record {
+        good = kept.good;
+        happened = subst (IsHistory a.plan) (sym same) kept.happened;
+        used = kept.used;
+        entries = history ∙ kept.entries ∙ ap (entries a.plan) (sym same);
+        state = λ running. absurd cc;
+        watched = λ running. absurd cc;
+        seats = counted.ids ∙ kept.seats;
+        unfused = same_fuses f (disks_at before ++ reverse a.rest.items) (disks_at after ++ reverse a.rest.items) (fuses_joined f (disks_at before) (disks_at after) (reverse a.rest.items) counted.fuses) kept.unfused;
+        room = omega (arith, kept.room, ap length counted.ids, length-map before id_at, length-map after id_at);
+        served =
+            served_on f a.plan.peers a.first_faults.numbers (disks_at before ++ reverse a.rest.items) (disks_at after ++ reverse a.rest.items) (Some fault)
+            (subst (λ fault. HaveServed f a.plan.peers a.first_faults.numbers (disks_at before ++ reverse a.rest.items) fault) runs kept.served) (counted.serves a.plan.peers (reverse a.rest.items) kept.seats);
+      }
+
+  -- beside jobs that were made: nothing but what was told of places, and which jobs are out
+
+  pub kept_still : (xs : Vec (Seat D) Global) (out : Vec JobName Global) → AreSameSeats a.state.seats.items xs.items → IsKept f e (record a { state = record a.state { seats = xs }; out = out })
+  kept_still xs out same =
+      let counted = same_counted f a.state.seats.items xs.items (Ok (tt {0})) (λ id is. absurd cc) same in
+      let before = a.state.seats.items in
+      let after = xs.items in
+      record {
+        good = kept.good;
+        happened = kept.happened;
+        used = kept.used;
+        entries = kept.entries;
+        state = λ running. same_state f a.plan a.state (record a.state { seats = xs }) same refl (kept.state running);
+        watched = kept.watched;
+        seats = counted.ids ∙ kept.seats;
+        unfused = same_fuses f (disks_at before ++ reverse a.rest.items) (disks_at after ++ reverse a.rest.items) (fuses_joined f (disks_at before) (disks_at after) (reverse a.rest.items) counted.fuses) kept.unfused;
+        room = omega (arith, kept.room, ap length counted.ids, length-map before id_at, length-map after id_at);
+        served = subst (λ ds. HaveServed f a.plan.peers a.first_faults.numbers (ds ++ reverse a.rest.items) a.stopped) (sym (same_disks before after same)) kept.served;
+      }
+
+  pub seen_still : (xs : Vec (Seat D) Global) (out : Vec JobName Global) → AreSameSeats a.state.seats.items xs.items → seen_in (record a { state = record a.state { seats = xs }; out = out }) ≡ record (seen_in a) { out = out.items }
+  seen_still xs out same = ap (λ ds. record (seen_in a) { out = out.items; disks = ds ++ reverse a.rest.items }) (same_disks a.state.seats.items xs.items same)
+
+  pub kept_refused : (xs : Vec (Seat D) Global) (out : Vec JobName Global) → AreSameSeats a.state.seats.items xs.items → IsKept f e (record a { state = record a.state { seats = xs }; stopped = Some Memory; out = out })
+  kept_refused xs out same =
+      kept_faulted (record a.state { seats = xs }) a.watch Memory refl (same_counted f a.state.seats.items xs.items (Err Memory) (λ id is. absurd cc) same) out
+
+  -- one event more, for a turn
+  pub turn_taken : (k : ℕ) (d : Due) → slice_get (dues a.plan (events_in a.state)) k ≡ Some d → HasTurn (seen_in a) → (t : State D) (w : Watch J B) → Becomes f a.plan (events_in a.state ++ the_event d ∷ []) t
+      → TakesTurn (IsEventOf d) (seen_in a) (seen_in (record a { state = t; watch = w; turns = a.turns + 1 }))
+  turn_taken k d at turn t w becomes = record {
+    event = the_event d;
+    is = event_is_of a.plan (events_in a.state) (e.verdict a.watch.judge) d;
+    more = becomes.events;
+    due = is_due a.plan (events_in a.state) (e.verdict a.watch.judge) k d at;
+    left = turn;
+    used = refl;
+  }

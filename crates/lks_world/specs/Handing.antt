@@ -1,0 +1,63 @@
+-- Jobs and results at one seat, and what is due beside work.
+use Rattle.std.specs.Prelude.{◌≡◌, ◌≢◌, ◌⊎◌, ℕ, Bool, true, false, Option, Some, None, List, [], slice_get}
+use Rattle.lks_base.specs.declared.events.Due.{Due}
+use Rattle.lks_base.specs.declared.events.Due.TheVariants as dues
+use Rattle.lks_base.specs.declared.events.Event.{Event}
+use Rattle.lks_base.specs.declared.plans.Plan.{Plan}
+use Rattle.lks_disk.specs.Face.{Face}
+use Rattle.lks_host.specs.declared.hosts.Host.{Host}
+use Rattle.lks_law.specs.Due.{dues, is_work, pending, ready}
+use Rattle.lks_law.specs.World.{peer_at, world}
+use Rattle.lks_peer.specs.Accepting.{is_ready_for, tag_for, IsJobOf}
+use Rattle.lks_versions.specs.declared.places.Place.{Place}
+use Rattle.lks_versions.specs.declared.versions.PinTag.{PinTag}
+use Rattle.lks_work.specs.Names.{name_done}
+use Rattle.lks_work.specs.declared.jobs.Job.{Job}
+use Rattle.lks_work.specs.declared.jobs.JobName.{JobName}
+use Rattle.lks_work.specs.declared.results.JobDone.{JobDone}
+use Rattle.lks_world.specs.Giving.{peer_named}
+use Rattle.lks_world.specs.Hosts.{peer_in, peers_of}
+use Rattle.lks_world.specs.Seats.{hosts_of}
+use Rattle.lks_world.specs.declared.giving.Next.{Next}
+use Rattle.lks_world.specs.declared.giving.Next.TheVariants as next
+use Rattle.lks_world.specs.declared.seats.Seat.{Seat}
+use Rattle.lks_world.specs.declared.seats.Seat.TheVariants as seat
+
+-- the peer that sits there is ready for this work
+abbrev pub IsReadyAt : {D : Type 0} → JobName → Seat D → Type 0
+IsReadyAt name (seat.Host h) = is_ready_for h.peer.own h.peer.state name ≡ true
+IsReadyAt name (seat.Idle d) = ⊥
+
+-- it is the job of this work, as the peer makes it that sits there
+abbrev pub IsJobAt : {D : Type 0} → JobName → Seat D → Job → Type 0
+IsJobAt name (seat.Host h) j = (places : List Place) × IsJobOf h.peer.own h.peer.state h.peer.kept places name j
+IsJobAt name (seat.Idle d) j = ⊥
+
+-- over which version a result would be taken there
+abbrev pub IsExpectedAt : {D : Type 0} → JobDone → Seat D → Option PinTag → Type 0
+IsExpectedAt d (seat.Host h) expected = (places : List Place) × (expected ≡ tag_for h.peer.state places d)
+IsExpectedAt d (seat.Idle disk) expected = expected ≡ None
+
+-- the peer of the result sits there, and expects this version
+pub record IsToldBy {D : Type 0} (f : Face D) (d : JobDone) (seats : List (Seat D)) (expected : Option PinTag) : Type 0 where
+  pub host : Host D
+  pub rank : ℕ
+  pub ranked : slice_get (hosts_of seats) rank ≡ Some host
+  pub found : peer_at (peer_named (name_done d)) (peers_of f (hosts_of seats)) ≡ Some (peer_in f host)
+  pub places : List Place
+  pub is : expected ≡ tag_for host.peer.state places d
+
+-- or there is no such peer, and no version is expected
+abbrev pub Expects : {D : Type 0} → Face D → JobDone → List (Seat D) → Option PinTag → Type 0
+Expects f d seats expected = ((peer_at (peer_named (name_done d)) (peers_of f (hosts_of seats)) ≡ None) × (expected ≡ None)) ⊎ IsToldBy f d seats expected
+
+-- a delivery, or a step that is no work
+abbrev pub IsBesideWork : Due → Type 0
+IsBesideWork (dues.Delivery i) = Unit {0}
+IsBesideWork (dues.Own s) = is_work s ≡ false
+
+-- what is due beside work: it comes first of what is due, or no envelope waits and work is ready, or nothing is due
+abbrev pub IsNext : Plan → List Event → Next → Type 0
+IsNext plan history (next.Due d) = IsBesideWork d × (slice_get (dues plan history) 0 ≡ Some d)
+IsNext plan history next.Work = (pending plan history ≡ []) × (ready (world plan history) ≢ [])
+IsNext plan history next.Nothing = dues plan history ≡ []
