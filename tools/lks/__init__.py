@@ -14,4 +14,8 @@ files    files as AUs, by a manifest, and back
 disk     journals as they stand on disks
 gather   a folder's journal files as inputs of `lockss evidence`
 evidence the rules of `lockss evidence` again
+attack   runs in which honest peers audit copies while a strategy moves the others
+strategies  the strategies
+outcome  what came of such a run, checked and summed up
+picture  medians and extremes, drawn
 """
