@@ -10,4 +10,12 @@ message  messages, and those of a whole run, by its report and its journals
 hashes   nonces, keys, votes, draws
 fields   what messages and records are made of
 play     the program, and runs in which a strategy answers what it receives
+files    files as AUs, by a manifest, and back
+disk     journals as they stand on disks
+gather   a folder's journal files as inputs of `lockss evidence`
+evidence the rules of `lockss evidence` again
+attack   runs in which honest peers audit copies while a strategy moves the others
+strategies  the strategies
+outcome  what came of such a run, checked and summed up
+picture  medians and extremes, drawn
 """

@@ -112,10 +112,11 @@ def _read_journal(plan: Plan, known: Iterable[int], line: str) -> tuple[int, lis
         raise Broken(f"no journal: {fault}") from None
 
 
-def read(data: bytes) -> Journals:
-    """The plan and the journals that these bytes say, or `BadLine` for their first bad line."""
-    if len(data) > MOST_BYTES:
-        raise ValueError(f"more than {MOST_BYTES} bytes")
+def read(data: bytes, most: int = MOST_BYTES) -> Journals:
+    """The plan and the journals that these bytes say, or `BadLine` for their first bad line. What `lockss journals` writes may
+    have more bytes than `lockss evidence` reads, which are `most` where nothing else is said."""
+    if len(data) > most:
+        raise ValueError(f"more than {most} bytes")
     at = 0 if data.startswith(b"journal ") else data.find(b"\njournal ") + 1 or len(data)
     script = Script()
     read_lines(script, data[:at])

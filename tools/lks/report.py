@@ -110,7 +110,7 @@ def _said(kinds: dict[str, str], text: str) -> tuple[str, dict[str, int], str]:
     return name, values, "".join(word for what, word in zip(names, words) if what in WORDS)
 
 
-def _add_line(report: Report, line: str) -> None:
+def add_line(report: Report, line: str) -> None:
     """Adds a line behind the first and before the last one."""
     if parts := EVENT.fullmatch(line):
         number, cut, text, judged, notes, sends = parts.groups(default="")
@@ -143,7 +143,7 @@ def read(text: str) -> Report:
         if line == f"end {len(report.events)}" and place == len(lines) and not rest:
             return report
         try:
-            _add_line(report, line)
+            add_line(report, line)
         except BadReport as fault:
             raise BadReport(f"line {place}: {fault}") from None
     raise BadReport("it isn't whole: its last line isn't `end` and the number of events")
