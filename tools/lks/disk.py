@@ -2,6 +2,7 @@
 
 from __future__ import annotations
 
+from collections.abc import Collection
 from typing import NamedTuple
 
 from lks.fields import BadBytes, whole
@@ -54,20 +55,25 @@ def read(data: bytes) -> Disk:
     return Disk(data, found, at)
 
 
-def appended(plan: Plan, peer: int, disk: Disk) -> int:
-    """How many bytes an append may have left behind the closed gate: those of the frame of the deposit that is due there, or,
-    behind the deposits, of an event's."""
-    copies, deposited = plan.peers[peer].copies, {it.au for it in disk.records() if isinstance(it, Deposit)}
+def appended(plan: Plan, peer: int, deposited: Collection[int]) -> int:
+    """How many bytes an append may have left behind the closed gate of a journal with the deposits of these AUs: those of the
+    frame of the deposit that is due there, or, behind the deposits, of an event's."""
+    copies = plan.peers[peer].copies
     due = [Deposit(au, tuple(copies[au])) for au in plan.aus if au in copies and au not in deposited]
     return 5 + len(BATCH.write(due[:1])) if due else MOST_APPENDED
 
 
-def look(plan: Plan, peer: int, disk: Disk) -> None:
+def doubt(plan: Plan, peer: int, deposited: Collection[int], gate: int, size: int) -> None:
     """Raises `Damaged` where more stands behind the closed gate than an append leaves: then an open gate was damaged.
 
     No frame says so, since what stands behind a closed gate isn't read. As much as an append leaves, or less, can't be told
     from one that was torn.
     """
-    behind = len(disk.data) - disk.gate - 1
-    if behind > appended(plan, peer, disk):
-        raise Damaged(disk.gate, f"its gate is closed, and {behind} bytes stand behind it")
+    behind = size - gate - 1
+    if behind > appended(plan, peer, deposited):
+        raise Damaged(gate, f"its gate is closed, and {behind} bytes stand behind it")
+
+
+def look(plan: Plan, peer: int, disk: Disk) -> None:
+    """Raises `Damaged` where the closed gate of a disk is doubtful."""
+    doubt(plan, peer, {it.au for it in disk.records() if isinstance(it, Deposit)}, disk.gate, len(disk.data))
