@@ -12,6 +12,10 @@ widest N 32 honest peers on 256 blocks of 240 bytes, the first N of three of the
          eight inner voters
 pair N   100 polls of two honest voters, one after another, on seven blocks of 16 KiB and one of N bytes: the two votes of each
          are ready together
+race N   32 honest peers on 128 blocks of 4,096 bytes, each of which is invited to the polls of eight others and opens one
+         itself, with N turns: with 1,536 a race ends when all votes are in
+settled N
+         the same with settle as its last step
 together N
          N honest peers on 128 blocks of 16 KiB, each of which opens a poll whose voters are all others; the votes of all
          polls are hashed in one step, and the tallies of all in another
@@ -101,6 +105,25 @@ def together(count):
     yield "settle\n"
 
 
+def race(turns):
+    """Peer p invites the eight peers behind it, counted round."""
+    peers = range(1, 33)
+    blocks = [f"{block:02x}*4096" for block in range(128)]
+    for line in honest(peers, "inner 8 quorum 5 minority 2 outer 0 repairs 4", blocks):
+        if line.startswith("au "):
+            yield f"turns {turns}\n"
+        if line.startswith("refs "):
+            peer = int(line.split()[1])
+            line = f"refs {peer} {' '.join(str((peer + step - 1) % 32 + 1) for step in range(1, 9))}\n"
+        yield line
+    yield from (f"open {peer} 1\n" for peer in peers)
+
+
+def settled(turns):
+    yield from race(turns)
+    yield "settle\n"
+
+
 def repairs(count):
     peers = range(1, 5)
     yield from honest(peers, "inner 3 quorum 3 minority 1 outer 0 repairs 512", [f"{block % 256:02x}*3072" for block in range(512)])
@@ -126,7 +149,7 @@ def pair(last):
         yield f"open 1 1\nsettle\nshut 1 {number}\nsettle\n"
 
 
-FAMILIES = {"mend": mend, "small": small, "hash": large, "wide": wide, "repairs": repairs, "widest": widest, "pair": pair, "together": together}
+FAMILIES = {"mend": mend, "small": small, "hash": large, "wide": wide, "repairs": repairs, "widest": widest, "pair": pair, "race": race, "settled": settled, "together": together}
 
 if __name__ == "__main__":
     parser = argparse.ArgumentParser(description=__doc__, formatter_class=argparse.RawDescriptionHelpFormatter)

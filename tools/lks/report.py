@@ -162,3 +162,8 @@ def polls_of(report: Report) -> list[PollName | None]:
             poll = poll or found[sender]
         found[event.number] = poll
     return list(found.values())
+
+
+def ending(told: bytes) -> bytes:
+    """The lines behind the title and the events of a report."""
+    return b"".join(line for line in told.splitlines(keepends=True)[1:] if not line[:1].isdigit())

@@ -1,4 +1,4 @@
-//! The command line, read as a command and a seed. No word is an option, so one with a leading hyphen is refused before clap reads it.
+//! The command line, read as a command and a number. No word is an option, so one with a leading hyphen is refused before clap reads it.
 
 ghost use Rattle.std.specs.Prelude.{◌≡◌, map, string_bytes, true, IfOk};
 ghost use Rattle.clap.specs.Words.{app_of, found_of, matches_of, rows_of};
@@ -22,7 +22,7 @@ pub fn are_operands(words: &[String]) -> bool
 {
     match words {
         [word] => is_operand(word),
-        [word, seed] => is_operand(word) && is_operand(seed),
+        [word, number] => is_operand(word) && is_operand(number),
         _ => false,
     }
 }
@@ -34,16 +34,16 @@ fn new_line<'a>(alloc: Global) -> Result<Command<'a>, OutOfMemory>
     let command = Arg::new(alloc, "command")
         .required(true)
         .action(ArgAction::Set);
-    let seed = Arg::new(alloc, "seed").action(ArgAction::Set);
+    let number = Arg::new(alloc, "number").action(ArgAction::Set);
     let line = Command::new(alloc, "lockss")
         .no_binary_name(true)
         .disable_help_flag(true)
         .arg(command)?
-        .arg(seed)?;
+        .arg(number)?;
     Ok(line)
 }
 
-/// The words, read as a command and a seed.
+/// The words, read as a command and a number.
 pub fn read(alloc: Global, words: &[String]) -> Result<ArgMatches<'_>, OutOfMemory>
     requires { are_operands (map string_bytes words.now) ≡ true }
     ensures { IfOk result (λ m. rows_of (found_of m) ≡ matches_of line (map string_bytes words.now)) }

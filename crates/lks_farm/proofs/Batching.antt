@@ -62,15 +62,15 @@ dealt_full full share left all so =
     ∙ so
 
 -- the blocks of a job are those that were asked for
-refs_asked : (j : Job) → asked_refs (asked_of j) ≡ refs_of j
+pub refs_asked : (j : Job) → asked_refs (asked_of j) ≡ refs_of j
 refs_asked (jobs.Vote job) = refl
 refs_asked (jobs.Tally job) = refl
 
-refs_told : (d : JobDone) → asked_refs (asked_done d) ≡ refs_done d
+pub refs_told : (d : JobDone) → asked_refs (asked_done d) ≡ refs_done d
 refs_told (results.Vote done) = refl
 refs_told (results.Tally done) = refl
 
-one_of : (pool : List ℕ) (j : Job) (d : JobDone) → asked_done d ≡ asked_of j → AllOf pool (refs_of j) → AllOf pool (refs_done d)
+pub one_of : (pool : List ℕ) (j : Job) (d : JobDone) → asked_done d ≡ asked_of j → AllOf pool (refs_of j) → AllOf pool (refs_done d)
 one_of pool j d same of = subst (AllOf pool) (sym (refs_asked j) ∙ ap asked_refs (sym same) ∙ refs_told d) of
 
 -- what is done of jobs over blocks of a pool is over such blocks

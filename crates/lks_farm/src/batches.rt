@@ -6,7 +6,7 @@ ghost use Rattle.lks_blocks.specs.Block.{AllOf};
 ghost use Rattle.lks_farm.specs.Batches.{asked_done, AreDone, AreDoneOf, AreOf, IsHashed};
 ghost use Rattle.lks_farm.specs.Entries.{asked_of};
 ghost use Rattle.lks_hash.specs.Counting.{Opens};
-ghost use Rattle.lks_work.specs.Names.{refs_of};
+ghost use Rattle.lks_work.specs.Names.{refs_done, refs_of};
 
 use lks_base::{OutOfMemory, Seq};
 use lks_blocks::{BlockPool, BlockRef};
@@ -115,6 +115,7 @@ fn hash_votes<L: Ledger>(pool: &BlockPool, job: TallyJob, blank: Blank) -> Tally
 }
 
 /// Hashes a job, once the gate let it begin.
+#[tactic(auto, using(crate::proofs::Batching::one_of))]
 pub fn hash_job<G: Gate>(
     alloc: Global,
     pool: &BlockPool,
@@ -122,7 +123,8 @@ pub fn hash_job<G: Gate>(
     job: Job,
 ) -> Result<JobDone, OutOfMemory>
     requires { AllOf pool.now (refs_of job) }
-    ensures { IfOk result (λ done. asked_done done ≡ asked_of job) }
+    ensures asked { IfOk result (λ done. asked_done done ≡ asked_of job) }
+    ensures of { IfOk result (λ done. AllOf pool.now (refs_done done)) }
 {
     gate.begin(&job.name());
     match job {

@@ -13,7 +13,7 @@ fn owned(alloc: Global, words: &[&str]) -> Result<Vec<String>, OutOfMemory> {
     Ok(owned)
 }
 
-const ROWS: [(&[&str], Option<Command>); 23] = [
+const ROWS: [(&[&str], Option<Command>); 29] = [
     (&["replay"], Some(Command::Play(Play::Replay))),
     (
         &["drill", "0"],
@@ -42,7 +42,13 @@ const ROWS: [(&[&str], Option<Command>); 23] = [
     (&["replay", "--"], None),
     (&["--help"], None),
     (&["-h"], None),
-    (&["race", "2"], None),
+    (&["race", "1"], Some(Command::Race { threads: 1 })),
+    (&["race", "64"], Some(Command::Race { threads: 64 })),
+    (&["race"], None),
+    (&["race", "0"], None),
+    (&["race", "65"], None),
+    (&["race", "02"], None),
+    (&["race", "2", "2"], None),
     (&["drill", "1", "2"], None),
     (&[""], None),
     (&[], None),

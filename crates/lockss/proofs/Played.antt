@@ -54,7 +54,7 @@ use Rattle.lks_outside.specs.declared.sinks.WriteStop.{WriteStop}
 use Rattle.lks_report.specs.Alarms.{has_any}
 use Rattle.lks_world.specs.declared.faults.WorldFault.{WorldFault}
 use Rattle.lockss.specs.Handed.{AreGiven, Devices, IsSilent, Senses}
-use Rattle.lockss.specs.Playing.{ComesIn, CountsPower, GoesOn, IfOpen, IsPlayed, IsStopped, TellsFirst}
+use Rattle.lockss.specs.Playing.{ComesIn, CountsPower, GoesOn, IfOpen, IsPlayed, IsRefused, IsStopped, TellsFirst}
 use Rattle.lockss.specs.Deeds.{Deed, deed_of}
 use Rattle.lockss.specs.Promise.{Halts, Kept, NeverBegins, Plays, PlaysTo, ReadsAgain, Tells, Writes}
 use Rattle.lockss.specs.declared.ends.Played.{Played}
@@ -186,10 +186,10 @@ reads_again (Drill seed) reads plan history again also = absurd cc
 reads_again Journals reads plan history again also = again
 
 -- the world began with the script's plan and no events, and did its steps
-module _ {D K J B : Type 0} (e : Senses D K J B) (command : Play) (s : Script) (before after : Devices D K J B) (first now : Seen D J B) (steps : List Step) (asked : J) (hung : List B) (handed : List D)
-    (good : plan_fault s.plan ≡ None) (given : AreGiven e before) (asked_is : before.judge ≡ Some asked) (hung_is : hung ≡ before.bells) (handed_is : handed ≡ before.disks) (pool faults : List ℕ) (begins : Begins e.ears s.plan pool faults asked hung first) (same : steps ≡ s.steps)
+module _ {D K J B : Type 0} (e : Senses D K J B) (command : Play) (s : Script) (before after : Devices D K J B) (first now : Seen D J B) (steps : List Step) (asked : J)
+    (good : plan_fault s.plan ≡ None) (given : AreGiven e before) (asked_is : before.judge ≡ Some asked) (pool faults : List ℕ) (begins : Begins e.ears s.plan pool faults asked before.bells first) (same : steps ≡ s.steps)
     (kept : now.plan ≡ first.plan) (disks_back : after.disks ≡ now.disks) (judge_back : after.judge ≡ Some now.judge) (bells_back : after.bells ≡ now.bells)
-    (made : ServesHonest e.face s.plan.peers handed first.disks None) (calm : map (power_of e.face) first.disks ≡ map (power_of e.face) handed) (occurred : IsHistory now.plan now.history)
+    (made : ServesHonest e.face s.plan.peers before.disks first.disks None) (calm : map (power_of e.face) first.disks ≡ map (power_of e.face) before.disks) (occurred : IsHistory now.plan now.history)
     (holds : now.stopped ≡ None → HaveBatches e.face now.plan now.history now.disks) where
   asked_first : e.ears.heard first.judge ≡ questions first.plan first.history
   asked_first =
@@ -199,7 +199,7 @@ module _ {D K J B : Type 0} (e : Senses D K J B) (command : Play) (s : Script) (
 
   rung_first : seen e.ears.rung e.ears.limit first.bells ≡ left_of (alarms first.plan first.history) (map e.ears.limit before.bells)
   rung_first =
-      ap (seen e.ears.rung e.ears.limit) (begins.bells ∙ hung_is) ∙ silent_left e.ears.rung e.ears.limit before.bells given.silent
+      ap (seen e.ears.rung e.ears.limit) begins.bells ∙ silent_left e.ears.rung e.ears.limit before.bells given.silent
       ∙ ap (λ (raised : List Alarm). left_of raised (map e.ears.limit before.bells)) (no_alarms first.plan ∙ ap (alarms first.plan) (sym begins.history))
 
   happened : IsHistory s.plan now.history
@@ -208,10 +208,9 @@ module _ {D K J B : Type 0} (e : Senses D K J B) (command : Play) (s : Script) (
   -- first the world was made, and then the steps were done
   served_then : (fault : Option WorldFault) → ServesHonest e.face first.plan.peers first.disks now.disks fault → ServesHonest e.face s.plan.peers before.disks after.disks fault
   served_then fault played =
-      subst (λ ds. ServesHonest e.face s.plan.peers ds after.disks fault) handed_is
-      (subst (λ ds. ServesHonest e.face s.plan.peers handed ds fault) (sym disks_back)
-      (serves_then e.face s.plan.peers handed first.disks now.disks fault made
-      (subst (λ (p : Plan). ServesHonest e.face p.peers first.disks now.disks fault) begins.plan played)))
+      subst (λ ds. ServesHonest e.face s.plan.peers before.disks ds fault) (sym disks_back)
+      (serves_then e.face s.plan.peers before.disks first.disks now.disks fault made
+      (subst (λ (p : Plan). ServesHonest e.face p.peers first.disks now.disks fault) begins.plan played))
 
   -- no power failed while it was made
   power_of_all : (fault : Option WorldFault) → CountsPower e.face first now fault → HavePower e.face s.plan [] now.history fault (honest_ids s.plan.peers) (honest_disks s.plan.peers before.disks) (honest_disks s.plan.peers after.disks)
@@ -219,9 +218,8 @@ module _ {D K J B : Type 0} (e : Senses D K J B) (command : Play) (s : Script) (
       let played =
       subst (λ h. HavePower e.face s.plan h now.history fault (honest_ids s.plan.peers) (honest_disks s.plan.peers first.disks) (honest_disks s.plan.peers now.disks)) begins.history
       (subst (λ (p : Plan). HavePower e.face p first.history now.history fault (honest_ids p.peers) (honest_disks p.peers first.disks) (honest_disks p.peers now.disks)) begins.plan counts) in
-      subst (λ ds. HavePower e.face s.plan [] now.history fault (honest_ids s.plan.peers) (honest_disks s.plan.peers ds) (honest_disks s.plan.peers after.disks)) handed_is
-      (subst (λ ds. HavePower e.face s.plan [] now.history fault (honest_ids s.plan.peers) (honest_disks s.plan.peers handed) (honest_disks s.plan.peers ds)) (sym disks_back)
-      (power_then e.face s.plan (honest_ids s.plan.peers) [] [] now.history (honest_disks s.plan.peers handed) (honest_disks s.plan.peers first.disks) (honest_disks s.plan.peers now.disks) fault (power_none e.face s.plan handed first.disks calm) played))
+      subst (λ ds. HavePower e.face s.plan [] now.history fault (honest_ids s.plan.peers) (honest_disks s.plan.peers before.disks) (honest_disks s.plan.peers ds)) (sym disks_back)
+      (power_then e.face s.plan (honest_ids s.plan.peers) [] [] now.history (honest_disks s.plan.peers before.disks) (honest_disks s.plan.peers first.disks) (honest_disks s.plan.peers now.disks) fault (power_none e.face s.plan before.disks first.disks calm) played)
 
   -- what is kept at the end, or at a fault
   abbrev kept_with : (fault : Option WorldFault) (next : Option PeerStep) → e.ears.verdict now.judge ≡ e.ears.verdict first.judge → e.ears.heard now.judge ≡ questions first.plan now.history ++ asked_next (world first.plan now.history) next
@@ -257,7 +255,7 @@ module _ {D K J B : Type 0} (e : Senses D K J B) (command : Play) (s : Script) (
         (subst (HaveBatches e.face now.plan now.history) (sym disks_back) (holds played.running));
     made = first.disks;
     there = after.disks;
-    calm = calm ∙ ap (map (power_of e.face)) handed_is;
+    calm = calm;
     spent =
         subst (λ ds. AreSpent e.face (e.ears.verdict now.judge) s.plan [] first.disks s.steps now.history ds) (sym disks_back)
         (subst (λ v. AreSpent e.face v s.plan [] first.disks s.steps now.history now.disks) (sym played.watches.verdict)
@@ -266,7 +264,7 @@ module _ {D K J B : Type 0} (e : Senses D K J B) (command : Play) (s : Script) (
         (subst (λ p. AreSpent e.face (e.ears.verdict first.judge) p first.history first.disks steps now.history now.disks) begins.plan played.spent))));
   }
 
-  halted : (fault : WorldFault) → IsStopped e steps first now before.sink after.sink fault → Halts e (deed_of command) s before after fault
+  pub halted : (fault : WorldFault) → IsStopped e steps first now before.sink after.sink fault → Halts e (deed_of command) s before after fault
   halted fault stopped =
       let off = stopped.off in
       let next = off.next in
@@ -281,7 +279,7 @@ module _ {D K J B : Type 0} (e : Senses D K J B) (command : Play) (s : Script) (
             (subst (λ p. FollowsUpTo (e.ears.verdict first.judge) p first.history steps now.history next) begins.plan off.follows)));
         left = subst (λ p. HaveBatchesOrNext e.face p now.history next after.disks) begins.plan (subst (HaveBatchesOrNext e.face first.plan now.history next) (sym disks_back) off.left);
         made = first.disks;
-        calm = calm ∙ ap (map (power_of e.face)) handed_is;
+        calm = calm;
         spent =
             subst (λ ds. AreSpentUpTo e.face (e.ears.verdict now.judge) s.plan [] first.disks s.steps fault now.history ds) (sym disks_back)
             (subst (λ v. AreSpentUpTo e.face v s.plan [] first.disks s.steps fault now.history now.disks) (sym off.stops.verdict)
@@ -363,4 +361,15 @@ none_made e command s given good has = record {
   begun = none_up_to e.face s.plan given.disks has.fresh;
   power = refl;
   same = refl;
+}
+
+-- where the plan's peers didn't all begin, all else is back
+pub never_begins : {D K J B : Type 0} (e : Senses D K J B) (c : Deed) (s : Script) (before after : Devices D K J B) (fault : WorldFault) → plan_fault s.plan ≡ None → IsRefused e.face s.plan before.disks after.disks fault
+    → after.sink ≡ before.sink → after.judge ≡ before.judge → after.bells ≡ before.bells → NeverBegins e c s before after fault
+never_begins e c s before after fault good refused sink judge bells = record {
+  good = good;
+  served = refused.served;
+  begun = refused.begun;
+  power = refused.power;
+  same = λ i. record { disks = after.disks; sink = sink i; judge = judge i; bells = bells i };
 }

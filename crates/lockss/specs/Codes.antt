@@ -7,6 +7,7 @@ use Rattle.lks_world.specs.declared.faults.WorldFault.TheVariants as world
 use Rattle.lockss.specs.declared.ends.End.{End}
 use Rattle.lockss.specs.declared.ends.End.TheVariants as end
 use Rattle.lockss.specs.declared.ends.Played.TheVariants.{Stopped, Told, Unmade, Untold}
+use Rattle.lockss.specs.declared.ends.Raced.TheVariants as raced
 use Rattle.lockss.specs.declared.ends.Unscripted.TheVariants.{Unread, Unsaid}
 use Rattle.lockss.specs.declared.statuses.Status.{Status}
 use Rattle.lockss.specs.declared.statuses.Status.TheVariants.{Done, Alarmed, Usage, BadScript, ReadFault, WriteFault, DiskFault, NoMemory, TooLong, Doubted}
@@ -29,6 +30,16 @@ status_of (end.Played (Told (Ok false))) = Done
 status_of (end.Played (Told (Ok true))) = Alarmed
 status_of (end.Played (Told (Err writing.Failed))) = WriteFault
 status_of (end.Played (Told (Err writing.Memory))) = NoMemory
+status_of (end.Raced (raced.Unmade (world.Disk peer))) = DiskFault peer
+status_of (end.Raced (raced.Unmade world.Memory)) = NoMemory
+status_of (end.Raced (raced.Stopped (world.Disk peer))) = DiskFault peer
+status_of (end.Raced (raced.Stopped world.Memory)) = NoMemory
+status_of (end.Raced (raced.Halted (world.Disk peer))) = DiskFault peer
+status_of (end.Raced (raced.Halted world.Memory)) = NoMemory
+status_of (end.Raced (raced.Told (Ok false))) = Done
+status_of (end.Raced (raced.Told (Ok true))) = Alarmed
+status_of (end.Raced (raced.Told (Err writing.Failed))) = WriteFault
+status_of (end.Raced (raced.Told (Err writing.Memory))) = NoMemory
 status_of (end.Examined (Ok false)) = Done
 status_of (end.Examined (Ok true)) = Doubted
 status_of (end.Examined (Err writing.Failed)) = WriteFault

@@ -3,7 +3,7 @@ use Rattle.std.specs.Prelude.{◌≡◌, ◌≤◌, ◌<◌, ℕ, List, [], leng
 use Rattle.lks_alarm.specs.declared.alarms.Alarm.{Alarm}
 use Rattle.lks_base.specs.declared.limits.TheConstants.{MOST_PEERS}
 use Rattle.lks_command.specs.declared.commands.Command.{Command}
-use Rattle.lks_command.specs.declared.commands.Command.TheVariants.{Play, Evidence}
+use Rattle.lks_command.specs.declared.commands.Command.TheVariants.{Play, Race, Evidence}
 use Rattle.lks_disk.specs.Face.{Face}
 use Rattle.lks_watch.specs.Watching.{Ears}
 use Rattle.lks_world.specs.Held.{AreFresh}
@@ -47,3 +47,4 @@ abbrev pub AreGivenFor : {D K J B : Type 0} → Option Command → Senses D K J 
 AreGivenFor None e given = Unit {0}
 AreGivenFor (Some Evidence) e given = Unit {0}
 AreGivenFor (Some (Play play)) e given = AreGiven e given
+AreGivenFor (Some (Race threads)) e given = AreGiven e given

@@ -7,3 +7,4 @@ pub mod Handed
 pub mod Playing
 pub mod Promise
 pub mod ReadingBack
+pub mod Running

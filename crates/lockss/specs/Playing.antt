@@ -1,5 +1,5 @@
 -- How the steps of a script are done in a world, and told.
-use Rattle.std.specs.Prelude.{◌≡◌, ℕ, Bool, true, false, List, Option, Some, None, Result, Err}
+use Rattle.std.specs.Prelude.{◌≡◌, ℕ, Bool, true, false, List, Option, Some, None, Result, Err, map}
 use Rattle.lks_base.specs.declared.events.Event.{Event}
 use Rattle.lks_base.specs.declared.events.PeerStep.{PeerStep}
 use Rattle.lks_base.specs.declared.plans.Plan.{Plan}
@@ -14,11 +14,11 @@ use Rattle.lks_watch.specs.Watching.{Ears, Watches, watching}
 use Rattle.lks_world.specs.Counts.{ServesHonest, honest_ids}
 use Rattle.lks_world.specs.Disks.{honest_disks}
 use Rattle.lks_world.specs.Follows.{Follows, FollowsUpTo}
-use Rattle.lks_world.specs.Held.{HaveBatchesOrNext}
-use Rattle.lks_world.specs.Powers.{HavePower}
+use Rattle.lks_world.specs.Held.{HaveBatchesOrNext, HaveBegunUpTo}
+use Rattle.lks_world.specs.Powers.{HavePower, power_of}
 use Rattle.lks_world.specs.Spending.{AreSpent, AreSpentUpTo}
 use Rattle.lks_world.specs.Watched.{Stops}
-use Rattle.lks_world.specs.Worlds.{Seen}
+use Rattle.lks_world.specs.Worlds.{Begins, Seen}
 use Rattle.lks_world.specs.declared.faults.WorldFault.{WorldFault}
 use Rattle.lks_world.specs.declared.faults.WorldFault.TheVariants.{Memory}
 use Rattle.lockss.specs.Handed.{Senses}
@@ -30,6 +30,20 @@ use Rattle.lockss.specs.declared.ends.Played.TheVariants.{Stopped, Told, Unmade,
 use Rattle.lockss.specs.declared.journals.Preface.{Preface}
 use Rattle.lockss.specs.declared.playing.Course.{Course}
 use Rattle.lockss.specs.declared.playing.Course.TheVariants.{Open, Over}
+
+-- A world in which nothing happened yet was made on these disks, with this judge and these bells; each honest peer's journal begins.
+pub record Starts {D J B : Type 0} (f : Face D) (e : Ears J B) (plan : Plan) (pool : List ℕ) (disks : List D) (judge : Option J) (bells : List B) (first : Seen D J B) : Type 0 where
+  pub asked : J
+  pub is : judge ≡ Some asked
+  pub begins : Begins e plan pool (map f.faults disks) asked bells first
+  pub made : ServesHonest f plan.peers disks first.disks None
+  pub calm : map (power_of f) first.disks ≡ map (power_of f) disks
+
+-- Or none was made, since the plan's peers didn't all begin: what became of the disks.
+pub record IsRefused {D : Type 0} (f : Face D) (plan : Plan) (disks after : List D) (fault : WorldFault) : Type 0 where
+  pub served : ServesHonest f plan.peers disks after (Some fault)
+  pub begun : HaveBegunUpTo f plan disks after
+  pub power : map (power_of f) after ≡ map (power_of f) disks
 
 -- the honest peers' disks counted the fuses that burned and the cuts of the power, while a world became this one
 abbrev pub CountsPower : {D J B : Type 0} → Face D → Seen D J B → Seen D J B → Option WorldFault → Type 0

@@ -1,12 +1,14 @@
 -- What the program promises of each run, from the bytes that it read to those that it wrote, whatever source and sink tell of them.
-use Rattle.std.specs.Prelude.{◌≡◌, ◌≤◌, ◌↔◌, ℕ, List, [], ◌++◌, length, map, slice_get, Bool, true, false, Option, Some, None, Result, Ok, Err}
+use Rattle.std.specs.Prelude.{◌≡◌, ◌≤◌, ◌↔◌, ◌⊎◌, ℕ, List, [], ◌++◌, length, map, slice_get, Bool, true, false, Option, Some, None, Result, Ok, Err}
 use Rattle.lks_alarm.specs.Bells.{left_of, seen}
 use Rattle.lks_base.specs.Checking.{plan_fault}
 use Rattle.lks_base.specs.declared.events.Event.{Event}
 use Rattle.lks_base.specs.declared.events.PeerStep.{PeerStep}
+use Rattle.lks_base.specs.declared.limits.TheConstants.{MOST_EVENTS}
 use Rattle.lks_base.specs.declared.plans.Plan.{Plan}
 use Rattle.lks_command.specs.declared.commands.Command.{Command}
-use Rattle.lks_command.specs.declared.commands.Command.TheVariants.{Play, Evidence}
+use Rattle.lks_command.specs.declared.commands.Command.TheVariants.{Play, Race, Evidence}
+use Rattle.lks_command.specs.declared.commands.Play.TheVariants.{Replay}
 use Rattle.lks_evidence.specs.Holding.{IsYes, SetHolds}
 use Rattle.lks_evidence.specs.Rules.{journals_on}
 use Rattle.lks_evidence.specs.Search.{finding}
@@ -15,9 +17,10 @@ use Rattle.lks_gather.specs.Sets.{said_by, set_of}
 use Rattle.lks_gather.specs.Worlds.{books_of}
 use Rattle.lks_gather.specs.declared.gathered.Gathered.{Gathered}
 use Rattle.lks_law.specs.Alarms.{alarms}
+use Rattle.lks_law.specs.Due.{AreDue, dues}
 use Rattle.lks_law.specs.Histories.{IsHistory}
 use Rattle.lks_law.specs.Journal.{EachRepair}
-use Rattle.lks_law.specs.Questions.{questions}
+use Rattle.lks_law.specs.Questions.{questions, AreJudged}
 use Rattle.lks_law.specs.Safe.{HasEvidence, Safe}
 use Rattle.lks_law.specs.Snapshots.{Restores}
 use Rattle.lks_law.specs.World.{world}
@@ -36,6 +39,7 @@ use Rattle.lks_world.specs.Held.{HaveBatches, HaveBatchesOrNext, HaveBegunUpTo}
 use Rattle.lks_world.specs.Powers.{HavePower, power_of}
 use Rattle.lks_world.specs.Spending.{AreSpent, AreSpentUpTo}
 use Rattle.lks_world.specs.Watched.{asked_next}
+use Rattle.lks_world.specs.Worlds.{HaveServed}
 use Rattle.lks_world.specs.declared.faults.WorldFault.{WorldFault}
 use Rattle.lockss.specs.Codes.{status_of}
 use Rattle.lockss.specs.Deeds.{Deed, deed_of}
@@ -45,6 +49,8 @@ use Rattle.lockss.specs.declared.ends.End.{End}
 use Rattle.lockss.specs.declared.ends.End.TheVariants as end
 use Rattle.lockss.specs.declared.ends.Played.{Played}
 use Rattle.lockss.specs.declared.ends.Played.TheVariants.{Stopped, Told, Unmade, Untold}
+use Rattle.lockss.specs.declared.ends.Raced.{Raced}
+use Rattle.lockss.specs.declared.ends.Raced.TheVariants as raced
 use Rattle.lockss.specs.declared.ends.Unscripted.{Unscripted}
 use Rattle.lockss.specs.declared.ends.Unscripted.TheVariants.{Unread, Unsaid}
 use Rattle.lockss.specs.declared.runs.TheConstants.{MOST_BYTES}
@@ -146,6 +152,44 @@ module _ {D K J B : Type 0} (e : Senses D K J B) (c : Deed) (s : Script) (before
   PlaysTo (Stopped fault) = Halts fault
   PlaysTo (Unmade fault) = NeverBegins fault
 
+module _ {D K J B : Type 0} (e : Senses D K J B) (s : Script) (before after : Devices D K J B) where
+  -- The judge that is there when nothing more is due, or no turn or no room for an event is left, has heard what the history asks,
+  -- and what it says of that stands there. Of the bells, those are back in their order that want more alarms than the history has,
+  -- and each rang for exactly these. Each honest peer's disk holds the batches of its journal.
+  pub record RacesOut (more history : List Event) (last : J) : Type 0 where
+    pub ended : (s.plan.turns ≤ length more) ⊎ ((MOST_EVENTS ≤ length history) ⊎ (dues s.plan history ≡ []))
+    pub held : HaveBatches e.face s.plan history after.disks
+    pub heard : e.ears.heard last ≡ questions s.plan history
+    pub judged : AreJudged (e.ears.verdict last) s.plan history
+    pub rung : seen e.ears.rung e.ears.limit after.bells ≡ left_of (alarms s.plan history) (map e.ears.limit before.bells)
+
+  -- The script was played to its end, by the verdicts of the judge, and then threads took what was due: each later event was due at
+  -- its place. What happened is a history of the plan and safe. A disk that is blamed has failed.
+  pub record Races (fault : Option WorldFault) : Type 0 where
+    pub done : List Event
+    pub more : List Event
+    pub history : List Event
+    pub goes_on : history ≡ done ++ more
+    pub good : plan_fault s.plan ≡ None
+    pub happened : IsHistory s.plan history
+    pub safe : Safe s.plan history
+    pub served : HaveServed e.face s.plan.peers (map e.face.faults before.disks) after.disks fault
+    pub first : J
+    pub last : J
+    pub given : before.judge ≡ Some first
+    pub back : after.judge ≡ Some last
+    pub follows : Follows (e.ears.verdict first) s.plan [] s.steps done
+    pub due : AreDue s.plan done more
+    pub out : fault ≡ None → RacesOut more history last
+
+  -- At a fault nothing was written. Before threads took anything, all is as where a script is replayed.
+  abbrev pub RacesTo : Raced → Type 0
+  RacesTo (raced.Told told) =
+      (run : Races None) × Tells e ((deed_of Replay).told s.plan run.history) (has_any (alarms s.plan run.history)) before.sink after.sink told
+  RacesTo (raced.Halted fault) = Races (Some fault) × (after.sink ≡ before.sink)
+  RacesTo (raced.Stopped fault) = Halts e (deed_of Replay) s before after fault
+  RacesTo (raced.Unmade fault) = NeverBegins e (deed_of Replay) s before after fault
+
 module _ {D K J B : Type 0} (e : Senses D K J B) (before after : Devices D K J B) (g : Gathered) where
   -- Journals were examined, whoever wrote them, and what they are found to be is written in one line: a doubt exactly where they don't
   -- hold. Where they hold, each replaced block has its evidence; and where more than a minority of its poll's voters have journals
@@ -164,13 +208,21 @@ module _ {S D K J B : Type 0} (left : S → Option (List ℕ)) (failed : S → �
   Comes command end.Unbegun = (source_after ≡ source) × (after ≡ before)
   Comes None (end.Unscripted none) = ⊥
   Comes None (end.Played played) = ⊥
+  Comes None (end.Raced raced) = ⊥
   Comes None (end.Examined told) = ⊥
   Comes (Some (Play play)) (end.Unscripted none) = FindsNone left failed source source_after (deed_of play).reads (deed_of play).script none × (after ≡ before)
   Comes (Some (Play play)) (end.Played played) =
       (s : Script) × Finds left failed source source_after (deed_of play).reads (deed_of play).script s × PlaysTo e (deed_of play) s before after played
+  Comes (Some (Play play)) (end.Raced raced) = ⊥
   Comes (Some (Play play)) (end.Examined told) = ⊥
+  Comes (Some (Race threads)) (end.Unscripted none) = FindsNone left failed source source_after (deed_of Replay).reads (deed_of Replay).script none × (after ≡ before)
+  Comes (Some (Race threads)) (end.Played played) = ⊥
+  Comes (Some (Race threads)) (end.Raced raced) =
+      (s : Script) × Finds left failed source source_after (deed_of Replay).reads (deed_of Replay).script s × RacesTo e s before after raced
+  Comes (Some (Race threads)) (end.Examined told) = ⊥
   Comes (Some Evidence) (end.Unscripted none) = FindsNone left failed source source_after true set_of none × (after ≡ before)
   Comes (Some Evidence) (end.Played played) = ⊥
+  Comes (Some Evidence) (end.Raced raced) = ⊥
   Comes (Some Evidence) (end.Examined told) = (g : Gathered) × Finds left failed source source_after true set_of (said_by g) × Examines e before after g told
 
   -- The answer says how far the run came, and no count of faults falls.

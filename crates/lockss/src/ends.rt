@@ -24,6 +24,20 @@ pub enum Played {
     Told(Result<bool, WriteStop>),
 }
 
+/// How far a race came.
+#[derive(Clone, Copy)]
+pub enum Raced {
+    /// No world was made.
+    Unmade(WorldFault),
+    /// A fault stopped it in one of the script's steps.
+    Stopped(WorldFault),
+    /// All steps were done. A fault stopped it while threads took what was due.
+    Halted(WorldFault),
+    /// All steps were done, threads took what was due to the end, and all was told, and whether an alarm was raised; or less than
+    /// all was told.
+    Told(Result<bool, WriteStop>),
+}
+
 /// Why a run found no script, or no journals.
 #[derive(Clone, Copy)]
 pub enum Unscripted {
@@ -66,6 +80,7 @@ pub enum End {
     Unbegun,
     Unscripted(Unscripted),
     Played(Played),
+    Raced(Raced),
     /// Journals were examined and all was told, and whether one is doubted; or less than all was told.
     Examined(Result<bool, WriteStop>),
 }
@@ -94,6 +109,16 @@ impl End {
             End::Played(Played::Told(Ok(true))) => Status::Alarmed,
             End::Played(Played::Told(Err(WriteStop::Failed))) => Status::WriteFault,
             End::Played(Played::Told(Err(WriteStop::Memory))) => Status::NoMemory,
+            End::Raced(Raced::Unmade(WorldFault::Disk { peer })) => Status::DiskFault { peer },
+            End::Raced(Raced::Unmade(WorldFault::Memory)) => Status::NoMemory,
+            End::Raced(Raced::Stopped(WorldFault::Disk { peer })) => Status::DiskFault { peer },
+            End::Raced(Raced::Stopped(WorldFault::Memory)) => Status::NoMemory,
+            End::Raced(Raced::Halted(WorldFault::Disk { peer })) => Status::DiskFault { peer },
+            End::Raced(Raced::Halted(WorldFault::Memory)) => Status::NoMemory,
+            End::Raced(Raced::Told(Ok(false))) => Status::Done,
+            End::Raced(Raced::Told(Ok(true))) => Status::Alarmed,
+            End::Raced(Raced::Told(Err(WriteStop::Failed))) => Status::WriteFault,
+            End::Raced(Raced::Told(Err(WriteStop::Memory))) => Status::NoMemory,
             End::Examined(Ok(false)) => Status::Done,
             End::Examined(Ok(true)) => Status::Doubted,
             End::Examined(Err(WriteStop::Failed)) => Status::WriteFault,

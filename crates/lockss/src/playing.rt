@@ -1,6 +1,6 @@
 //! A script is played on disks, and what is told of its history is written.
 
-ghost use Rattle.std.specs.Prelude.{◌≡◌, ◌≤◌, ◌++◌, ℕ, List, true, false, Some, None, IfErr, OnOk, OnErr, IsErrOf};
+ghost use Rattle.std.specs.Prelude.{◌≡◌, ◌≤◌, ◌++◌, [], ℕ, List, All, true, false, Some, None, IfOk, IfErr, OnOk, OnErr, IsErrOf, length};
 ghost use Rattle.lks_base.specs.Checking.{plan_fault};
 ghost use Rattle.lks_base.specs.declared.events.Event.{Event};
 ghost use Rattle.lks_gather.specs.Texts.{IsSaidPlan};
@@ -13,9 +13,11 @@ ghost use Rattle.lks_script.specs.StepRules.{are_steps_of};
 ghost use Rattle.lks_watch.specs.Watching.{ears, watching, Watches};
 ghost use Rattle.lks_world.specs.Counts.{fault_in, ServesHonest};
 ghost use Rattle.lks_world.specs.Follows.{Follows};
+ghost use Rattle.lks_world.specs.Held.{AreFresh};
 ghost use Rattle.lks_world.specs.Spending.{AreSpent, AreSpentUpTo};
-ghost use Rattle.lockss.specs.Handed.{devices, senses, AreGiven};
-ghost use Rattle.lockss.specs.Playing.{ComesIn, CountsPower, GoesOn, IfOpen, IsLeftOff, TellsFirst};
+ghost use Rattle.lks_world.specs.Worlds.{Remembers};
+ghost use Rattle.lockss.specs.Handed.{devices, senses, AreGiven, IsSilent};
+ghost use Rattle.lockss.specs.Playing.{ComesIn, CountsPower, GoesOn, IfOpen, IsLeftOff, IsRefused, Starts, TellsFirst};
 ghost use Rattle.lockss.specs.Deeds.{deed_of};
 ghost use Rattle.lockss.specs.Promise.{PlaysTo, Tells};
 ghost use Rattle.lockss.specs.ReadingBack.{CanRead};
@@ -47,7 +49,8 @@ pub enum Course {
     Open(Preface),
 }
 
-fn perform_all<R: Threads + Wait + Sync, D: CrashDisk + Drop, J: EffortJudge, B: Bell, G: Gate>(
+/// Does the steps in a world.
+pub fn perform_all<R: Threads + Wait + Sync, D: CrashDisk + Drop, J: EffortJudge, B: Bell, G: Gate>(
     rt: &R,
     gate: &G,
     world: &mut World<'_, D, J, B>,
@@ -55,7 +58,8 @@ fn perform_all<R: Threads + Wait + Sync, D: CrashDisk + Drop, J: EffortJudge, B:
 ) -> Result<(), WorldFault>
     requires running { world.old.stopped ≡ None }
     requires legal { are_steps_of world.old.plan steps.now ≡ true }
-    ensures plan { world.new.plan ≡ world.old.plan }
+    ensures remembers { Remembers world.old world.new }
+    ensures turns { world.new.turns ≡ world.old.turns }
     ensures follows { OnOk result (Follows (J.verdict world.old.judge) world.old.plan world.old.history steps.now world.new.history) }
     ensures watches { OnOk result (Watches world.old.plan world.old.history world.new.history (watching (ears J.heard J.verdict B.rung B.limit) world.old.judge world.old.bells) (watching (ears J.heard J.verdict B.rung B.limit) world.new.judge world.new.bells)) }
     ensures off { OnErr result (IsLeftOff D.face (ears J.heard J.verdict B.rung B.limit) steps.now world.old world.new) }
@@ -94,7 +98,7 @@ fn write<K: Sink>(
 }
 
 /// Tells what happened in the world, and answers whether an alarm was raised in it.
-fn tell<K: Sink, D: CrashDisk + Drop, J: EffortJudge, B: Bell>(
+pub fn tell<K: Sink, D: CrashDisk + Drop, J: EffortJudge, B: Bell>(
     alloc: Global,
     command: Play,
     world: &World<'_, D, J, B>,
@@ -162,7 +166,7 @@ fn play_in<
 }
 
 /// Puts all that a world gave back into its place.
-fn hand_back<D: Drop, J: Drop, B: Drop>(
+pub fn hand_back<D: Drop, J: Drop, B: Drop>(
     parts: Parts<D, J, B>,
     disks: &mut Vec<D>,
     judge: &mut Option<J>,
@@ -191,6 +195,40 @@ fn go_on<K: Sink, D: CrashDisk + Drop>(
     match course {
         Course::Over(played) => played,
         Course::Open(preface) => tell_journals(alloc, preface, sink, disks),
+    }
+}
+
+/// A world in which nothing happened yet, on disks that are taken out of their places, as are the judge and the bells. Where there
+/// is none, all are back.
+pub fn start<'a, D: CrashDisk + Drop, J: EffortJudge, B: Bell, R: Wait>(
+    alloc: Global,
+    rt: &R,
+    pool: &'a BlockPool,
+    plan: Plan,
+    disks: &mut Vec<D>,
+    judge: &mut Option<J>,
+    bells: &mut Vec<B>,
+) -> Result<World<'a, D, J, B>, WorldFault>
+    requires good { plan_fault plan ≡ None }
+    requires enough { length plan.peers ≤ length disks.old.items }
+    requires fresh { AreFresh D.face disks.old.items }
+    requires unasked { (j : J) × (judge.old ≡ Some j) × (J.heard j ≡ []) }
+    requires silent { All (IsSilent B.rung B.limit) bells.old.items }
+    ensures starts { IfOk result (Starts D.face (ears J.heard J.verdict B.rung B.limit) plan pool.now disks.old.items judge.old bells.old.items) }
+    ensures refused { IfErr result (IsRefused D.face plan disks.old.items disks.new.items) }
+    ensures back { OnErr result ((judge.new ≡ judge.old) × (bells.new.items ≡ bells.old.items)) }
+{
+    let Some(asked) = judge.take() else {
+        unreachable!()
+    };
+    let handed = mem::replace(disks, Vec::new(alloc));
+    let hung = mem::replace(bells, Vec::new(alloc));
+    match World::new(alloc, rt, pool, plan, handed, asked, hung) {
+        Ok(world) => Ok(world),
+        Err((parts, fault)) => {
+            hand_back(parts, disks, judge, bells);
+            Err(fault)
+        }
     }
 }
 
@@ -224,18 +262,10 @@ pub fn play<
     let Ok(pool) = BlockPool::new(alloc) else {
         return Played::Unmade(WorldFault::Memory);
     };
-    let Some(asked) = judge.take() else {
-        unreachable!()
-    };
     let Script { plan, steps } = script;
-    let handed = mem::replace(disks, Vec::new(alloc));
-    let hung = mem::replace(bells, Vec::new(alloc));
-    let mut world = match World::new(alloc, rt, &pool, plan, handed, asked, hung) {
+    let mut world = match start(alloc, rt, &pool, plan, disks, judge, bells) {
         Ok(world) => world,
-        Err((parts, fault)) => {
-            hand_back(parts, disks, judge, bells);
-            return Played::Unmade(fault);
-        }
+        Err(fault) => return Played::Unmade(fault),
     };
     let course = play_in(alloc, rt, gate, command, &mut world, steps.as_slice(), sink);
     hand_back(world.into_parts(), disks, judge, bells);

@@ -2,7 +2,7 @@
 
 ghost use Rattle.std.specs.Prelude.{◌≡◌, ◌≤◌, ◌↔◌, true, None, Some, IfOk, IfErr, map, string_bytes};
 ghost use Rattle.lks_base.specs.Checking.{plan_fault};
-ghost use Rattle.lks_command.specs.Commands.{command_in};
+ghost use Rattle.lks_command.specs.Commands.{command_in, HasThreads};
 ghost use Rattle.lks_evidence.specs.Holding.{IsYes, SetHolds};
 ghost use Rattle.lks_evidence.specs.Search.{finding as finding_of};
 ghost use Rattle.lks_evidence.specs.Sizes.{IsSmall};
@@ -19,6 +19,7 @@ ghost use Rattle.lockss.specs.Promise.{Finds, FindsNone, Comes, Promise};
 use crate::ends::{End, Unscripted};
 use crate::findings::tell_finding;
 use crate::playing::play;
+use crate::racing::race_script;
 use crate::statuses::Status;
 use lks_alarm::Bell;
 use lks_command::{Command, Play, parse};
@@ -111,6 +112,41 @@ fn obey_play<
     }
 }
 
+/// Finds the script, plays it, and lets threads take what is due.
+fn obey_race<
+    R: Threads + Wait + Sync,
+    S: Source,
+    K: Sink,
+    D: CrashDisk + Drop,
+    J: EffortJudge,
+    B: Bell,
+    G: Gate,
+>(
+    alloc: Global,
+    rt: &R,
+    threads: u16,
+    source: &mut S,
+    sink: &mut K,
+    disks: &mut Vec<D>,
+    judge: &mut Option<J>,
+    bells: &mut Vec<B>,
+    gate: &G,
+) -> End
+    requires threads { (1 ≤ threads) × (threads ≤ 64) }
+    requires given { AreGiven (senses D.face (ears J.heard J.verdict B.rung B.limit) K.taken K.faults) (devices disks.old.items sink.old judge.old bells.old.items) }
+    ensures comes { Comes S.left S.faults (senses D.face (ears J.heard J.verdict B.rung B.limit) K.taken K.faults) source.old source.new (devices disks.old.items sink.old judge.old bells.old.items) (devices disks.new.items sink.new judge.new bells.new.items) (Some (Command.Race threads)) result }
+    ensures source_count { S.faults source.old ≤ S.faults source.new }
+    ensures sink_count { K.faults sink.old ≤ K.faults sink.new }
+{
+    match find(alloc, Play::Replay, source) {
+        Ok(script) => {
+            let raced = race_script(alloc, rt, gate, threads, script, sink, disks, judge, bells);
+            End::Raced(raced)
+        }
+        Err(why) => End::Unscripted(why),
+    }
+}
+
 /// Does what a command says.
 fn obey<
     R: Threads + Wait + Sync,
@@ -131,6 +167,7 @@ fn obey<
     bells: &mut Vec<B>,
     gate: &G,
 ) -> End
+    requires threads { HasThreads command }
     requires given { AreGivenFor (Some command) (senses D.face (ears J.heard J.verdict B.rung B.limit) K.taken K.faults) (devices disks.old.items sink.old judge.old bells.old.items) }
     ensures comes { Comes S.left S.faults (senses D.face (ears J.heard J.verdict B.rung B.limit) K.taken K.faults) source.old source.new (devices disks.old.items sink.old judge.old bells.old.items) (devices disks.new.items sink.new judge.new bells.new.items) (Some command) result }
     ensures source_count { S.faults source.old ≤ S.faults source.new }
@@ -138,6 +175,9 @@ fn obey<
 {
     match command {
         Command::Play(play) => obey_play(alloc, rt, play, source, sink, disks, judge, bells, gate),
+        Command::Race { threads } => {
+            obey_race(alloc, rt, threads, source, sink, disks, judge, bells, gate)
+        }
         Command::Evidence => match find_doubt(alloc, source) {
             Ok(finding) => End::Examined(tell_finding(alloc, finding, sink)),
             Err(unread) => End::Unscripted(unread),
@@ -178,12 +218,14 @@ fn obey_words<
 }
 
 /// Does the command that the words name. `replay` reads a script from the source, plays it, and writes the report of its history to
-/// the sink; `drill` and a seed plays the scenario of that seed, reads nothing, and writes one line; `journals` plays a script as
-/// `replay` does, reads the disks back, and writes the plan and the journals; `evidence` reads these from the source, examines them,
-/// and writes one line. The i-th disk is that of the script's i-th peer; those of honest peers hold their journals. All disks are
-/// fresh, and there are as many as a script may have peers. The judge says of each proof of effort whether it is accepted, and the
-/// bells ring for alarms; those that want no more are dropped. `evidence` asks nothing of disks, judge and bells. The gate stands
-/// before each vote and tally that is hashed beside the steps, and is told of each entry.
+/// the sink; `race` and a number does so too, and once the steps are done lets so many threads take what is due, in whatever order
+/// they come, until nothing is due or the plan's turns are used up; `drill` and a seed plays the scenario of that seed, reads
+/// nothing, and writes one line; `journals` plays a script as `replay` does, reads the disks back, and writes the plan and the
+/// journals; `evidence` reads these from the source, examines them, and writes one line. The i-th disk is that of the script's i-th
+/// peer; those of honest peers hold their journals. All disks are fresh, and there are as many as a script may have peers. The judge
+/// says of each proof of effort whether it is accepted, and the bells ring for alarms; those that want no more are dropped.
+/// `evidence` asks nothing of disks, judge and bells. The gate stands before each vote and tally that is hashed beside the steps,
+/// and is told of each entry.
 pub fn run<
     R: Threads + Wait + Sync,
     S: Source,

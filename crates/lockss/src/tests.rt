@@ -7,6 +7,7 @@ mod evidence;
 mod gates;
 mod lists;
 mod peers;
+mod races;
 mod sessions;
 mod turns;
 mod watched;
@@ -621,9 +622,10 @@ fn reports(rt: HostRuntime) -> Result<(), Fail> {
 }
 
 /// Words that name no command: a run by them reads nothing and writes nothing.
-const MISUSED: [&[&str]; 11] = [
+const MISUSED: [&[&str]; 12] = [
     &[],
     &["replay", "x"],
+    &["race"],
     &["race", "0"],
     &["race", "65"],
     &["drill"],

@@ -7,7 +7,7 @@ use lks_work::{Gate, JobName};
 use std::sync::atomic::{AtomicU64, Ordering};
 use std::thread;
 
-const POLL: PollName = PollName {
+pub const POLL: PollName = PollName {
     poller: 1,
     number: 1,
 };
@@ -102,19 +102,21 @@ impl Gate for Holding {
     fn told(&self, _entry: &Entry) {}
 }
 
-fn run_by<R: Threads + Wait + Sync, G: Gate>(
+/// What a run by these words, before this gate, answers and writes.
+pub fn run_by<R: Threads + Wait + Sync, G: Gate>(
     alloc: Global,
     rt: &R,
+    words: &[&str],
     script: &[&str],
     gate: &G,
-) -> Result<Status, Fail> {
-    let words = words_of(alloc, REPLAY)?;
+) -> Result<(Status, Vec<u8>), Fail> {
+    let words = words_of(alloc, words)?;
     let mut source = MemSource::new(alloc, joined(alloc, script)?, [].to_vec(alloc)?);
     let mut sink = MemSink::new(alloc, [].to_vec(alloc)?);
     let mut disks = fresh_disks(alloc)?;
     let mut judge = Some(FirstByteJudge::new(alloc)?);
     let mut bells: Vec<ListBell> = Vec::new(alloc);
-    Ok(run(
+    let status = run(
         alloc,
         rt,
         &words,
@@ -124,7 +126,8 @@ fn run_by<R: Threads + Wait + Sync, G: Gate>(
         &mut judge,
         &mut bells,
         gate,
-    ))
+    );
+    Ok((status, sink.bytes().to_vec(alloc)?))
 }
 
 /// Steps behind `PEERS`, how often the jobs of their run begin, and how many events it has.
@@ -139,7 +142,8 @@ const STEPS: [(&str, [u64; 4], u64); 3] = [
 fn jobs_of_settle_and_finish(rt: HostRuntime) -> Result<(), Fail> {
     for (steps, begun, events) in STEPS {
         let gate = Counting::new();
-        assert_eq!(rt; run_by(rt.alloc(), &rt, &[PEERS, steps], &gate)?, Done);
+        let (status, _report) = run_by(rt.alloc(), &rt, REPLAY, &[PEERS, steps], &gate)?;
+        assert_eq!(rt; status, Done);
         assert_eq!(rt; gate.seen(), (begun, 0, events));
     }
     Ok(())
@@ -172,7 +176,8 @@ fn two_hash_at_once(rt: HostRuntime) -> Result<(), Fail> {
         begun: AtomicU64::new(0),
         failed: AtomicU64::new(0),
     };
-    assert_eq!(rt; run_by(rt.alloc(), &rt, &[LARGE], &gate)?, Done);
+    let (status, _report) = run_by(rt.alloc(), &rt, REPLAY, &[LARGE], &gate)?;
+    assert_eq!(rt; status, Done);
     let counts = (
         gate.begun.load(Ordering::SeqCst),
         gate.failed.load(Ordering::SeqCst),

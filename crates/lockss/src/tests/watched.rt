@@ -1,12 +1,14 @@
 //! Judges and bells that are handed in.
 
-ghost use Rattle.std.specs.Prelude.{◌≡◌, [], All, IfOk};
+ghost use Rattle.std.specs.Prelude.{◌≡◌, [], All, IfOk, length};
 ghost use Rattle.lockss.specs.Handed.{IsSilent};
 
 use super::lists::{OVERDUE, OVERDUE_REPORT};
 use super::*;
 use lks_alarm::{Alarm, AlarmKind, Bell};
-use lks_effort::{EffortJudge, ListJudge};
+use lks_base::Bytes;
+use lks_effort::{EffortJudge, ListJudge, Question};
+use std::marker::Model;
 
 const REFUSED_REPORT: &str = "\
 lockss report 1
@@ -100,6 +102,7 @@ struct Watched<J, B> {
 fn watch<R: Threads + Wait + Sync, J: EffortJudge, B: Bell>(
     rt: &R,
     alloc: Global,
+    words: &[&str],
     script: &[&str],
     judge: J,
     bells: Vec<B>,
@@ -107,7 +110,7 @@ fn watch<R: Threads + Wait + Sync, J: EffortJudge, B: Bell>(
     requires unasked { J.heard judge ≡ [] }
     requires silent { All (IsSilent B.rung B.limit) bells.items }
 {
-    let words = words_of(alloc, REPLAY)?;
+    let words = words_of(alloc, words)?;
     let mut source = MemSource::new(alloc, joined(alloc, script)?, [].to_vec(alloc)?);
     let mut sink = MemSink::new(alloc, [].to_vec(alloc)?);
     let mut disks = fresh_disks(alloc)?;
@@ -137,9 +140,81 @@ fn refuses_by_a_list(rt: HostRuntime) -> Result<(), Fail> {
     let alloc = rt.alloc();
     let judge = ListJudge::new(alloc, [true, false, true].to_vec(alloc)?)?;
     let bells: Vec<ListBell> = Vec::new(alloc);
-    let watched = watch(&rt, alloc, &[HEAD, AGREED], judge, bells)?;
+    let watched = watch(&rt, alloc, REPLAY, &[HEAD, AGREED], judge, bells)?;
     assert_eq!(rt; watched.status, Status::Done);
     assert_eq!(rt; watched.report.as_slice(), REFUSED_REPORT.as_bytes());
+    Ok(())
+}
+
+/// Answers a list in order, and counts its questions.
+#[derive(Drop)]
+struct CountingJudge {
+    judge: ListJudge,
+    count: u32,
+}
+
+impl Model for CountingJudge {
+    ghost use Rattle.std.specs.Prelude.{◌≡◌, length};
+    ghost use Rattle.lks_effort.specs.Scripted.{Scripted};
+
+    ghost Value = { Scripted };
+
+    ghost view = { λ j. j.judge };
+
+    ghost invariant = { λ j. j.count ≡ length j.judge.heard };
+}
+
+impl EffortJudge for CountingJudge {
+    ghost use Rattle.lks_effort.specs.Verdicts.{verdict_at};
+
+    ghost heard = { λ j. j.heard };
+
+    ghost verdict = { λ j before _. verdict_at j.verdicts (length before) };
+
+    fn judge(&mut self, q: Question) -> bool {
+        let accepted = self.judge.judge(q);
+        self.count += 1;
+        accepted
+    }
+}
+
+impl CountingJudge {
+    /// What it says to one more question, with a proof that begins with 1; nothing where it has heard as many as it may.
+    fn ask(&mut self, alloc: Global) -> Result<Option<bool>, Fail> {
+        if self.count >= 4096 {
+            return Ok(None);
+        }
+        let proof = [1].to_vec(alloc)?;
+        let question = Question {
+            from: 2,
+            poller: 1,
+            number: 2,
+            proof: Bytes::from_vec(proof),
+        };
+        Ok(Some(self.judge(question)))
+    }
+}
+
+// The judge that is back has heard the questions of the race, and refuses a further one.
+#[test]
+fn the_judge_after_a_race(rt: HostRuntime) -> Result<(), Fail> {
+    let alloc = rt.alloc();
+    let judge = ListJudge::new(alloc, [true, false, true].to_vec(alloc)?)?;
+    let judge = CountingJudge { judge, count: 0 };
+    let bells: Vec<ListBell> = Vec::new(alloc);
+    let Watched {
+        status,
+        report,
+        judge,
+        bells: _bells,
+    } = watch(&rt, alloc, &["race", "2"], &[HEAD, AGREED], judge, bells)?;
+    assert_eq!(rt; status, Status::Done);
+    assert_eq!(rt; report.as_slice(), REFUSED_REPORT.as_bytes());
+    let Some(mut judge) = judge else {
+        return Err("no judge is back".into());
+    };
+    assert_eq!(rt; judge.count, 3);
+    assert_eq!(rt; judge.ask(alloc)?, Some(false));
     Ok(())
 }
 
@@ -149,7 +224,14 @@ fn rings_two_bells(rt: HostRuntime) -> Result<(), Fail> {
     let alloc = rt.alloc();
     let judge = FirstByteJudge::new(alloc)?;
     let bells = pair(alloc, ListBell::new(alloc, 1)?, ListBell::new(alloc, 5)?)?;
-    let watched = watch(&rt, alloc, &[HEAD_OF_FIVE, LATE, SPLIT], judge, bells)?;
+    let watched = watch(
+        &rt,
+        alloc,
+        REPLAY,
+        &[HEAD_OF_FIVE, LATE, SPLIT],
+        judge,
+        bells,
+    )?;
     assert_eq!(rt; watched.status, Status::Alarmed);
     assert_eq!(rt; watched.report.as_slice(), LATE_REPORT.as_bytes());
     assert_eq!(rt; watched.bells.len(), 1);
@@ -165,7 +247,7 @@ fn watches_in_boxes(rt: HostRuntime) -> Result<(), Fail> {
     let first: Box<dyn Bell> = Box::new(alloc, ListBell::new(alloc, 1)?)?;
     let second: Box<dyn Bell> = Box::new(alloc, ListBell::new(alloc, 2)?)?;
     let bells = pair(alloc, first, second)?;
-    let watched = watch(&rt, alloc, &[HEAD, OVERDUE], judge, bells)?;
+    let watched = watch(&rt, alloc, REPLAY, &[HEAD, OVERDUE], judge, bells)?;
     assert_eq!(rt; watched.status, Status::Alarmed);
     assert_eq!(rt; watched.report.as_slice(), OVERDUE_REPORT.as_bytes());
     assert_eq!(rt; watched.bells.len(), 1);

@@ -14,7 +14,7 @@ loop-job-preserved g c =
     let next = c.in-Some.ensures.steps.0 in (
       tt,
       tt,
-      rw c.in_ok-push.ensures.items (one_done c.loop-job.done.items c.in_ok-hash_job.field-0 c.in-Some.job c.loop-job.job-iterator.rest.items c.next.new.self.rest.items _ before.2 next c.in_ok-hash_job.ensures),
+      rw c.in_ok-push.ensures.items (one_done c.loop-job.done.items c.in_ok-hash_job.field-0 c.in-Some.job c.loop-job.job-iterator.rest.items c.next.new.self.rest.items _ before.2 next c.in_ok-hash_job.ensures.asked),
       All-rest (λ j. AllOf c.args.pool.now (refs_of j)) c.in-Some.job c.next.new.self.rest.items c.loop-job.job-iterator.rest.items next before.3,
     )
 

@@ -21,6 +21,7 @@ use Rattle.lks_world.specs.Spending.{AreSpent, AreSpentUpTo, Spends}
 use Rattle.lks_world.specs.Worlds.{Seen}
 use Rattle.lks_world.specs.declared.faults.WorldFault.{WorldFault}
 use Rattle.lks_script.specs.declared.steps.Step.{Step}
+use Rattle.lockss.proofs.Begun.{remembers_then}
 use Rattle.lockss.proofs.playing.perform_all.Given.{Over}
 use Rattle.lockss.proofs.playing.perform_all.Goals.{In_ok-perform}
 use Rattle.lockss.proofs.playing.perform_all.Goals as goal
@@ -32,6 +33,10 @@ returns-in_err-perform-clause-serves g c =
     (serves_then g.D.Disk.face c.args.world.now.plan.peers c.args.world.now.disks c.loop-step.world.disks c.perform.new.self.disks (Some c.in_err-perform.field-0.0) c.loop-step.invariant.serves
     (subst (λ (p : Plan). ServesHonest g.D.Disk.face p.peers c.loop-step.world.disks c.perform.new.self.disks (Some c.in_err-perform.field-0.0)) c.loop-step.invariant.plan c.in_err-perform.ensures.disks))
 
+pub returns-in_err-perform-clause-remembers : goal.returns-in_err-perform-clause-remembers
+returns-in_err-perform-clause-remembers g c =
+    remembers_then c.args.world.now c.loop-step.world c.perform.new.self c.loop-step.invariant.remembers c.in_err-perform.ensures.remembers
+
 pub loop-step-init : goal.loop-step-init
 loop-step-init g c =
     let f = g.D.Disk.face in
@@ -39,6 +44,8 @@ loop-step-init g c =
     let disks = honest_disks w.plan.peers w.disks in
     record {
       plan = refl;
+      remembers = record { plan = refl; pool = refl; start = refl };
+      turns = refl;
       running = c.requires.running;
       legal = c.requires.legal;
       follows = λ after rest. rest;
@@ -71,6 +78,8 @@ spent_next g c =
 pub loop-step-preserved : goal.loop-step-preserved
 loop-step-preserved g c = record {
   plan = c.in_ok-perform.ensures.remembers.plan ∙ c.loop-step.invariant.plan;
+  remembers = remembers_then c.args.world.now c.loop-step.world c.perform.new.self c.loop-step.invariant.remembers c.in_ok-perform.ensures.remembers;
+  turns = c.in_ok-perform.ensures.turns.0 ∙ c.loop-step.invariant.turns;
   running = c.in_ok-perform.ensures.stopped;
   legal = grind (arith, common_steps);
   follows = λ after rest.

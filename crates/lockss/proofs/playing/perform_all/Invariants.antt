@@ -7,6 +7,7 @@ use Rattle.lks_watch.specs.Watching.{Watches, ears, watching}
 use Rattle.lks_world.specs.Counts.{ServesHonest}
 use Rattle.lks_world.specs.Follows.{Follows, FollowsUpTo}
 use Rattle.lks_world.specs.Spending.{AreSpent, AreSpentUpTo}
+use Rattle.lks_world.specs.Worlds.{Remembers}
 use Rattle.lks_world.specs.declared.faults.WorldFault.{WorldFault}
 use Rattle.lockss.specs.Playing.{CountsPower}
 use Rattle.lockss.proofs.playing.perform_all.Given as goal
@@ -14,6 +15,8 @@ use Rattle.lockss.proofs.playing.perform_all.Given as goal
 abbrev pub invariant-loop-step : goal.invariant-loop-step
 invariant-loop-step g l = record {
   plan : l.world.plan ≡ l.fn.world.plan;
+  remembers : Remembers l.fn.world l.world;
+  turns : l.world.turns ≡ l.fn.world.turns;
   running : l.world.stopped ≡ None;
   legal : are_steps_of l.fn.world.plan (drop l.step-index l.steps) ≡ true;
   follows : (after : List Event) → Follows (g.J.EffortJudge.verdict l.fn.world.judge) l.fn.world.plan l.world.history (drop l.step-index l.steps) after → Follows (g.J.EffortJudge.verdict l.fn.world.judge) l.fn.world.plan l.fn.world.history l.steps after;

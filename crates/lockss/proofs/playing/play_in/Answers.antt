@@ -13,5 +13,5 @@ returns-in-Ok-clause-comes g c =
     let now = c.perform_all.new.world in
     let done = c.in-Ok.ensures in
     comes_first e c.args.command c.args.steps.now first now c.args.sink.now c.tell_first.new.sink c.tell_first.result
-    (subst (λ (p : Plan). TellsFirst e c.args.command p now.history c.args.sink.now c.tell_first.new.sink c.tell_first.result) c.perform_all.ensures.plan c.tell_first.ensures.tells)
+    (subst (λ (p : Plan). TellsFirst e c.args.command p now.history c.args.sink.now c.tell_first.new.sink c.tell_first.result) c.perform_all.ensures.remembers.plan c.tell_first.ensures.tells)
     (λ answer told. record { follows = done.follows; watches = done.watches; running = done.stopped; serves = done.serves; power = done.power; spent = done.spent; told = told })
