@@ -10,7 +10,7 @@ use Rattle.lks_farm.specs.Seats.{AreFresh, FarmName, SeatSeen}
 use Rattle.lks_law.specs.Due.{AreDue}
 use Rattle.lks_race.specs.Racing.{Begin, GoesOn, IsSeat, Runs, begin_of}
 use Rattle.lks_watch.specs.Watching.{Ears}
-use Rattle.lks_world.specs.Giving.{IsOver, StaysAtFault, TakesTurn}
+use Rattle.lks_world.specs.Giving.{IsOver}
 use Rattle.lks_world.specs.Worlds.{HasWatched, HaveServed, Remembers, Seen, Start}
 
 due_all : (plan : Plan) (history xs ys : List Event) → AreDue plan history xs → AreDue plan (history ++ xs) ys → AreDue plan history (xs ++ ys)
@@ -39,7 +39,7 @@ module _ {D J B : Type 0} where
   }
 
   -- the history and the turns stay
-  pub goes_same : (old new : Seen D J B) → Remembers old new → new.history ≡ old.history → new.turns ≡ old.turns → GoesOn (begin_of old) new
+  goes_same : (old new : Seen D J B) → Remembers old new → new.history ≡ old.history → new.turns ≡ old.turns → GoesOn (begin_of old) new
   goes_same old new remembers history turns = record {
     plan = remembers.plan;
     pool = remembers.pool;
@@ -48,21 +48,6 @@ module _ {D J B : Type 0} where
     history = history ∙ sym (append-nil old.history);
     due = tt;
     turns = omega (arith, turns);
-  }
-
-  pub goes_fault : (old new : Seen D J B) → Remembers old new → StaysAtFault old new → GoesOn (begin_of old) new
-  goes_fault old new remembers stays = goes_same old new remembers stays.history stays.turns
-
-  -- one event more, which was due
-  pub goes_turn : (P : Event → Type 0) (old new : Seen D J B) → Remembers old new → TakesTurn P old new → GoesOn (begin_of old) new
-  goes_turn P old new remembers takes = record {
-    plan = remembers.plan;
-    pool = remembers.pool;
-    start = remembers.start;
-    more = takes.event ∷ [];
-    history = takes.more;
-    due = (takes.due, tt);
-    turns = takes.used;
   }
 
   -- the fault that stops a world leaves all else
