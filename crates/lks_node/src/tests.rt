@@ -84,8 +84,19 @@ fn run<R: Wait>(
     frames: &[u8],
     width: usize,
 ) -> Result<Left, Fail> {
-    let bytes = input_of(alloc, frames)?;
-    let mut source = MemSource::narrow(alloc, bytes, Vec::new(alloc), width.max(1));
+    run_over(alloc, rt, words, store, input_of(alloc, frames)?, width)
+}
+
+/// The same with these bytes as its whole input.
+fn run_over<R: Wait>(
+    alloc: Global,
+    rt: &R,
+    words: [&str; 2],
+    store: &[u8],
+    input: Vec<u8>,
+    width: usize,
+) -> Result<Left, Fail> {
+    let mut source = MemSource::narrow(alloc, input, Vec::new(alloc), width.max(1));
     let mut sink = MemSink::new(alloc, Vec::new(alloc));
     let mut opener = MemOpener::new(disk_with(alloc, store)?, false);
     let mut judge = FirstByteJudge::new(alloc)?;
@@ -100,15 +111,18 @@ fn run<R: Wait>(
         &mut judge,
     );
     let output = sink.bytes().to_vec(alloc)?;
-    let store = match left {
-        Some(disk) => disk.bytes().to_vec(alloc)?,
-        None => Vec::new(alloc),
-    };
     Ok(Left {
         status,
         output,
-        store,
+        store: bytes_of(alloc, left)?,
     })
+}
+
+fn bytes_of(alloc: Global, store: Option<MemDisk>) -> Result<Vec<u8>, Fail> {
+    match store {
+        Some(disk) => Ok(disk.bytes().to_vec(alloc)?),
+        None => Ok(Vec::new(alloc)),
+    }
 }
 
 #[test]
@@ -179,6 +193,60 @@ fn refuses(rt: HostRuntime) -> Result<(), Fail> {
     Ok(())
 }
 
+/// Inputs whose first frame isn't whole, is longer than a script may be, or is no script.
+const NO_SCRIPTS: [(&[u8], NodeStatus); 4] = [
+    (b"", NodeStatus::BadFrame { index: 0 }),
+    (b"\x00\x00\x00\x05lock", NodeStatus::BadFrame { index: 0 }),
+    (
+        b"\x01\x00\x00\x01lockss 1\n",
+        NodeStatus::BadFrame { index: 0 },
+    ),
+    (
+        b"\x00\x00\x00\x09lockss 2\n",
+        NodeStatus::BadScript { line: 1 },
+    ),
+];
+
+#[test]
+fn begins_with_a_script(rt: HostRuntime) -> Result<(), Fail> {
+    let alloc = rt.alloc();
+    for (input, wanted) in NO_SCRIPTS.iter() {
+        let left = run_over(
+            alloc,
+            &rt,
+            ["1", "j"],
+            b"",
+            input.to_vec(alloc)?,
+            usize::MAX,
+        )?;
+        assert_eq!(rt; left.status, *wanted);
+        assert!(rt; left.output.is_empty());
+        assert!(rt; left.store.is_empty());
+    }
+    Ok(())
+}
+
+/// A tick as a frame.
+const TICK: &[u8] = b"\x00\x00\x00\x05\x03\x00\x00\x00\x01";
+
+/// How many frames come behind the script, and the answer.
+const COUNTS: [(u32, NodeStatus); 2] = [(4_096, NodeStatus::Done), (4_097, NodeStatus::TooMany)];
+
+#[test]
+fn takes_so_many_frames(rt: HostRuntime) -> Result<(), Fail> {
+    let alloc = rt.alloc();
+    for (count, wanted) in COUNTS.iter() {
+        let mut frames = Vec::new(alloc);
+        for _ in 0..*count {
+            frames.extend_from_slice(TICK)?;
+        }
+        let left = run(alloc, &rt, ["1", "j"], b"", &frames, usize::MAX)?;
+        assert_eq!(rt; left.status, *wanted);
+        assert_eq!(rt; left.output.len(), 4_096 * NOTHING.len());
+    }
+    Ok(())
+}
+
 const FOLDER: &str = "lks_node_test";
 
 const PATH: &str = "lks_node_test/journal";
@@ -236,20 +304,20 @@ const FAULTS: [(&[u32], &[u32], &[u32], NodeStatus); 5] = [
     (&[], &[], &[9], NodeStatus::DiskFault),
 ];
 
-/// A run of peer 1 on an empty store, with calls that fail: what it answers, and whether it wrote something.
+/// A run of peer 1 on an empty store, with calls that fail.
 fn run_failing<R: Wait>(
     alloc: Global,
     rt: &R,
     reads: &[u32],
     writes: &[u32],
     calls: &[u32],
-) -> Result<(NodeStatus, bool), Fail> {
+) -> Result<Left, Fail> {
     let mut source = MemSource::new(alloc, input_of(alloc, OPEN)?, reads.to_vec(alloc)?);
     let mut sink = MemSink::new(alloc, writes.to_vec(alloc)?);
     let mut opener = MemOpener::new(MemDisk::new(alloc, calls.to_vec(alloc)?), false);
     let mut judge = FirstByteJudge::new(alloc)?;
     let said = words_of(alloc, ["1", "j"])?;
-    let (status, _store) = node(
+    let (status, left) = node(
         alloc,
         rt,
         &said,
@@ -258,15 +326,42 @@ fn run_failing<R: Wait>(
         &mut opener,
         &mut judge,
     );
-    Ok((status, !sink.bytes().is_empty()))
+    let output = sink.bytes().to_vec(alloc)?;
+    Ok(Left {
+        status,
+        output,
+        store: bytes_of(alloc, left)?,
+    })
 }
 
 #[test]
 fn stops_at_a_fault(rt: HostRuntime) -> Result<(), Fail> {
     for (reads, writes, calls, wanted) in FAULTS.iter() {
-        let (status, wrote) = run_failing(rt.alloc(), &rt, reads, writes, calls)?;
-        assert_eq!(rt; status, *wanted);
-        assert!(rt; !wrote);
+        let left = run_failing(rt.alloc(), &rt, reads, writes, calls)?;
+        assert_eq!(rt; left.status, *wanted);
+        assert!(rt; left.output.is_empty());
     }
+    Ok(())
+}
+
+// A journal is made by 2 calls, and the deposit and the opening take 4 each. What is left goes on: the poll is opened, or was.
+#[test]
+fn goes_on_where_a_call_failed(rt: HostRuntime) -> Result<(), Fail> {
+    let alloc = rt.alloc();
+    for call in 1..11u32 {
+        let left = run_failing(alloc, &rt, &[], &[], &[call])?;
+        assert_eq!(rt; left.status, NodeStatus::DiskFault, "call {call}");
+        assert!(rt; left.output.is_empty(), "call {call}");
+        let next = run(alloc, &rt, ["1", "j"], &left.store, OPEN, usize::MAX)?;
+        assert_eq!(rt; next.status, NodeStatus::Done, "call {call}");
+        let written = next.output.as_slice();
+        assert!(rt;
+            written == OPENED || call > 8 && written == NOTHING,
+            "call {call}"
+        );
+    }
+    let left = run_failing(alloc, &rt, &[], &[], &[11])?;
+    assert_eq!(rt; left.status, NodeStatus::Done);
+    assert_eq!(rt; left.output.as_slice(), OPENED);
     Ok(())
 }

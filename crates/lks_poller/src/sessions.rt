@@ -452,6 +452,10 @@ impl PollSession {
         requires { length (C.blocks c.now) ≡ self.now.tally.ballot.count }
         ensures { IfOk result (λ ids. ids ≡ rules_of.outer_for self.now (C.blocks c.now)) }
     {
+        // Without votes no block has to be read.
+        if self.outer_votes.is_empty() {
+            return Ok(Ids::from_vec(Vec::new(self.alloc)));
+        }
         counts::for_counted::<C, Brand>(
             self.alloc,
             self.tally.ballot(),

@@ -11,7 +11,7 @@ use Rattle.lks_law.specs.Due.{AreDue}
 use Rattle.lks_race.specs.Racing.{Begin, GoesOn, IsSeat, Runs, begin_of}
 use Rattle.lks_watch.specs.Watching.{Ears}
 use Rattle.lks_world.specs.Giving.{IsOver}
-use Rattle.lks_world.specs.Worlds.{HasWatched, HaveServed, Remembers, Seen, Start}
+use Rattle.lks_world.specs.Worlds.{HasWatched, HaveServed, Remembers, Seen, StandsAtFault, Start}
 
 due_all : (plan : Plan) (history xs ys : List Event) → AreDue plan history xs → AreDue plan (history ++ xs) ys → AreDue plan history (xs ++ ys)
 due_all plan history [] ys first then = subst (λ (h : List Event). AreDue plan h ys) (append-nil history) then
@@ -58,12 +58,13 @@ module _ {D J B : Type 0} where
 
 -- The judge and the bells have watched, and the disks served, since the beginning that the race's world remembered.
 pub runs : {D J B : Type 0} (f : Face D) (e : Ears J B) (first w : Seen D J B) → GoesOn (begin_of first) w → (w.stopped ≡ None → IsOver w)
-    → (w.stopped ≡ None → HasWatched e w.plan w.start.limits w.history w.judge w.bells) → HaveServed f w.plan.peers w.start.faults w.disks w.stopped
+    → (w.stopped ≡ None → HasWatched e w.plan w.start.limits w.history w.judge w.bells) → StandsAtFault f e w → HaveServed f w.plan.peers w.start.faults w.disks w.stopped
     → Runs f e first w
-runs f e first w on over watched served = record {
+runs f e first w on over watched halted served = record {
   on = on;
   over = over;
   watched = λ running. subst (λ (s : Start). HasWatched e first.plan s.limits w.history w.judge w.bells) on.start (subst (λ (p : Plan). HasWatched e p w.start.limits w.history w.judge w.bells) on.plan (watched running));
+  halted = halted;
   served = subst (λ (s : Start). HaveServed f first.plan.peers s.faults w.disks w.stopped) on.start (subst (λ (p : Plan). HaveServed f p.peers w.start.faults w.disks w.stopped) on.plan served);
 }
 

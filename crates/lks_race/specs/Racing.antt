@@ -13,7 +13,7 @@ use Rattle.lks_race.specs.declared.turns.Met.TheVariants as met
 use Rattle.lks_watch.specs.Watching.{Ears}
 use Rattle.lks_work.specs.Names.{refs_of}
 use Rattle.lks_world.specs.Giving.{IsOver}
-use Rattle.lks_world.specs.Worlds.{HasWatched, HaveServed, Seen, Start}
+use Rattle.lks_world.specs.Worlds.{HasWatched, HaveServed, Seen, StandsAtFault, Start}
 
 -- How a race began, as plain data: the plan, the pool, what the world remembers of its own beginning, the history and its turns.
 pub record Begin : Type 0 where
@@ -53,11 +53,13 @@ pub record GoesOn {D J B : Type 0} (b : Begin) (w : Seen D J B) : Type 0 where
   pub turns : w.turns ≡ b.turns + length more
 
 -- What a race leaves of a world as it was: it went on so, and unless a fault stopped it, until nothing is due or no turn or no room
--- is left; then the judge and the bells that are there have watched its history. Its disks have served since its beginning.
+-- is left; then the judge and the bells that are there have watched its history. At a fault what stands is what one may leave. Its
+-- disks have served since its beginning.
 pub record Runs {D J B : Type 0} (f : Face D) (e : Ears J B) (first w : Seen D J B) : Type 0 where
   pub on : GoesOn (begin_of first) w
   pub over : w.stopped ≡ None → IsOver w
   pub watched : w.stopped ≡ None → HasWatched e first.plan first.start.limits w.history w.judge w.bells
+  pub halted : StandsAtFault f e w
   pub served : HaveServed f first.plan.peers first.start.faults w.disks w.stopped
 
 -- What a thread meets: the entry of the event that was kept last, a job over blocks of this pool, that all work is out, or the end,

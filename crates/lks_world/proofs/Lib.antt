@@ -15,6 +15,7 @@ mod HeldOnce
 mod HostLaws
 mod Judging
 mod Keeping
+mod Limits
 mod Named
 mod NextLaws
 mod OwnSteps

@@ -51,15 +51,15 @@ grown_by_one : (w : World) (from to : ℕ) (bytes : List ℕ) → length (happen
 unfolding happens
 grown_by_one w from to bytes = length-append w.bag (record { from = from; to = to; bytes = bytes } ∷ [])
 
-same_tick : (w : World) (p : PeerStep) → (happens w (Step p)).tick ≡ w.tick
+pub same_tick : (w : World) (p : PeerStep) → (happens w (Step p)).tick ≡ w.tick
 unfolding happens after_step
 same_tick w p = refl
 
-no_tick : (w : World) (from to : ℕ) (bytes : List ℕ) → (happens w (Forge from to bytes)).tick ≡ w.tick
+pub no_tick : (w : World) (from to : ℕ) (bytes : List ℕ) → (happens w (Forge from to bytes)).tick ≡ w.tick
 unfolding happens
 no_tick w from to bytes = refl
 
-ticked : (w : World) (by : ℕ) → (happens w (Tick by)).tick ≡ w.tick + by
+pub ticked : (w : World) (by : ℕ) → (happens w (Tick by)).tick ≡ w.tick + by
 unfolding happens
 ticked w by = refl
 
@@ -67,7 +67,7 @@ same_bag : (w : World) (by : ℕ) → length (happens w (Tick by)).bag ≡ lengt
 unfolding happens
 same_bag w by = refl
 
-unchanged : (w : World) (envelope : ℕ) → happens w (Lose envelope) ≡ w
+pub unchanged : (w : World) (envelope : ℕ) → happens w (Lose envelope) ≡ w
 unfolding happens
 unchanged w envelope = refl
 
@@ -80,7 +80,7 @@ unfolding happens after_step
 quiet_bag w p true = refl
 quiet_bag w p false = refl
 
-quiet_tick : (w : World) (p : PeerStep) (is_kept : Bool) → (happens w (Cut p is_kept)).tick ≡ w.tick
+pub quiet_tick : (w : World) (p : PeerStep) (is_kept : Bool) → (happens w (Cut p is_kept)).tick ≡ w.tick
 unfolding happens after_step
 quiet_tick w p true = refl
 quiet_tick w p false = refl

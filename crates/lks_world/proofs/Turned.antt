@@ -1,36 +1,68 @@
 -- What a world keeps when something that is due was given out or done.
 use Rattle.std.proofs.Common.{◌≡◌, ◌≢◌, ◌≤◌, ◌<◌, ◌+◌, ◌∙◌, ap, sym, subst, refl, arith, ℕ, List, [], ◌∷◌, ◌++◌, length}
-use Rattle.std.specs.Prelude.{Option, Some, None, Result, Ok, Err, Vec, reverse, slice_get}
+use Rattle.std.specs.Prelude.{Option, Some, None, Result, Ok, Err, Vec, reverse, slice_get, is_some, true, false}
 use Rattle.std.specs.declared.alloc.Global.{Global}
-use Rattle.std.proofs.lemmas.List.{length-map}
+use Rattle.std.proofs.lemmas.List.{append-nil, length-map}
 use Rattle.lks_base.specs.declared.events.Due.{Due}
 use Rattle.lks_base.specs.declared.events.Event.{Event}
+use Rattle.lks_base.specs.declared.events.PeerStep.{PeerStep}
 use Rattle.lks_disk.specs.Face.{Face}
 use Rattle.lks_law.proofs.Dues.{event_is_of, is_due}
 use Rattle.lks_law.specs.Due.{dues, IsEventOf}
 use Rattle.lks_law.specs.Entries.{entries}
 use Rattle.lks_law.specs.Histories.{IsHistory}
-use Rattle.lks_law.specs.Questions.{event_of}
+use Rattle.lks_law.specs.Questions.{event_of, questions}
 use Rattle.lks_watch.specs.Watching.{Ears, WatchesBy}
 use Rattle.lks_watch.specs.declared.watches.Watch.{Watch}
 use Rattle.lks_work.specs.declared.jobs.JobName.{JobName}
 use Rattle.lks_world.proofs.DueLaws.{due_doable}
+use Rattle.lks_world.proofs.Fallen.{left_still}
 use Rattle.lks_world.proofs.FuseLaws.{same_fuses}
 use Rattle.lks_world.proofs.Judging.{due_judged}
 use Rattle.lks_world.proofs.Remembering.{event_watched, served_on}
 use Rattle.lks_world.proofs.SameSeats.{same_counted, same_disks, same_state}
-use Rattle.lks_world.proofs.SeatLaws.{fuses_joined}
+use Rattle.lks_world.proofs.SeatLaws.{disks_left, fuses_joined}
 use Rattle.lks_world.specs.Beside.{AreSameSeats}
 use Rattle.lks_world.specs.Doable.{IsDoable}
 use Rattle.lks_world.specs.Giving.{HasTurn, TakesTurn}
-use Rattle.lks_world.specs.Seats.{disks_at, id_at, Counted}
-use Rattle.lks_world.specs.States.{events_in, events_of, Becomes, IsStateOf}
-use Rattle.lks_world.specs.Worlds.{HaveServed, IsKept, seen_in}
+use Rattle.lks_world.specs.Seats.{disks_at, id_at, AreSeats, Counted}
+use Rattle.lks_world.specs.States.{events_in, events_of, AreLeft, Becomes, IsStateOf}
+use Rattle.lks_world.specs.Watched.{StopsBy}
+use Rattle.lks_world.specs.Worlds.{HasHalted, HaveServed, IsKept, halted, seen_in}
 use Rattle.lks_world.specs.declared.faults.WorldFault.{WorldFault}
 use Rattle.lks_world.specs.declared.faults.WorldFault.TheVariants.{Memory}
 use Rattle.lks_world.specs.declared.seats.Seat.{Seat}
 use Rattle.lks_world.specs.declared.states.State.{State}
 use Rattle.lks_world.specs.declared.worlds.World.TheInside.{Inside}
+
+pub none_there : (o : Option WorldFault) → is_some o ≡ false → o ≡ None
+none_there None is = refl
+none_there (Some fault) is = absurd cc
+
+-- a fault that stopped a world before stays
+pub halted_still : (o : Option WorldFault) → is_some o ≡ true → o ≡ halted o
+halted_still None is = absurd cc
+halted_still (Some fault) is = refl
+
+module _ {D J B : Type 0} (f : Face D) (e : Ears J B) (a : Inside D J B) (kept : IsKept f e a) (runs : a.stopped ≡ None) where
+  -- what a fault leaves in a step that was begun, or in none
+  pub halts_at : (t : State D) (w : Watch J B) (next : Option PeerStep) → StopsBy e a.plan (events_in a.state) (events_in t) next a.watch w → AreLeft f a.plan next t → AreSeats a.plan.peers t.seats.items
+      → HasHalted f e a.plan a.first_limits.numbers (events_in t) (disks_at t.seats.items ++ reverse a.rest.items) w.judge w.desk
+  halts_at t w next stops left seats = record {
+    next = next;
+    heard = stops.heard (kept.watched runs).heard;
+    rung = stops.bells a.first_limits.numbers (kept.watched runs).rung;
+    left = disks_left f a.plan next t (reverse a.rest.items) left seats;
+  }
+
+  -- what one leaves before anything was begun
+  pub halts_here : HasHalted f e a.plan a.first_limits.numbers (events_in a.state) (disks_at a.state.seats.items ++ reverse a.rest.items) a.watch.judge a.watch.desk
+  halts_here = record {
+    next = None;
+    heard = (kept.watched runs).heard ∙ sym (append-nil (questions a.plan (events_in a.state)));
+    rung = (kept.watched runs).rung;
+    left = disks_left f a.plan None a.state (reverse a.rest.items) (left_still f a.plan a.state a.state (kept.state runs) refl None refl) kept.seats;
+  }
 
 module _ {D J B : Type 0} (f : Face D) (e : Ears J B) (a : Inside D J B) (kept : IsKept f e a) (runs : a.stopped ≡ None) where
   pub due_here : (k : ℕ) (d : Due) → slice_get (dues a.plan (events_in a.state)) k ≡ Some d → IsDoable f e.heard a.plan a.state a.watch d
@@ -55,6 +87,7 @@ module _ {D J B : Type 0} (f : Face D) (e : Ears J B) (a : Inside D J B) (kept :
         watched = λ running.
             event_watched e a.plan a.first_limits.numbers (events_in a.state) (events_in t) (the_event d) a.watch w (kept.watched runs) becomes.events
             (due_judged (e.verdict a.watch.judge) a.plan (events_in a.state) d (can.may (e.verdict a.watch.judge)) can.asks) watches;
+        halted = λ fault is. absurd cc;
         seats = counted.ids ∙ kept.seats;
         unfused = same_fuses f (disks_at before ++ reverse a.rest.items) (disks_at after ++ reverse a.rest.items) (fuses_joined f (disks_at before) (disks_at after) (reverse a.rest.items) counted.fuses) kept.unfused;
         room = omega (arith, kept.room, ap length counted.ids, length-map before id_at, length-map after id_at);
@@ -66,8 +99,9 @@ module _ {D J B : Type 0} (f : Face D) (e : Ears J B) (a : Inside D J B) (kept :
 
   -- after a fault that left the history
   pub kept_faulted : (t : State D) (w : Watch J B) (fault : WorldFault) → t.history.items ≡ a.state.history.items → Counted {T = Unit {0}} f a.state.seats.items t.seats.items (Err fault)
+      → HasHalted f e a.plan a.first_limits.numbers (events_in t) (disks_at t.seats.items ++ reverse a.rest.items) w.judge w.desk
       → (out : Vec JobName Global) → IsKept f e (record a { state = t; watch = w; stopped = Some fault; out = out })
-  kept_faulted t w fault history counted out =
+  kept_faulted t w fault history counted halted out =
       let before = a.state.seats.items in
       let after = t.seats.items in
       let same : events_in t ≡ events_in a.state = ap events_of history in
@@ -78,6 +112,7 @@ module _ {D J B : Type 0} (f : Face D) (e : Ears J B) (a : Inside D J B) (kept :
         entries = history ∙ kept.entries ∙ ap (entries a.plan) (sym same);
         state = λ running. absurd cc;
         watched = λ running. absurd cc;
+        halted = λ fault is. halted;
         seats = counted.ids ∙ kept.seats;
         unfused = same_fuses f (disks_at before ++ reverse a.rest.items) (disks_at after ++ reverse a.rest.items) (fuses_joined f (disks_at before) (disks_at after) (reverse a.rest.items) counted.fuses) kept.unfused;
         room = omega (arith, kept.room, ap length counted.ids, length-map before id_at, length-map after id_at);
@@ -100,6 +135,7 @@ module _ {D J B : Type 0} (f : Face D) (e : Ears J B) (a : Inside D J B) (kept :
         entries = kept.entries;
         state = λ running. same_state f a.plan a.state (record a.state { seats = xs }) same refl (kept.state running);
         watched = kept.watched;
+        halted = λ fault is. absurd cc;
         seats = counted.ids ∙ kept.seats;
         unfused = same_fuses f (disks_at before ++ reverse a.rest.items) (disks_at after ++ reverse a.rest.items) (fuses_joined f (disks_at before) (disks_at after) (reverse a.rest.items) counted.fuses) kept.unfused;
         room = omega (arith, kept.room, ap length counted.ids, length-map before id_at, length-map after id_at);
@@ -111,7 +147,8 @@ module _ {D J B : Type 0} (f : Face D) (e : Ears J B) (a : Inside D J B) (kept :
 
   pub kept_refused : (xs : Vec (Seat D) Global) (out : Vec JobName Global) → AreSameSeats a.state.seats.items xs.items → IsKept f e (record a { state = record a.state { seats = xs }; stopped = Some Memory; out = out })
   kept_refused xs out same =
-      kept_faulted (record a.state { seats = xs }) a.watch Memory refl (same_counted f a.state.seats.items xs.items (Err Memory) (λ id is. absurd cc) same) out
+      kept_faulted (record a.state { seats = xs }) a.watch Memory refl (same_counted f a.state.seats.items xs.items (Err Memory) (λ id is. absurd cc) same)
+      (halts_here f e (record a { state = record a.state { seats = xs }; out = out }) (kept_still xs out same) runs) out
 
   -- one event more, for a turn
   pub turn_taken : (k : ℕ) (d : Due) → slice_get (dues a.plan (events_in a.state)) k ≡ Some d → HasTurn (seen_in a) → (t : State D) (w : Watch J B) → Becomes f a.plan (events_in a.state ++ the_event d ∷ []) t

@@ -4,21 +4,24 @@ use Rattle.lks_alarm.specs.Bells.{left_of, seen}
 use Rattle.lks_disk.specs.Face.{Face}
 use Rattle.lks_base.specs.Checking.{plan_fault}
 use Rattle.lks_base.specs.declared.events.Event.{Event}
+use Rattle.lks_base.specs.declared.events.PeerStep.{PeerStep}
 use Rattle.lks_base.specs.declared.plans.PeerPlan.{PeerPlan}
 use Rattle.lks_base.specs.declared.plans.Plan.{Plan}
 use Rattle.lks_law.specs.Alarms.{alarms}
 use Rattle.lks_law.specs.Entries.{entries}
 use Rattle.lks_law.specs.Histories.{IsHistory}
 use Rattle.lks_law.specs.Questions.{Verdicts, questions, AreJudged}
+use Rattle.lks_law.specs.World.{world}
 use Rattle.lks_script.specs.declared.steps.Step.{Step}
 use Rattle.lks_watch.specs.Watching.{Ears, Watches, watching}
 use Rattle.lks_work.specs.declared.jobs.JobName.{JobName}
 use Rattle.lks_world.specs.Counts.{fault_in, ServesHonest}
 use Rattle.lks_world.specs.Follows.{Performs}
-use Rattle.lks_world.specs.Held.{AreUnfused}
+use Rattle.lks_world.specs.Held.{AreUnfused, HaveBatchesOrNext}
 use Rattle.lks_world.specs.Seats.{disks_at, AreSeats}
 use Rattle.lks_world.specs.Spending.{Spends}
 use Rattle.lks_world.specs.States.{events_in, IsStateOf}
+use Rattle.lks_world.specs.Watched.{asked_next}
 use Rattle.lks_world.specs.declared.faults.WorldFault.{WorldFault}
 use Rattle.lks_world.specs.declared.faults.WorldFault.TheVariants.{Memory}
 use Rattle.lks_world.specs.declared.worlds.World.TheInside.{Inside}
@@ -69,6 +72,19 @@ pub record HasWatched {J B : Type 0} (e : Ears J B) (plan : Plan) (limits : List
   pub judged : AreJudged (e.verdict judge) plan history
   pub rung : seen e.rung e.limit bells ≡ left_of (alarms plan history) limits
 
+-- Where a fault stopped it, the judge has heard what the history asks, and what the step asks that was begun, if one was; the bells are
+-- those with these limits that want more than the history's alarms, for which they rang; and a crash leaves of each honest peer's disk
+-- the batches of its journal, or of the peer which began the step these, or that step's too.
+pub record HasHalted {D J B : Type 0} (f : Face D) (e : Ears J B) (plan : Plan) (limits : List ℕ) (history : List Event) (disks : List D) (judge : J) (bells : List B) : Type 0 where
+  pub next : Option PeerStep
+  pub heard : e.heard judge ≡ questions plan history ++ asked_next (world plan history) next
+  pub rung : seen e.rung e.limit bells ≡ left_of (alarms plan history) limits
+  pub left : HaveBatchesOrNext f plan history next disks
+
+-- the same of a world as callers see it, if a fault stopped it
+abbrev pub StandsAtFault : {D J B : Type 0} → Face D → Ears J B → Seen D J B → Type 0
+StandsAtFault f e w = (fault : WorldFault) → w.stopped ≡ Some fault → HasHalted f e w.plan w.start.limits w.history w.disks w.judge w.bells
+
 -- What became of disks with these counts of faults is what calls on those of honest peers may do: a fault blames only a disk whose
 -- count rose.
 pub record HaveServed {D : Type 0} (f : Face D) (peers : List PeerPlan) (counts : List ℕ) (disks : List D) (fault : Option WorldFault) : Type 0 where
@@ -77,8 +93,9 @@ pub record HaveServed {D : Type 0} (f : Face D) (peers : List PeerPlan) (counts 
   pub serves : ServesHonest f peers first disks fault
 
 -- The plan is good, and the events are a history of it, each with its entry, of which no more were turns than the plan has. While
--- the world isn't stopped its state is that of the history, which its judge and its bells have watched. Each peer has its seat, no
--- disk has a fuse, the list that was handed in has room for all disks, and these have served since the beginning.
+-- the world isn't stopped its state is that of the history, which its judge and its bells have watched; and a fault has left of these
+-- and of the disks what it may. Each peer has its seat, no disk has a fuse, the list that was handed in has room for all disks, and
+-- these have served since the beginning.
 pub record IsKept {D J B : Type 0} (f : Face D) (e : Ears J B) (a : Inside D J B) : Type 0 where
   pub good : plan_fault a.plan ≡ None
   pub happened : IsHistory a.plan (events_in a.state)
@@ -86,6 +103,8 @@ pub record IsKept {D J B : Type 0} (f : Face D) (e : Ears J B) (a : Inside D J B
   pub entries : a.state.history.items ≡ entries a.plan (events_in a.state)
   pub state : a.stopped ≡ None → IsStateOf f a.plan a.state
   pub watched : a.stopped ≡ None → HasWatched e a.plan a.first_limits.numbers (events_in a.state) a.watch.judge a.watch.desk
+  pub halted : (fault : WorldFault) → a.stopped ≡ Some fault
+      → HasHalted f e a.plan a.first_limits.numbers (events_in a.state) (disks_at a.state.seats.items ++ reverse a.rest.items) a.watch.judge a.watch.desk
   pub seats : AreSeats a.plan.peers a.state.seats.items
   pub unfused : AreUnfused f (disks_at a.state.seats.items ++ reverse a.rest.items)
   pub room : vec_len a.rest + length a.state.seats.items ≤ vec_capacity a.rest

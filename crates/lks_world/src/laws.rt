@@ -1,8 +1,9 @@
-//! Laws on what follows a script, on what disks hold, and on worlds that no history leads to.
+//! Laws on what follows a script, on limits, on what disks hold, and on worlds that no history leads to.
 
-ghost use Rattle.std.specs.Prelude.{◌≡◌, ◌≢◌, ◌++◌, ◌∷◌, [], ℕ, true, None, Some, Ok, List, slice_get};
+ghost use Rattle.std.specs.Prelude.{◌≡◌, ◌≢◌, ◌≤◌, ◌<◌, ◌*◌, ◌++◌, ◌∷◌, [], ℕ, true, None, Some, Ok, List, length, slice_get};
 ghost use Rattle.lks_base.specs.Checking.{plan_fault};
 ghost use Rattle.lks_base.specs.declared.events.Event.{Event};
+ghost use Rattle.lks_base.specs.declared.limits.TheConstants.{MOST_EVENTS, MOST_TICKS};
 ghost use Rattle.lks_base.specs.declared.messages.Message.TheVariants as message;
 ghost use Rattle.lks_base.specs.declared.plans.Plan.{Plan};
 ghost use Rattle.lks_base.specs.declared.plans.Rules.{Rules};
@@ -11,8 +12,9 @@ ghost use Rattle.lks_host.specs.Bodies.{bodies_of};
 ghost use Rattle.lks_field.specs.Frames.{HoldsBodies};
 ghost use Rattle.lks_law.specs.Batches.{batches_at};
 ghost use Rattle.lks_law.specs.Histories.{IsHistory};
-ghost use Rattle.lks_law.specs.Questions.{Verdicts};
+ghost use Rattle.lks_law.specs.Questions.{Verdicts, questions};
 ghost use Rattle.lks_law.specs.Snapshots.{HaveSnapshots, HasFewHolders};
+ghost use Rattle.lks_law.specs.World.{world};
 ghost use Rattle.lks_message.specs.Reading.{decode_of};
 ghost use Rattle.lks_saying.specs.Bytes.{GiveBytes};
 ghost use Rattle.lks_script.specs.StepRules.{are_steps_of};
@@ -29,6 +31,13 @@ use lks_disk::CrashDisk;
 pub fn what_follows_a_script_is_a_history()
     ensures { (verdict : Verdicts) (plan : Plan) (history after : List Event) (steps : List Step) → plan_fault plan ≡ None
         → are_steps_of plan steps ≡ true → GiveBytes plan steps → IsHistory plan history → Follows verdict plan history steps after → IsHistory plan after }
+{}
+
+/// Limits that no history passes: before each of its events the judge was asked fewer than 4,096 questions, and its clock is at most
+/// 4,096,000,000 ticks, which 32 bits hold.
+pub fn no_history_passes_a_limit()
+    ensures asked { (plan : Plan) (history : List Event) (event : Event) → IsHistory plan (history ++ event ∷ []) → length (questions plan history) < MOST_EVENTS }
+    ensures clock { (plan : Plan) (history : List Event) → IsHistory plan history → (world plan history).tick ≤ MOST_TICKS * MOST_EVENTS }
 {}
 
 /// What disks hold can be wrong: bytes hold the bodies of one list of batches, so disks that hold the batches of one

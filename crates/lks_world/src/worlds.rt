@@ -15,7 +15,7 @@ ghost use Rattle.lks_world.specs.Powers.{power_of};
 ghost use Rattle.lks_world.specs.Stopping.{StopsIn};
 ghost use Rattle.lks_world.specs.Giving.{Gives, HasTurn, IsExpected, IsUsedUp, StaysAtFault, Takes, TakesTurn, GivesWork, AreWorksOut, GivesFresh};
 ghost use Rattle.lks_world.specs.Beside.{IsForDue};
-ghost use Rattle.lks_world.specs.Worlds.{AreSilent, Begins, HasWatched, HaveServed, PerformsIn, Remembers, SpendsPower, halted};
+ghost use Rattle.lks_world.specs.Worlds.{AreSilent, Begins, HasWatched, HaveServed, PerformsIn, Remembers, SpendsPower, StandsAtFault, halted};
 ghost use Rattle.lks_blocks.specs.Block.{AllOf};
 ghost use Rattle.lks_base.specs.declared.events.Due.TheVariants as dues;
 ghost use Rattle.lks_law.specs.Due.{dues, next_to_settle, IsEventOf};
@@ -256,10 +256,11 @@ impl<'a, D: CrashDisk + Drop, J: EffortJudge, B: Bell> World<'a, D, J, B> {
         }
     }
 
-    /// What the type of a world says of it: unless a fault stopped it, its judge and its bells have watched its history; and what
-    /// became of its disks since the beginning.
+    /// What the type of a world says of it: unless a fault stopped it, its judge and its bells have watched its history; at a fault,
+    /// what it left of these and of the journals; and what became of its disks since the beginning.
     pub fn known(&self)
         ensures watched { self.now.stopped ≡ None → HasWatched (ears J.heard J.verdict B.rung B.limit) self.now.plan self.now.start.limits self.now.history self.now.judge self.now.bells }
+        ensures halted { StandsAtFault D.face (ears J.heard J.verdict B.rung B.limit) self.now }
         ensures served { HaveServed D.face self.now.plan.peers self.now.start.faults self.now.disks self.now.stopped }
         ensures happened { IsHistory self.now.plan self.now.history }
         ensures used { self.now.turns ≤ self.now.plan.turns }
@@ -299,6 +300,7 @@ impl<'a, D: CrashDisk + Drop, J: EffortJudge, B: Bell> World<'a, D, J, B> {
         ensures watched { (result.judge ≡ self.entry.judge) × (result.bells.items ≡ self.entry.bells) }
         ensures holds { self.entry.stopped ≡ None → HaveBatches D.face self.entry.plan self.entry.history self.entry.disks }
         ensures heard { self.entry.stopped ≡ None → HasWatched (ears J.heard J.verdict B.rung B.limit) self.entry.plan self.entry.start.limits self.entry.history self.entry.judge self.entry.bells }
+        ensures halted { StandsAtFault D.face (ears J.heard J.verdict B.rung B.limit) self.entry }
         ensures served { HaveServed D.face self.entry.plan.peers self.entry.start.faults self.entry.disks self.entry.stopped }
     {
         let World {

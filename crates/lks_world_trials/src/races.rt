@@ -1,4 +1,4 @@
-//! A race whose jobs go through a farm.
+//! Races: their jobs go through a farm, and each of them reads the pool once.
 
 ghost use Rattle.std.specs.Prelude.{◌≡◌, None, IfOk};
 
@@ -9,7 +9,7 @@ use lks_blocks::BlockPool;
 use lks_disk::MemDisk;
 use lks_effort::FirstByteJudge;
 use lks_farm::{Farm, FarmSet, Seat};
-use lks_race::{FreeGate, race_on};
+use lks_race::{FreeGate, race, race_on};
 use lks_script::Script;
 use lks_world::World;
 use std::alloc::Global;
@@ -17,16 +17,17 @@ use std::sync::Wait;
 use std::test::Fail;
 use std::thread::Threads;
 
-/// The world of the script of ordinary use after its step.
+/// The world of the script of ordinary use after its step, with this line behind its copies.
 fn opened<'a, R: Threads + Wait + Sync>(
     alloc: Global,
     rt: &R,
     pool: &'a BlockPool,
+    damage: &str,
 ) -> Result<World<'a, MemDisk, FirstByteJudge, ListBell>, Fail>
     ensures running { IfOk result (λ world. world.stopped ≡ None) }
     ensures pool { IfOk result (λ world. world.pool ≡ pool.now) }
 {
-    let Script { plan, steps } = script_of(alloc, "", DAMAGE)?;
+    let Script { plan, steps } = script_of(alloc, "", damage)?;
     let mut world = world_of(alloc, rt, pool, plan)?;
     perform(rt, &mut world, steps.as_slice())?;
     Ok(world)
@@ -52,7 +53,7 @@ fn on_a_farm<R: Threads + Wait + Sync>(
     rt: &R,
     pool: &BlockPool,
 ) -> Result<(u64, usize, usize, usize), Fail> {
-    let world = opened(alloc, rt, pool)?;
+    let world = opened(alloc, rt, pool, DAMAGE)?;
     let set = Farm::new(alloc, pool, 64, 4)?;
     let (_world, end, set) = race_on(alloc, rt, world, pool, set, &FreeGate);
     end?;
@@ -67,5 +68,17 @@ fn on_a_farm<R: Threads + Wait + Sync>(
 fn a_race_through_the_farm(rt: HostRuntime) -> Result<(), Fail> {
     let pool = BlockPool::new(rt.alloc())?;
     assert_eq!(rt; on_a_farm(rt.alloc(), &rt, &pool)?, (5, 0, 0, 0));
+    Ok(())
+}
+
+// Three votes and a tally over twelve blocks. Nobody has outer votes, so the agreed poll reads nothing more.
+#[test]
+fn each_job_reads_once(rt: HostRuntime) -> Result<(), Fail> {
+    let pool = BlockPool::new(rt.alloc())?;
+    let world = opened(rt.alloc(), &rt, &pool, "")?;
+    let (_world, end) = race(rt.alloc(), &rt, world, &pool, 2, &FreeGate);
+    end?;
+    let reads = pool.reads();
+    assert!(rt; 0 < reads && reads <= 48, "{reads} reads");
     Ok(())
 }

@@ -17,14 +17,14 @@ use Rattle.lks_script.specs.declared.steps.Step.{Step}
 use Rattle.lks_world.specs.Counts.{ServesHonest}
 use Rattle.lks_world.specs.Follows.{Follows}
 use Rattle.lks_world.specs.Giving.{IsOver}
-use Rattle.lks_world.specs.Held.{HaveBatches}
+use Rattle.lks_world.specs.Held.{HaveBatches, HaveBatchesOrNext}
 use Rattle.lks_world.specs.Powers.{power_of}
-use Rattle.lks_world.specs.Worlds.{Begins, HasWatched, HaveServed, Remembers, Seen, Start}
+use Rattle.lks_world.specs.Worlds.{Begins, HasHalted, HasWatched, HaveServed, Remembers, Seen, Start}
 use Rattle.lks_world.specs.declared.faults.WorldFault.{WorldFault}
 use Rattle.lockss.proofs.Played.{halted}
 use Rattle.lockss.specs.Deeds.{deed_of}
 use Rattle.lockss.specs.Handed.{AreGiven, Devices, Senses}
-use Rattle.lockss.specs.Promise.{Races, RacesOut, RacesTo, Tells}
+use Rattle.lockss.specs.Promise.{Races, RacesOut, RacesTo, RacesUpTo, Tells}
 use Rattle.lockss.specs.Running.{ComesOut, EndsAs, IsRaced}
 use Rattle.lockss.specs.declared.ends.Raced.{Raced}
 use Rattle.lockss.specs.declared.ends.Raced.TheVariants as raced
@@ -66,6 +66,16 @@ module _ {D K J B : Type 0} (e : Senses D K J B) (s : Script) (before after : De
         rung = ap (seen e.ears.rung e.ears.limit) bells_back ∙ watched.rung ∙ ap (left_of (alarms s.plan now.history)) limits_are;
       }
 
+  races_up_to : (fault : WorldFault) → now.stopped ≡ Some fault → RacesUpTo e s before after now.history now.judge
+  races_up_to fault is =
+      let halts = subst (λ (p : Plan). HasHalted e.face e.ears p now.start.limits now.history now.disks now.judge now.bells) now_plan (runs.halted fault is) in
+      record {
+        next = halts.next;
+        left = subst (HaveBatchesOrNext e.face s.plan now.history halts.next) (sym disks_back) halts.left;
+        heard = halts.heard;
+        rung = ap (seen e.ears.rung e.ears.limit) bells_back ∙ halts.rung ∙ ap (λ (start : Start). left_of (alarms s.plan now.history) start.limits) runs.on.start ∙ ap (left_of (alarms s.plan now.history)) limits_are;
+      }
+
   races_by : (fault : Option WorldFault) → now.stopped ≡ fault → Races e s before after fault
   races_by fault is = record {
     done = mid.history;
@@ -90,6 +100,7 @@ module _ {D K J B : Type 0} (e : Senses D K J B) (s : Script) (before after : De
         (subst (λ p. Follows (e.ears.verdict first.judge) p first.history steps mid.history) begins.plan follows));
     due = subst (λ (p : Plan). AreDue p mid.history runs.on.more) mid_plan runs.on.due;
     out = λ none. races_out (is ∙ none);
+    up_to = λ stop stopped. races_up_to stop (is ∙ stopped);
   }
 
   pub raced_as : (came : Raced) → EndsAs e now before.sink after.sink came → RacesTo e s before after came

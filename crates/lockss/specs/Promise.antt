@@ -163,6 +163,15 @@ module _ {D K J B : Type 0} (e : Senses D K J B) (s : Script) (before after : De
     pub judged : AreJudged (e.ears.verdict last) s.plan history
     pub rung : seen e.ears.rung e.ears.limit after.bells ≡ left_of (alarms s.plan history) (map e.ears.limit before.bells)
 
+  -- A fault stopped the threads: the judge has heard what the history asks, and what the step asks that was begun, if one was. Of the
+  -- bells, those are back in their order that want more alarms than the history has, and each rang for exactly these. A crash leaves
+  -- of each honest peer's disk the batches of its journal; of the one whose step was begun these, or this step's too.
+  pub record RacesUpTo (history : List Event) (last : J) : Type 0 where
+    pub next : Option PeerStep
+    pub left : HaveBatchesOrNext e.face s.plan history next after.disks
+    pub heard : e.ears.heard last ≡ questions s.plan history ++ asked_next (world s.plan history) next
+    pub rung : seen e.ears.rung e.ears.limit after.bells ≡ left_of (alarms s.plan history) (map e.ears.limit before.bells)
+
   -- The script was played to its end, by the verdicts of the judge, and then threads took what was due: each later event was due at
   -- its place. What happened is a history of the plan and safe. A disk that is blamed has failed.
   pub record Races (fault : Option WorldFault) : Type 0 where
@@ -181,6 +190,7 @@ module _ {D K J B : Type 0} (e : Senses D K J B) (s : Script) (before after : De
     pub follows : Follows (e.ears.verdict first) s.plan [] s.steps done
     pub due : AreDue s.plan done more
     pub out : fault ≡ None → RacesOut more history last
+    pub up_to : (stop : WorldFault) → fault ≡ Some stop → RacesUpTo history last
 
   -- At a fault nothing was written. Before threads took anything, all is as where a script is replayed.
   abbrev pub RacesTo : Raced → Type 0

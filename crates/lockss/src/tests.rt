@@ -5,6 +5,7 @@ mod disks;
 mod drills;
 mod evidence;
 mod gates;
+mod hostile;
 mod lists;
 mod peers;
 mod races;
@@ -558,6 +559,20 @@ fn run_plainly<R: Threads + Wait + Sync>(
     ))
 }
 
+/// What a run by these words over this source and this sink answers and writes.
+fn run_over<R: Threads + Wait + Sync>(
+    alloc: Global,
+    rt: &R,
+    words: &[&str],
+    source: &mut MemSource,
+    sink: &mut MemSink,
+) -> Result<(Status, Vec<u8>), Fail> {
+    let words = words_of(alloc, words)?;
+    let mut disks = fresh_disks(alloc)?;
+    let status = run_plainly(alloc, rt, &words, source, sink, &mut disks)?;
+    Ok((status, sink.bytes().to_vec(alloc)?))
+}
+
 /// What a run by these words answers and writes, of which these calls of its source and its sink fail.
 fn replayed<R: Threads + Wait + Sync>(
     alloc: Global,
@@ -567,13 +582,10 @@ fn replayed<R: Threads + Wait + Sync>(
     failing_reads: &[u32],
     failing_writes: &[u32],
 ) -> Result<(Status, Vec<u8>), Fail> {
-    let words = words_of(alloc, words)?;
     let script = joined(alloc, script)?;
     let mut source = MemSource::new(alloc, script, failing_reads.to_vec(alloc)?);
     let mut sink = MemSink::new(alloc, failing_writes.to_vec(alloc)?);
-    let mut disks = fresh_disks(alloc)?;
-    let status = run_plainly(alloc, rt, &words, &mut source, &mut sink, &mut disks)?;
-    Ok((status, sink.bytes().to_vec(alloc)?))
+    run_over(alloc, rt, words, &mut source, &mut sink)
 }
 
 /// Runs each script, and compares what it answers and writes.
@@ -680,28 +692,6 @@ fn faults(rt: HostRuntime) -> Result<(), Fail> {
         let (status, written) = replayed(rt.alloc(), &rt, REPLAY, &[HEAD, AGREED], reads, writes)?;
         assert_eq!(rt; status, answer);
         assert!(rt; written.is_empty());
-    }
-    Ok(())
-}
-
-/// So many bytes of one comment line without its end: a script that is too long, or a bad line.
-const LONG: [(usize, Status); 2] = [
-    (16_777_216, Status::BadScript { line: 1 }),
-    (16_777_217, Status::TooLong),
-];
-
-#[test]
-fn as_long_as_may_be(rt: HostRuntime) -> Result<(), Fail> {
-    let alloc = rt.alloc();
-    for (count, answer) in LONG {
-        let words = words_of(alloc, REPLAY)?;
-        let bytes = vec![in alloc; b'#'; count]?;
-        let mut source = MemSource::new(alloc, bytes, [].to_vec(alloc)?);
-        let mut sink = MemSink::new(alloc, [].to_vec(alloc)?);
-        let mut disks = fresh_disks(alloc)?;
-        let status = run_plainly(alloc, &rt, &words, &mut source, &mut sink, &mut disks)?;
-        assert_eq!(rt; status, answer);
-        assert!(rt; sink.bytes().is_empty());
     }
     Ok(())
 }

@@ -33,7 +33,7 @@ fn failing_disks(alloc: Global, fail: &[u32], fail_reads: &[u32]) -> Result<Vec<
 }
 
 /// The answer to a script whose first peer's disk fails at these calls, that disk, and what was written.
-fn replay_on<R: Threads + Wait + Sync>(
+pub fn replay_on<R: Threads + Wait + Sync>(
     alloc: Global,
     rt: &R,
     words: &[&str],
@@ -51,7 +51,7 @@ fn replay_on<R: Threads + Wait + Sync>(
 }
 
 /// The batches that a disk holds.
-fn batches_on(alloc: Global, disk: Option<MemDisk>) -> Result<Vec<Bytes>, Fail> {
+pub fn batches_on(alloc: Global, disk: Option<MemDisk>) -> Result<Vec<Bytes>, Fail> {
     let Some(disk) = disk else {
         return Err("a disk".into());
     };
@@ -73,8 +73,13 @@ fn deposits_first(rt: HostRuntime) -> Result<(), Fail> {
     Ok(())
 }
 
-// A journal is made by 2 calls, and a batch appended by 4: the deposit, the opening, three votes, the shutting and
-// the closing make 30.
+/// Whether a journal has so many batches where this call of its disk failed: 2 calls make it, and 4 append a batch.
+pub fn is_left(call: u32, count: usize) -> bool {
+    let before = call.saturating_sub(3) as usize / 4;
+    count == before || count == before + 1
+}
+
+// The deposit, the opening, three votes, the shutting and the closing make 30 calls.
 #[test]
 fn each_call_fails(rt: HostRuntime) -> Result<(), Fail> {
     let alloc = rt.alloc();
@@ -97,9 +102,7 @@ fn each_call_fails(rt: HostRuntime) -> Result<(), Fail> {
             continue;
         }
         let batches = batches_on(alloc, disk)?;
-        let before = (call as usize - 3) / 4;
-        let count = batches.len();
-        assert!(rt; count == before || count == before + 1, "call {call}");
+        assert!(rt; is_left(call, batches.len()), "call {call}");
         for (batch, wanted) in batches.iter().zip(whole.as_slice()) {
             assert_eq!(rt; batch.as_slice(), wanted.as_slice(), "call {call}");
         }

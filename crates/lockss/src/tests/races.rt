@@ -1,5 +1,6 @@
 //! Races: threads take what is due in whatever order they come.
 
+use super::disks::{batches_on, is_left, replay_on};
 use super::gates::{POLL, run_by};
 use super::peers::PEERS;
 use super::*;
@@ -70,6 +71,36 @@ fn races_end_alike(rt: HostRuntime) -> Result<(), Fail> {
         assert_eq!(rt; status, Done, "row {at}");
         assert!(rt; written.as_slice().ends_with(report.as_bytes()), "row {at}");
     }
+    Ok(())
+}
+
+/// Calls of the disk of peer 1, of the 54 that make its journal and append its 13 batches.
+const FAILING: [u32; 6] = [3, 6, 10, 31, 53, 54];
+
+// The threads stop, nothing is written, and the batches from before are there, and the one in progress or not.
+#[test]
+fn a_disk_fails_in_a_race(rt: HostRuntime) -> Result<(), Fail> {
+    let alloc = rt.alloc();
+    for call in FAILING {
+        let (status, disk, written) = replay_on(
+            alloc,
+            &rt,
+            &["race", "2"],
+            &[PEERS],
+            &[call],
+            &[],
+        )?;
+        assert_eq!(rt; status, Status::DiskFault { peer: 1 }, "call {call}");
+        assert!(rt; written.is_empty(), "call {call}");
+        assert!(rt;
+            is_left(call, batches_on(alloc, disk)?.len()),
+            "call {call}"
+        );
+    }
+    let (status, _disk, _written) = replay_on(alloc, &rt, &["race", "2"], &[PEERS], &[55], &[])?;
+    assert_eq!(rt; status, Done);
+    let (_status, disk, _written) = replay_on(alloc, &rt, &["race", "2"], &[PEERS], &[], &[])?;
+    assert_eq!(rt; batches_on(alloc, disk)?.len(), 13);
     Ok(())
 }
 

@@ -13,4 +13,4 @@ returns-in-Err-clause-runs g c =
     runs g.D.Disk.face (ears g.J.EffortJudge.heard g.J.EffortJudge.verdict g.B.Bell.rung g.B.Bell.limit) c.args.world now
     (goes_as (begin_of c.args.world) c.args.world now (goes_start c.args.world) (ap begin_of c.halt.ensures))
     (λ none. let bad : Some Memory ≡ None = sym (ap (λ w. w.stopped) c.halt.ensures ∙ ap halted c.requires.running) ∙ none in absurd cc)
-    c.known.ensures.watched c.known.ensures.served
+    c.known.ensures.watched c.known.ensures.halted c.known.ensures.served

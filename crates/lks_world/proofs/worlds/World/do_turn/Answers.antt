@@ -2,7 +2,7 @@ use Rattle.std.proofs.Common.{◌≡◌, ◌+◌, ◌∙◌, ap, sym, subst}
 use Rattle.std.specs.Prelude.{Some, None, slice_get}
 use Rattle.lks_law.specs.Due.{dues, IsEventOf}
 use Rattle.lks_watch.specs.Watching.{ears}
-use Rattle.lks_world.proofs.Turned.{due_here, kept_faulted, kept_turned, turn_taken}
+use Rattle.lks_world.proofs.Turned.{due_here, halts_at, kept_faulted, kept_turned, turn_taken}
 use Rattle.lks_world.specs.Giving.{HasTurn, TakesTurn}
 use Rattle.lks_world.specs.States.{events_in}
 use Rattle.lks_world.specs.Worlds.{Seen, seen_in}
@@ -29,10 +29,15 @@ invariant_of-self g c =
 
 pub invariant_of-self-in-Err : goal.invariant_of-self-in-Err
 invariant_of-self-in-Err g c =
+    let f = g.D.Disk.face in
+    let e = (ears g.J.EffortJudge.heard g.J.EffortJudge.verdict g.B.Bell.rung g.B.Bell.limit) in
     let a = c.self.inside in
     let runs : a.stopped ≡ None = ap (λ (v : Seen g.row.D.Denot g.row.J.Denot g.row.B.Denot). v.stopped) c.self.view_is ∙ c.requires.running in
+    let at : slice_get (dues a.plan (events_in a.state)) c.requires.due.0 ≡ Some c.args.due = subst (λ (v : Seen g.row.D.Denot g.row.J.Denot g.row.B.Denot). slice_get (dues v.plan v.history) c.requires.due.0 ≡ Some c.args.due) (sym c.self.view_is) c.requires.due.1 in
     let did = c.in-Err.ensures in
-    kept_faulted g.D.Disk.face (ears g.J.EffortJudge.heard g.J.EffortJudge.verdict g.B.Bell.rung g.B.Bell.limit) a c.self.invariant runs c.do_due.new.state c.do_due.new.watch c.in-Err.stop did.err did.counted a.out
+    let had = did.stops a.plan (due_here f e a c.self.invariant runs c.requires.due.0 c.args.due at) in
+    let halts = halts_at f e a c.self.invariant runs c.do_due.new.state c.do_due.new.watch had.next had.stops had.left (did.counted.ids ∙ c.self.invariant.seats) in
+    kept_faulted f e a c.self.invariant runs c.do_due.new.state c.do_due.new.watch c.in-Err.stop did.err did.counted halts a.out
 
 pub returns-in-Ok-clause-takes : goal.returns-in-Ok-clause-takes
 returns-in-Ok-clause-takes g c =

@@ -36,6 +36,7 @@ invariant_of-result g c =
           begins_watched (ears g.J.EffortJudge.heard g.J.EffortJudge.verdict g.B.Bell.rung g.B.Bell.limit) c.args.plan c.of-first_limits.result.numbers (events_of c.in-Ok.state.history.items) c.new.result.judge c.new.result.desk
           (ap events_of made.nothing) (ap (λ (w : Watch g.row.J.Denot g.row.B.Denot). g.J.EffortJudge.heard w.judge) c.new.ensures ∙ c.requires.unasked)
           (ap (λ (w : Watch g.row.J.Denot g.row.B.Denot). seen g.B.Bell.rung g.B.Bell.limit w.desk) c.new.ensures ∙ c.requires.silent ∙ ap (left_of []) (sym c.of-first_limits.ensures));
+      halted = λ fault is. absurd cc;
       seats = made.seats;
       unfused =
           let now = disks_at c.in-Ok.state.seats.items ++ reverse c.begin.new.disks.items in

@@ -13,6 +13,7 @@ use Rattle.lks_world.specs.States.{events_in}
 use Rattle.lks_world.specs.Seats.{disks_at, id_at}
 use Rattle.lks_world.specs.Worlds.{Seen}
 use Rattle.lks_world.proofs.SeatLaws.{disks_left}
+use Rattle.lks_world.proofs.Turned.{halts_at}
 use Rattle.lks_watch.specs.Watching.{ears}
 use Rattle.lks_world.specs.Stopping.{StopsIn}
 use Rattle.lks_world.proofs.PowerEnds.{honest_power}
@@ -50,6 +51,7 @@ invariant_of-self g c =
       watched = λ running.
           performs_watched (ears g.J.EffortJudge.heard g.J.EffortJudge.verdict g.B.Bell.rung g.B.Bell.limit) a.plan a.first_limits.numbers (events_in a.state) (events_in c.perform.new.state) a.watch c.perform.new.watch c.args.step.now
           (ap (λ (p : Plan). is_step_of p c.args.step.now) (ap (λ (v : Seen g.row.D.Denot g.row.J.Denot g.row.B.Denot). v.plan) c.self.view_is) ∙ c.requires.legal) (kept.watched runs) did.performs.0 did.performs.1;
+      halted = λ fault is. absurd cc;
       seats = did.counted.ids ∙ kept.seats;
       unfused = same_fuses f (disks_at before ++ reverse a.rest.items) (disks_at after ++ reverse a.rest.items) (fuses_joined f (disks_at before) (disks_at after) (reverse a.rest.items) did.counted.fuses) kept.unfused;
       room = omega (arith, kept.room, ap length did.counted.ids, length-map before id_at, length-map after id_at);
@@ -62,6 +64,7 @@ invariant_of-self g c =
 pub invariant_of-self-in-Err : goal.invariant_of-self-in-Err
 invariant_of-self-in-Err g c =
     let f = g.D.Disk.face in
+    let e = (ears g.J.EffortJudge.heard g.J.EffortJudge.verdict g.B.Bell.rung g.B.Bell.limit) in
     let a = c.self.inside in
     let kept = c.self.invariant in
     let runs : a.stopped ≡ None = ap (λ (v : Seen g.row.D.Denot g.row.J.Denot g.row.B.Denot). v.stopped) c.self.view_is ∙ c.requires.running in
@@ -75,6 +78,7 @@ invariant_of-self-in-Err g c =
       entries = did.extends.entries;
       state = λ running. absurd cc;
       watched = λ running. absurd cc;
+      halted = λ fault is. halts_at f e a kept runs c.perform.new.state c.perform.new.watch did.stops.next did.stops.stops did.stops.left (did.counted.ids ∙ kept.seats);
       seats = did.counted.ids ∙ kept.seats;
       unfused = same_fuses f (disks_at before ++ reverse a.rest.items) (disks_at after ++ reverse a.rest.items) (fuses_joined f (disks_at before) (disks_at after) (reverse a.rest.items) did.counted.fuses) kept.unfused;
       room = omega (arith, kept.room, ap length did.counted.ids, length-map before id_at, length-map after id_at);
