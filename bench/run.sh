@@ -4,7 +4,7 @@
 count=${1:-5}
 only=${2:-}
 [ "$count" -gt 0 ] 2>/dev/null || { echo "usage: bench/run.sh [TIMES [replay | race | evidence]]" >&2; exit 64; }
-top=$(CDPATH= cd -- "$(dirname -- "$0")/.." && pwd) || exit 70
+top=$(CDPATH='' cd -- "$(dirname -- "$0")/.." && pwd) || exit 70
 program=$top/crates/lockss/out/lockss
 input=$(mktemp) || exit 70
 trap 'rm -f "$input"' EXIT

@@ -81,14 +81,14 @@ def entry_size(file: File) -> int:
     return 42 + len(file.path)
 
 
-def manifest_blocks(files: Iterable[File]) -> int:
-    """How many blocks the manifest of these files has."""
-    return blocks_for(HEAD + 4 + 2 + sum(map(entry_size, files)))
+def manifest_blocks(entries: int) -> int:
+    """How many blocks a manifest has whose entries take so many bytes."""
+    return blocks_for(HEAD + 4 + 2 + entries)
 
 
 def blocks_of(files: Sequence[File]) -> list[bytes]:
     """The blocks of an AU of these files."""
-    first, entries, parts = manifest_blocks(files), [], []
+    first, entries, parts = manifest_blocks(sum(map(entry_size, files))), [], []
     for file in files:
         own = parts_of(file.content)
         entries.append(Entry(file.path, len(file.content), digest("sha256", file.content), first + len(parts), len(own)))
@@ -100,17 +100,18 @@ def blocks_of(files: Sequence[File]) -> list[bytes]:
 def split(files: Iterable[File], most: int) -> list[list[File]]:
     """The files of each AU, in their order. Together they have at most so many bytes; the file that doesn't fit is named."""
     found: list[list[File]] = [[]]
-    text = size = count = 0
+    text = size = count = entries = 0
     for file in files:
-        own = parts_of(file.content)
-        if found[-1] and manifest_blocks([*found[-1], file]) + count + len(own) > MOST_BLOCKS:
+        own, entry = parts_of(file.content), entry_size(file)
+        if found[-1] and manifest_blocks(entries + entry) + count + len(own) > MOST_BLOCKS:
             found.append([])
-            count = 0
+            count = entries = 0
         found[-1].append(file)
         count += len(own)
-        size += entry_size(file) + len(file.content)
-        text += 2 * entry_size(file) + sum(1 + len(spelled([part])) for part in own)
-        fits = manifest_blocks(found[-1]) + count <= MOST_BLOCKS and len(found) <= MOST_AUS
+        entries += entry
+        size += entry + len(file.content)
+        text += 2 * entry + sum(1 + len(spelled([part])) for part in own)
+        fits = manifest_blocks(entries) + count <= MOST_BLOCKS and len(found) <= MOST_AUS
         if not fits or text > MOST_BYTES - REST or size > most - REST:
             raise ValueError(f"{shown(file.path)} doesn't fit: {LIMITS}")
     return found

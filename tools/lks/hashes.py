@@ -4,17 +4,19 @@ from __future__ import annotations
 
 import hashlib
 import struct
-from collections.abc import Iterable, Sequence
+from collections.abc import Callable, Iterable, Sequence
+from functools import lru_cache, partial
 from itertools import accumulate
 
-# The names by which scripts call the hashes, and those of hashlib.
-KINDS = {"sha256": "sha256", "sha512-256": "sha512_256"}
+# The hashes by the names by which scripts call them.
+KINDS: dict[str, Callable[[bytes], hashlib._Hash]]
+KINDS = {"sha256": hashlib.sha256, "sha512-256": partial(hashlib.new, "sha512_256")}
 MASK = 0xFFFFFFFF
 
 
 def digest(kind: str, data: bytes) -> bytes:
     """The hash of this name, SHA-256 or SHA-512/256 of FIPS 180-4."""
-    return hashlib.new(KINDS[kind], data).digest()
+    return KINDS[kind](data).digest()
 
 
 def nonce(seed: bytes, number: int) -> bytes:
@@ -28,10 +30,16 @@ def key(kind: str, poller: int, number: int, poll_nonce: bytes, voter: int, au: 
     return digest(kind, b"LOCKSS/1" + poll + struct.pack(">HHH", voter, au, count))
 
 
-def vote(kind: str, vote_key: bytes, blocks: Iterable[bytes]) -> tuple[bytes, ...]:
-    """The running hashes of these blocks, one for each."""
-    _, *hashes = accumulate(blocks, lambda last, block: digest(kind, last + block), initial=vote_key)
+@lru_cache(1024)
+def _vote(kind: str, vote_key: bytes, blocks: tuple[bytes, ...]) -> tuple[bytes, ...]:
+    hash_of = KINDS[kind]
+    _, *hashes = accumulate(blocks, lambda last, block: hash_of(last + block).digest(), initial=vote_key)
     return tuple(hashes)
+
+
+def vote(kind: str, vote_key: bytes, blocks: Iterable[bytes]) -> tuple[bytes, ...]:
+    """The running hashes of these blocks, one for each. The last votes are kept: who looks at a run asks for one often."""
+    return _vote(kind, vote_key, tuple(blocks))
 
 
 def _quarter_round(x: list[int], a: int, b: int, c: int, d: int) -> None:

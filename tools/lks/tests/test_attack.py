@@ -10,7 +10,9 @@ from collections.abc import Iterator, Sequence
 from dataclasses import replace
 
 from lks import attack, journal, message, outcome, picture, play, report, script, strategies
-from lks.tests.test_tools import EXAMPLES, NONCE, tool
+from lks.tests.commands import tool
+from lks.tests.side_by_side import long
+from lks.tests.test_tools import EXAMPLES, NONCE
 
 GIVEN = attack.settings(peers=12, corrupt=5, refs=8, rounds=2)
 GOOD = attack.good_blocks(GIVEN)
@@ -98,13 +100,27 @@ class Strategies(unittest.TestCase):
 
 
 class Runs(unittest.TestCase):
-    def test_one_seed_of_each(self) -> None:
-        for name in strategies.STRATEGIES:
+    def check_seed(self, first: int) -> None:
+        """One seed of every third strategy from this one on."""
+        for name in list(strategies.STRATEGIES)[first::3]:
             with self.subTest(strategy=name):
                 found = outcome.attempt(name, GIVEN, 1)
                 self.assertEqual(found.faults, [])
                 self.assertEqual(found.measures["agreed"] + found.measures["inquorate"] > 0, True)
 
+    @long
+    def test_one_seed_of_a_third(self) -> None:
+        self.check_seed(0)
+
+    @long
+    def test_one_seed_of_another_third(self) -> None:
+        self.check_seed(1)
+
+    @long
+    def test_one_seed_of_the_last_third(self) -> None:
+        self.check_seed(2)
+
+    @long
     def test_again(self) -> None:
         found = [outcome.attempt("mixed", GIVEN, 2) for _ in range(2)]
         self.assertEqual(*found)
@@ -182,6 +198,7 @@ class Commands(unittest.TestCase):
             ended = tool("attack", *words)
             self.assertEqual((ended.returncode, ended.stdout, ended.stderr.count("attack: ")), (2, "", 1), words)
 
+    @long
     def test_sweep(self) -> None:
         words = ["stealth", "--seeds", "1-2", "--peers", "8", "--rounds", "1", "--sweep", "corrupt=0..4..2", "--into"]
         texts = []

@@ -3,7 +3,6 @@
 from __future__ import annotations
 
 import pathlib
-import subprocess
 import tempfile
 import unittest
 from dataclasses import replace
@@ -13,7 +12,9 @@ from lks import disk, gather, hashes, journal, play, script
 from lks.evidence import Checker, line_of
 from lks.fields import PollName
 from lks.journal import Committed, Deposit, Joined, Limits, PollOpened, Record, Replaced, Shut, VoteIn
+from lks.tests.commands import tool
 from lks.tests.evidence_at_random import Compared, compare
+from lks.tests.side_by_side import long
 
 EXAMPLES = play.TOP / "examples"
 NONCE, OTHER = bytes(32), bytes(range(32))
@@ -55,11 +56,6 @@ def frames(records: list[Record]) -> bytes:
 def text(journals: Set) -> bytes:
     """A plan and these journals."""
     return (plan() + "".join(f"journal {peer} {frames(it).hex()}\n" for peer, it in journals.items())).encode()
-
-
-def tool(name: str, *words: object, **more: Any) -> subprocess.CompletedProcess[str]:
-    """A command of bin/ with these words."""
-    return subprocess.run([play.TOP / "bin" / name, *words], capture_output=True, text=True, check=False, **more)
 
 
 class Rules(unittest.TestCase):
@@ -161,12 +157,14 @@ class Rules(unittest.TestCase):
 
 
 class Comparing(unittest.TestCase):
+    @long
     def test_attacks_at_random(self) -> None:
         compared = compare(30, 1, drills=False)
         self.assertEqual((compared.differ, compared.kinds.total()), ([], 90))
         # strokes are seen, and a repair is there to be doubted
         self.assertGreater(len(compared.found), 5)
 
+    @long
     def test_drill(self) -> None:
         self.assertEqual(compare(1, 1).differ, [])
 

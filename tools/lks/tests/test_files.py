@@ -5,15 +5,15 @@ from __future__ import annotations
 import os
 import pathlib
 import resource
-import subprocess
 import tempfile
 import unittest
 from random import Random
 
 from lks import files, hashes, journal, play, script
 from lks.files import Entry, File
+from lks.tests.commands import tool
+from lks.tests.side_by_side import long
 
-AU = play.TOP / "bin/au"
 BLOCK = 16_384
 NAMES = (b"plain %d", b"two  words %d", b"line\nfeed %d", b"\xff\xfe %d", b"a folder\n\xc3/of its own/%d", b"\xe2\x82\xac %d")
 
@@ -62,11 +62,12 @@ class Case(unittest.TestCase):
 
     def au(self, *words: str | bytes) -> tuple[int, str]:
         """The status of `bin/au`, and what it writes, with its faults."""
-        ended = subprocess.run([AU, *words], stdout=subprocess.PIPE, stderr=subprocess.STDOUT, check=False)
-        return ended.returncode, ended.stdout.decode()
+        ended = tool("au", *words)
+        return ended.returncode, ended.stderr + ended.stdout
 
 
 class RoundTrip(Case):
+    @long
     def test_repaired_library(self) -> None:
         wanted = library()
         for path, content in wanted.items():

@@ -17,7 +17,9 @@ from lks import disk, files, journal, message, script
 from lks.fields import PollName
 from lks.journal import Asked, Closed, Committed, Deposit, Ended, Joined, Overdue, PollOpened, RepairBad, Replaced, Shut, VoteIn
 from lks.journal import Limits, Voted
-from lks.tests.test_tools import EXAMPLES, NONCE, tool
+from lks.tests.commands import tool
+from lks.tests.side_by_side import long
+from lks.tests.test_tools import EXAMPLES, NONCE
 from peer import config, links, node, trial
 from peer.daemon import Daemon, Stop
 from peer.door import Door
@@ -253,6 +255,7 @@ class Programs(unittest.IsolatedAsyncioTestCase):
         out, err = await process.communicate(data)
         return process.returncode, out, err
 
+    @long
     async def test_door(self) -> None:
         with folder() as top, mock.patch("builtins.print"):
             path = top / "run/socket"
@@ -269,8 +272,9 @@ class Programs(unittest.IsolatedAsyncioTestCase):
             for data in (b"\0\0", b"\0\0\0\2A", (40_001).to_bytes(4, "big") + bytes(40_001)):
                 ended = await self.send(data, 2, path)
                 self.assertEqual(ended, (2, b"ready\n", b"from: no whole frame of at most 40000 bytes\n"))
-            for words in ((), (2,), ("x", path), (65_536, path), (-1, path)):
-                self.assertEqual(await self.send(b"", *words), (2, b"", b"from: usage: from NUMBER SOCKET\n"))
+            bad = ((), (2,), ("x", path), (65_536, path), (-1, path))
+            for ended in await asyncio.gather(*(self.send(b"", *words) for words in bad)):
+                self.assertEqual(ended, (2, b"", b"from: usage: from NUMBER SOCKET\n"))
             with self.assertRaises(ValueError):
                 await Door([], asyncio.Event(), Log()).listen(path)
             server.close()
@@ -424,6 +428,7 @@ class TwoPeers(unittest.TestCase):
         self.two.set_up(trial.plan(2, trial.GOOD, []), {1: f"{FROM} 2 {self.one.socket}"})
         self.addCleanup(lambda: [it.stop() for it in (self.one, self.two)])
 
+    @long
     def test_repair(self) -> None:
         self.two.start()
         self.one.start()
@@ -437,6 +442,7 @@ class TwoPeers(unittest.TestCase):
         self.assertEqual((gates, gates[-1]), (sorted(gates), found.gate))
         self.assertEqual(len(gates), len(found.batches) - 1)
 
+    @long
     def test_bare_invitations(self) -> None:
         self.one.ticks |= {"expire-bare": 10, "open": 1_000_000}
         self.one.set_up(trial.plan(1, trial.GOOD, []), {})
@@ -453,7 +459,11 @@ class TwoPeers(unittest.TestCase):
             trial.until("all have ended", lambda: len(self.one.events("expire", notes="Ended")) == 4)
             self.assertEqual(self.one.stop(), 0)
 
+    @long
     def test_doubt(self) -> None:
+        # however slow this machine is, its first poll adds the only batch
+        self.one.ticks |= {"open": 1_000_000, "shut": 1_000_000}
+        self.one.set_up(trial.plan(1, trial.DAMAGED, [2]), {})
         self.one.start()
         trial.until("a poll is opened", lambda: self.one.events("open"))
         self.assertEqual(self.one.stop(), 0)

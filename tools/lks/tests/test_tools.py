@@ -3,6 +3,7 @@
 from __future__ import annotations
 
 import subprocess
+import tempfile
 import unittest
 from collections.abc import Callable, Iterable, Sequence
 from typing import Any
@@ -10,6 +11,8 @@ from typing import Any
 from lks import hashes, journal, message, play, report, script
 from lks.fields import PollName, whole
 from lks.tests.at_random import Scripts
+from lks.tests.commands import tool
+from lks.tests.side_by_side import long
 
 # How many scripts of each kind are compared, and what they are made of; bin/check-tools sets both.
 COUNT, SEED = 200, 1
@@ -40,11 +43,6 @@ def judged(data: bytes, read: Callable[[bytes], Any] = script.read) -> tuple[int
     except script.BadLine as bad:
         return bad.number, bad.reason
     return 0, "good"
-
-
-def tool(name: str, *words: object, **more: Any) -> subprocess.CompletedProcess[str]:
-    """A command of bin/ with these words."""
-    return subprocess.run([play.TOP / "bin" / name, *words], capture_output=True, text=True, check=False, **more)
 
 
 class Judging(unittest.TestCase):
@@ -229,8 +227,8 @@ class Runs(unittest.TestCase):
             self.assertEqual([it.outcome for it in run.report.polls], ["agreed"])
         self.assertEqual(*(game.script.text() for game in games))
 
-    def test_drills(self) -> None:
-        for seed in range(1, 21):
+    def check_drills(self, seeds: range) -> None:
+        for seed in seeds:
             run = play.Run(script.drill(seed))
             notes = [note for _, note in run.report.notes()]
             polls, replaced = (sum(note.name == name for note in notes) for name in ("opened", "replaced"))
@@ -239,8 +237,33 @@ class Runs(unittest.TestCase):
             self.assertEqual(line.encode(), play.run("drill", str(seed)).out)
             self.check_run(run)
 
+    @long
+    def test_drills_1_to_5(self) -> None:
+        self.check_drills(range(1, 6))
+
+    @long
+    def test_drills_6_to_10(self) -> None:
+        self.check_drills(range(6, 11))
+
+    @long
+    def test_drills_11_to_15(self) -> None:
+        self.check_drills(range(11, 16))
+
+    @long
+    def test_drills_16_to_20(self) -> None:
+        self.check_drills(range(16, 21))
+
 
 class Commands(unittest.TestCase):
+    def test_starts(self) -> None:
+        """Each starts by itself, and not only in a fork of the tests."""
+        paths = [it for it in (play.TOP / "bin").iterdir() if b"env python3" in it.read_bytes()[:40]]
+        files = {"stdin": subprocess.DEVNULL, "stdout": subprocess.PIPE, "stderr": subprocess.PIPE}
+        started = [subprocess.Popen([it, "--help"], text=True, **files) for it in paths]
+        for path, it in zip(paths, started):
+            out, err = it.communicate()
+            self.assertEqual((it.returncode, err, out.startswith("usage: ")), (0, "", True), path)
+
     def test_why(self) -> None:
         ended = tool("why", EXAMPLES / "bad/line-8-list-with-its-own-peer-alone.lockss")
         self.assertEqual((ended.returncode, ended.stdout), (1, "line 8: `refs 1 1`: peer 1 lists itself\n"))
@@ -270,3 +293,9 @@ class Commands(unittest.TestCase):
         ended = tool("sums", EXAMPLES / "snapshot.lockss")
         warnings = ["poll 2.1 never ended", "1 sessions of peer 2 stayed open"]
         self.assertEqual(ended.stderr, "".join(f"sums: warning: {it}\n" for it in warnings))
+        for count, told in ((4_096, "sums: warning: the history is full: it has 4096 events\n"), (4_095, "")):
+            lines = ["lockss report 1", *(f"{number} tick 1 | - | 0" for number in range(1, count + 1)), f"end {count}", ""]
+            with tempfile.NamedTemporaryFile() as file:
+                file.write("\n".join(lines).encode())
+                file.flush()
+                self.assertEqual(tool("sums", "--report", file.name).stderr, told)

@@ -1,0 +1,151 @@
+"""bin/lockss and bin/proved, over a faked program, a faked kit, and no other command than they use."""
+
+from __future__ import annotations
+
+import os
+import pathlib
+import pty
+import shutil
+import subprocess
+import tempfile
+import time
+import unittest
+
+from lks.play import TOP
+
+COMMANDS = "sh dirname readlink find awk grep cat cp touch".split()
+PROGRAM = '#!/bin/sh\n[ $# -gt 0 ] || exit 2\ncat\necho "words $*"\nexit "${STATUS-0}"\n'
+# It proves two crates and builds the program, or it fails.
+KIT = """#!/bin/sh
+[ "$1" != version ] || { echo kit 1; exit; }
+[ -z "$BROKEN" ] || { echo the proof fails; exit 1; }
+printf 'proved low::lib::f: proved\\nlogic=proved\\nproved lockss::runs::run: proved\\nlogic=proved\\n'
+cp ../../made out/lockss && touch out/lockss.stamp && exec out/lockss
+"""
+FIRST = "lockss: proving and building the program first, 2 crates\n"
+NO_PROGRAM = "lockss: the program isn't built, or a source changed since, and "
+
+
+class Launcher(unittest.TestCase):
+    def setUp(self) -> None:
+        made = tempfile.TemporaryDirectory()
+        self.addCleanup(made.cleanup)
+        self.top = pathlib.Path(made.name).resolve()
+        for name in ("lockss", "proved"):
+            self.put(f"bin/{name}", (TOP / "bin" / name).read_text())
+        for name in COMMANDS:
+            (self.top / "path").mkdir(exist_ok=True)
+            (self.top / "path" / name).symlink_to(shutil.which(name) or name)
+        self.put("path/rt", KIT)
+        self.put("crates.txt", "low:\nlockss may_wait=8: low\nother: low\n")
+        self.put("crates/lockss/src/main.rt", "")
+        self.put("made", PROGRAM)
+        self.program, self.stamp = self.put("crates/lockss/out/lockss", PROGRAM), self.put("crates/lockss/out/lockss.stamp", "")
+
+    def put(self, name: str, text: str) -> pathlib.Path:
+        """A file that anyone may run, older than others."""
+        path = self.top / name
+        path.parent.mkdir(parents=True, exist_ok=True)
+        path.write_text(text)
+        path.chmod(0o755)
+        os.utime(path, (1, 1 + name.endswith(".stamp")))
+        return path
+
+    def run_it(self, *words: object, link: str = "bin/lockss", err: int = -1, **more: str) -> tuple[int, str, str]:
+        """How bin/lockss ends, and what it writes."""
+        given = {"PATH": str(self.top / "path")} | more
+        ended = subprocess.run([self.top / link, *words], input=b"in\n", stdout=-1, stderr=err, env=given, check=False)
+        return ended.returncode, ended.stdout.decode(), (ended.stderr or b"").decode()
+
+    def on_terminal(self, *words: object, **more: str) -> tuple[int, str, list[str]]:
+        """The same with a terminal as standard error."""
+        ours, theirs = pty.openpty()
+        try:
+            status, out, _ = self.run_it(*words, err=theirs, **more)
+            os.write(theirs, b"|")
+            seen = b""
+            while not seen.endswith(b"|"):
+                seen += os.read(ours, 1000)
+            return status, out, seen.decode().removesuffix("|").splitlines()
+        finally:
+            os.close(ours)
+            os.close(theirs)
+
+    def test_words(self) -> None:
+        self.assertEqual(self.run_it("replay", "a b", "", STATUS="9"), (9, "in\nwords replay a b \n", ""))
+        self.assertEqual(self.run_it(), (2, "", ""))
+
+    def test_link(self) -> None:
+        (self.top / "far").mkdir()
+        (self.top / "far/one").symlink_to("../bin/lockss")
+        (self.top / "two").symlink_to(self.top / "far/one")
+        (self.top / "folder").symlink_to("bin")
+        for link in ("far/one", "two", "folder/lockss"):
+            self.assertEqual(self.run_it("replay", link=link), (0, "in\nwords replay\n", ""))
+
+    def test_terminal(self) -> None:
+        for words, told in (("replay", "SCRIPT"), ("evidence", "--journals FILE")):
+            ended = self.on_terminal(words, STATUS="3")
+            self.assertEqual(ended, (3, f"in\nwords {words}\n", [f"lockss: bin/why {told} says why"]))
+        self.assertEqual(self.on_terminal("replay", STATUS="1"), (1, "in\nwords replay\n", []))
+
+    def test_changes(self) -> None:
+        now = time.time()
+        for name in (".main.rt.swp", "main.rt~", "main.swp", "#main.rt#", ".#main.rt", ".cache/main.rt", "../out/x.rt"):
+            os.utime(self.put(f"crates/lockss/src/{name}", ""), (now, now))
+        self.assertEqual(self.run_it("replay", LOCKSS_BUILD="no"), (0, "in\nwords replay\n", ""))
+        for name in ("crates/other/specs/Lib.antt", "crates.txt"):
+            before = (self.top / name).read_text() if name == "crates.txt" else ""
+            os.utime(self.put(name, before), (now, now))
+            self.assertEqual(self.run_it("replay", LOCKSS_BUILD="no"), (70, "", f"{NO_PROGRAM}LOCKSS_BUILD=no\n"))
+            self.put(name, before)
+        self.stamp.rename(self.stamp.with_suffix(".by-rattle"))
+        self.assertEqual(self.run_it("replay", LOCKSS_BUILD="no")[0], 0)
+
+    def test_builds(self) -> None:
+        self.program.unlink()
+        self.assertEqual(self.run_it("replay", BROKEN="1"), (70, "", f"{FIRST}the proof fails\n"))
+        self.assertEqual(self.run_it("replay"), (0, "in\nwords replay\n", FIRST))
+        self.assertEqual(self.run_it("replay"), (0, "in\nwords replay\n", ""))
+        self.program.unlink()
+        proved = [f"lockss: {crate} is proved, crate {place} of 2" for place, crate in enumerate(("low", "lockss"), 1)]
+        self.assertEqual(self.on_terminal("replay"), (0, "in\nwords replay\n", [FIRST.strip(), *proved]))
+
+    def test_no_kit(self) -> None:
+        (self.top / "path/rt").unlink()
+        self.assertEqual(self.run_it("replay"), (0, "in\nwords replay\n", ""))
+        self.program.unlink()
+        self.assertEqual(self.run_it("replay"), (70, "", f"{NO_PROGRAM}`rt` of the kit isn't on the PATH\n"))
+
+    def test_version(self) -> None:
+        self.program.unlink()
+        self.assertEqual(self.run_it("--version"), (0, "lockss no commit, kit 1\n", ""))
+        (self.top / "path/rt").unlink()
+        (self.top / "path/git").symlink_to(shutil.which("git") or "git")
+        # these files are no repository, or are put into one
+        self.assertEqual(self.run_it("--version"), (0, "lockss no commit, no kit on the PATH\n", ""))
+        git = ["git", "-c", "user.name=x", "-c", "user.email=x@x", "-C", self.top]
+        for words in (["init", "-q"], ["add", "crates.txt"], ["commit", "-q", "-m", "x"], ["tag", "v1"]):
+            subprocess.run([*git, *words], check=True)
+        commit = subprocess.run([*git, "rev-parse", "--short", "HEAD"], stdout=-1, check=True).stdout.decode().strip()
+        self.assertEqual(self.run_it("--version"), (0, f"lockss {commit}, no kit on the PATH\n", ""))
+        self.put("crates.txt", "")
+        self.assertEqual(self.run_it("--version"), (0, f"lockss {commit}-dirty, no kit on the PATH\n", ""))
+        (self.top / "below").mkdir()
+        (self.top / "bin").rename(self.top / "below/bin")
+        self.assertEqual(self.run_it("--version", link="below/bin/lockss"), (0, "lockss no commit, no kit on the PATH\n", ""))
+
+    def test_help(self) -> None:
+        self.program.unlink()
+        status, out, err = self.run_it("--help")
+        self.assertEqual((status, err), (0, ""))
+        self.assertLess(len(out.splitlines()), 20)
+        for name in ("replay", "race THREADS", "drill SEED", "journals", "evidence", "70", "LOCKSS_BUILD=no", "docs/FORMATS.md"):
+            self.assertIn(name, out)
+        self.assertIn(f"Read on in {self.top}: ", out)
+
+    def test_syntax(self) -> None:
+        for name in ("lockss", "lks_node", "proved"):
+            subprocess.run(["sh", "-n", TOP / "bin" / name], check=True)
+            if shutil.which("shellcheck"):
+                subprocess.run(["shellcheck", "-s", "sh", TOP / "bin" / name], check=True)
