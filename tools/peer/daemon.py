@@ -15,7 +15,7 @@ from peer.config import Config
 from peer.door import Door
 from peer.follow import Follower
 from peer.links import Link, Pause
-from peer.log import Log
+from peer.log import Log, mark
 from peer.node import MOST_FRAMES, MOST_TICKS, Ended, Node, Reply, status_of
 from peer.schedule import Schedule
 
@@ -93,6 +93,7 @@ class Daemon:
         try:
             await asyncio.to_thread(self.follower.look, self.gate)
             self.log.tick = max(self.log.tick, self.follower.state.tick)
+            self.log("read", bytes=self.follower.gate + 1)
             self._move_clock()
             node = self.node = await Node.start(config.node, config.peer, config.journal, config.script)
             self.told = self.follower.state.tick
@@ -159,17 +160,18 @@ class Daemon:
         self.left, said = None, message.read(data)
         parts = [it.number for it in self.follower.state.sessions if it.poller == peer]
         if isinstance(said, message.Poll) and said.number not in parts and len(parts) >= MOST_PARTS:
-            self.log("dropped", peer=peer, poll=said.number, why="parts")
+            self.log("dropped", peer=peer, poll=said.number, why="parts", mark=mark(data))
             return
         self.left = peer, data
         reply, notes = await self._ask(b"\1" + peer.to_bytes(2, "big") + data)
         self.left, self.is_repeated = None, False
-        self._tell("heard", reply, notes, peer=peer, poll=getattr(said, "number", None), message=type(said).__name__)
+        about = {"poll": getattr(said, "number", None), "message": type(said).__name__, "mark": mark(data)}
+        self._tell("heard", reply, notes, peer=peer, **about)
 
     def _keep(self, status: int) -> None:
         """Keeps the message that the node had when it ended for the next one, once, unless it is at fault itself."""
         if self.left is not None and (self.is_repeated or status in (11, 14)):
-            self.log("dropped", peer=self.left[0], why="no-reply")
+            self.log("dropped", peer=self.left[0], why="no-reply", mark=mark(self.left[1]))
             self.left = None
         self.is_repeated = self.left is not None
 
@@ -189,13 +191,14 @@ class Daemon:
             if to in self.links:
                 self.links[to].put(data)
             else:
-                self.log("dropped", peer=to, why="no-link")
+                self.log("dropped", peer=to, why="no-link", mark=mark(data))
         return reply, notes
 
     def _tell(self, what: str, reply: Reply, notes: list[Record], **about: object) -> None:
         """Lines for the log: what was done, and what an operator is to see of it."""
         names, gate = ([type(it).__name__ for it in notes], self.follower.gate) if notes else (None, None)
-        self.log(what, **about, notes=names, gate=gate, to=[it.to for it in reply.sends] or None)
+        to, marks = [it.to for it in reply.sends] or None, [mark(it.data) for it in reply.sends] or None
+        self.log(what, **about, notes=names, gate=gate, to=to, marks=marks)
         for it in notes:
             if isinstance(it, journal.Replaced):
                 self.log("replaced", poll=it.number, au=it.au, block=it.block)

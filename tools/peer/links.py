@@ -4,11 +4,13 @@ from __future__ import annotations
 
 import asyncio
 import contextlib
+import os
+import signal
 import time
 from collections import deque
 
 from peer import config
-from peer.log import Log
+from peer.log import Log, mark
 from peer.node import frame
 
 # What the other side writes once frames reach its daemon; lines before it, of a login shell perhaps, are passed over.
@@ -42,8 +44,7 @@ class Link:
         self.queue.append(data)
         self.filled.set()
         if len(self.queue) > self.most:
-            self.queue.popleft()
-            self.log("dropped", peer=self.peer, why="queue")
+            self.log("dropped", peer=self.peer, why="queue", mark=mark(self.queue.popleft()))
 
     async def run(self) -> None:
         """Keeps the command running."""
@@ -68,8 +69,10 @@ class Link:
         try:
             await asyncio.wait(tasks[:2], return_when=asyncio.FIRST_COMPLETED)
         finally:
+            # not by `terminate`, which may take the status of one that has just ended from who waits for it
             with contextlib.suppress(ProcessLookupError):
-                process.terminate()
+                if process.returncode is None:
+                    os.kill(process.pid, signal.SIGTERM)
             for task in tasks:
                 task.cancel()
             await asyncio.gather(*tasks, return_exceptions=True)

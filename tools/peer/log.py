@@ -1,11 +1,13 @@
-"""One line an event: `key=value` words, of which the first is the wall time."""
+"""One line an event: `key=value` words, of which the first is the wall time; and such lines read again."""
 
 from __future__ import annotations
 
 import contextlib
+import hashlib
 import json
 import re
 from datetime import UTC, datetime
+from typing import TextIO
 
 
 def word(value: object) -> str:
@@ -14,11 +16,21 @@ def word(value: object) -> str:
     return text if re.fullmatch("[!#-<>-~]+", text) else json.dumps(text)
 
 
-class Log:
-    """Lines on standard output. `tick` is the clock of the peer."""
+def read(line: str) -> dict[str, str]:
+    """The words of a line by their keys; those in quotes keep these."""
+    return dict(re.findall(r'([a-z]+)=("(?:[^"\\]|\\.)*"|\S+)', line))
 
-    def __init__(self) -> None:
-        self.tick = 0
+
+def mark(data: bytes) -> str:
+    """How the bytes of a message are called in the logs of both sides."""
+    return hashlib.sha256(data).hexdigest()[:8]
+
+
+class Log:
+    """Lines on standard output, or in a file. `tick` is the clock of the peer."""
+
+    def __init__(self, file: TextIO | None = None) -> None:
+        self.tick, self.file = 0, file
 
     def __call__(self, what: str, **values: object) -> None:
         """A line of this event. What is None is left out."""
@@ -26,4 +38,5 @@ class Log:
         told = {"time": now, "tick": self.tick, "what": what, **values}
         # a log that nobody reads is no reason to end
         with contextlib.suppress(OSError):
-            print(*(f"{key}={word(value)}" for key, value in told.items() if value is not None), flush=True)
+            words = (f"{key}={word(value)}" for key, value in told.items() if value is not None)
+            print(*words, file=self.file, flush=True)

@@ -2,9 +2,9 @@
 
 from __future__ import annotations
 
+import json
 import os
 import pathlib
-import re
 import signal
 import subprocess
 import sys
@@ -16,6 +16,7 @@ from lks import disk
 from lks.journal import Record
 from lks.play import TOP, Failed
 from lks.script import Script, rules_words
+from peer import log
 
 GOOD = [bytes([place]) * 300 for place in range(4)]
 DAMAGED = [GOOD[0], b"rotten", *GOOD[2:]]
@@ -56,12 +57,13 @@ class Peer:
         self.socket, self.journal, self.told = self.folder / "run/socket", self.folder / "journal", self.folder / "log"
         self.daemon: subprocess.Popen[bytes] | None = None
 
-    def set_up(self, script: str, links: Mapping[int, str]) -> None:
-        """Writes the plan and the config."""
+    def set_up(self, script: str, links: Mapping[int, str], epoch: float | None = None, seconds: float = SECONDS) -> None:
+        """Writes the plan and the config. The epoch is now, where none is said."""
         (self.folder / "plan.lockss").write_text(script)
-        lines = [f"peer = {self.number}", 'plan = "plan.lockss"', 'journal = "journal"', 'socket = "run/socket"']
-        lines += [f'node = "{self.node}"', "[clock]", f"epoch = {datetime.now(UTC).isoformat(timespec='seconds')}"]
-        lines += [f"seconds = {SECONDS}", "[schedule]", *(f"{name} = {it}" for name, it in self.ticks.items())]
+        lines = [f"peer = {self.number}", 'plan = "plan.lockss"', f"journal = {json.dumps(str(self.journal))}"]
+        since = datetime.now(UTC).replace(microsecond=0) if epoch is None else datetime.fromtimestamp(epoch, UTC)
+        lines += ['socket = "run/socket"', f'node = "{self.node}"', "[clock]", f"epoch = {since.isoformat()}"]
+        lines += [f"seconds = {seconds}", "[schedule]", *(f"{name} = {it}" for name, it in self.ticks.items())]
         for peer, command in links.items():
             lines += [f"[links.{peer}]", f"command = '{command}'"]
         (self.folder / "peer.toml").write_text("\n".join(lines) + "\n")
@@ -81,8 +83,7 @@ class Peer:
 
     def log(self) -> list[dict[str, str]]:
         """The events that its daemon told."""
-        lines = self.told.read_text().splitlines() if self.told.exists() else []
-        return [dict(re.findall(r'([a-z]+)=("(?:[^"\\]|\\.)*"|\S+)', line)) for line in lines]
+        return [log.read(line) for line in (self.told.read_text().splitlines() if self.told.exists() else [])]
 
     def events(self, what: str, **values: object) -> list[dict[str, str]]:
         """Those of this name with these values."""
