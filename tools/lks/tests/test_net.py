@@ -16,7 +16,8 @@ from unittest import mock
 
 from lks import disk, files, hashes, journal, message, play, report, script
 from lks.journal import Closed, Deposit, Limits, PollOpened, Replaced, Shut, VoteIn
-from lks.tests.test_tools import EXAMPLES, NONCE, SCRIPTS, tool
+from lks.tests.commands import tool
+from lks.tests.test_tools import EXAMPLES, NONCE, SCRIPTS
 from net import chaos, doctor, judging, peers, running
 from net.liars import NAMES, Liars
 from net.scenes import own_plan, published, same_files, scene
@@ -287,8 +288,9 @@ class Doing(unittest.TestCase):
                 (("check-net", "--files", "/nowhere"), "[Errno 2] No such file or directory: b'/nowhere/'"),
                 (("check-net", "--corrupt", "8"), "2 damaged and 8 corrupt ones of 8 peers can't be"),
             ):
-                with self.subTest(said):
-                    ended = tool(*words, env={"PATH": "/usr/bin:/bin", "LKS_NODE": "/bin/true"})
+                given = {"PATH": "/usr/bin:/bin", "LKS_NODE": "/bin/true"}
+                with self.subTest(said), mock.patch.dict(os.environ, given):
+                    ended = tool(*words)
                     self.assertEqual((ended.returncode, ended.stderr), (2, f"{words[0]}: {said}\n"))
             with self.assertRaisesRegex(ValueError, "isn't empty"):
                 self.net(top / "net")
