@@ -4,4 +4,5 @@ pub mod Gathering
 pub mod Holding
 pub mod Moves
 pub mod Orders
+pub mod Piling
 pub mod Seating

@@ -1,8 +1,8 @@
 -- Jobs that are hashed side by side.
-use Rattle.std.specs.Prelude.{◌≡◌, ℕ, List, All, map, Result, IfOk}
-use Rattle.lks_base.specs.declared.memory.OutOfMemory.{OutOfMemory}
+use Rattle.std.specs.Prelude.{◌≡◌, ℕ, List, All, map}
 use Rattle.lks_blocks.specs.Block.{AllOf}
 use Rattle.lks_farm.specs.Entries.{asked_of, job_of}
+use Rattle.lks_farm.specs.Entries.{refs_of as asked_refs}
 use Rattle.lks_farm.specs.declared.entries.Asked.{Asked}
 use Rattle.lks_work.specs.Names.{refs_of, refs_done}
 use Rattle.lks_work.specs.declared.jobs.Job.{Job}
@@ -24,6 +24,6 @@ asked_done d = asked_of (job_of d)
 unfoldable pub AreDone : List Job → List JobDone → Type 0
 AreDone jobs done = map asked_done done ≡ map asked_of jobs
 
--- the same of a share of jobs, unless memory was missing
-abbrev pub IsHashed : List Job → Result (List JobDone) OutOfMemory → Type 0
-IsHashed share r = IfOk r (AreDone share)
+-- what is asked for is over blocks of this pool
+abbrev pub EachAskedIsOf : List ℕ → List Asked → Type 0
+EachAskedIsOf pool asked = All (λ a. AllOf pool (asked_refs a)) asked

@@ -1,5 +1,6 @@
 pub mod Batches
 pub mod Entries
 pub mod Ends
+pub mod Piles
 pub mod Seats
 pub mod Sharing

@@ -1,22 +1,23 @@
 //! Jobs that are hashed side by side and come back together.
 
-ghost use Rattle.std.specs.Prelude.{◌≡◌, All, List, IfOk};
-ghost use Rattle.std.specs.List.{flat_map, AllZip};
+ghost use Rattle.std.specs.Prelude.{◌≡◌, IfOk, map};
 ghost use Rattle.lks_blocks.specs.Block.{AllOf};
-ghost use Rattle.lks_farm.specs.Batches.{asked_done, AreDone, AreDoneOf, AreOf, IsHashed};
+ghost use Rattle.lks_farm.specs.Batches.{asked_done, AreDone, AreDoneOf, AreOf, EachAskedIsOf};
 ghost use Rattle.lks_farm.specs.Entries.{asked_of};
 ghost use Rattle.lks_hash.specs.Counting.{Opens};
 ghost use Rattle.lks_work.specs.Names.{refs_done, refs_of};
 
-use lks_base::{OutOfMemory, Seq};
+use crate::piles::{Batch, Pile};
+use lks_base::OutOfMemory;
 use lks_blocks::{BlockPool, BlockRef};
 use lks_hash::Steps;
 use lks_work::{Gate, Job, JobDone, TallyDone, TallyJob, hash_tally, hash_vote};
 use std::alloc::Global;
 use std::marker::Brand;
 use std::sync::ledger::{Blank, Ledger};
+use std::sync::{Mutex, Wait};
+use std::thread;
 use std::thread::Threads;
-use std::{mem, thread};
 
 /// From how many bytes on a batch is hashed by several threads: below, starting them takes longer than they save.
 pub const SHARED_BYTES: u64 = 262144;
@@ -57,52 +58,18 @@ fn weight_of_all(pool: &BlockPool, jobs: &[Job]) -> u64
     bytes
 }
 
-/// How many bytes a share has, so that there is one for each thread that can run: at least two wherever there are two jobs and
-/// enough to hash.
-fn share_of<R: Threads>(rt: &R, pool: &BlockPool, jobs: &[Job]) -> u64
+/// On how many threads these jobs are hashed: on the one that is there where there is but one job, or little to hash, else on as
+/// many as can run, at least two.
+fn threads_for<R: Threads>(rt: &R, pool: &BlockPool, jobs: &[Job]) -> usize
     requires { AreOf pool.now jobs.now }
 {
-    if jobs.len() < 2 {
-        return u64::MAX;
+    if jobs.len() < 2 || weight_of_all(pool, jobs) < SHARED_BYTES {
+        return 1;
     }
-    let bytes = weight_of_all(pool, jobs);
-    if bytes < SHARED_BYTES {
-        return u64::MAX;
-    }
-    let threads = match thread::available_parallelism(rt) {
-        Ok(count) => count.get().max(2) as u64,
+    match thread::available_parallelism(rt) {
+        Ok(count) => count.get().max(2).min(jobs.len()),
         Err(_) => 2,
-    };
-    bytes.div_ceil(threads)
-}
-
-/// Deals jobs, in their order, to shares of about so many bytes.
-fn deal(
-    alloc: Global,
-    pool: &BlockPool,
-    jobs: Vec<Job>,
-    most: u64,
-) -> Result<Vec<Seq<Job>>, OutOfMemory>
-    requires { AreOf pool.now jobs.items }
-    ensures all { IfOk result (λ shares. flat_map (λ s. s) shares.items ≡ jobs.items) }
-    ensures of { IfOk result (λ shares. All (AreOf pool.now) shares.items) }
-{
-    let mut shares = Vec::new(alloc);
-    let mut share = Vec::new(alloc);
-    let mut bytes: u64 = 0;
-    for job in jobs {
-        bytes = bytes.saturating_add(weight(pool, &job));
-        share.push(job)?;
-        if bytes >= most {
-            let full = mem::replace(&mut share, Vec::new(alloc));
-            shares.push(Seq::from_vec(full))?;
-            bytes = 0;
-        }
     }
-    if !share.is_empty() {
-        shares.push(Seq::from_vec(share))?;
-    }
-    Ok(shares)
 }
 
 fn hash_votes<L: Ledger>(pool: &BlockPool, job: TallyJob, blank: Blank) -> TallyDone
@@ -136,60 +103,71 @@ pub fn hash_job<G: Gate>(
     }
 }
 
-/// Hashes the jobs of a share, one after another.
-fn hash_share<G: Gate>(
+/// Hashes jobs one after another.
+fn hash_in_order<G: Gate>(
     alloc: Global,
     pool: &BlockPool,
     gate: &G,
-    share: Seq<Job>,
-) -> Result<Seq<JobDone>, OutOfMemory>
-    requires { AreOf pool.now share }
-    ensures { IfOk result (AreDone share) }
+    jobs: Vec<Job>,
+) -> Result<Vec<JobDone>, OutOfMemory>
+    requires { AreOf pool.now jobs.items }
+    ensures { IfOk result (λ done. AreDone jobs.items done.items) }
 {
     let mut done = Vec::new(alloc);
-    for job in share.into_vec() {
+    for job in jobs {
         done.push(hash_job(alloc, pool, gate, job)?)?;
     }
-    Ok(Seq::from_vec(done))
+    Ok(done)
 }
 
-/// The results of all shares, one share after another.
-fn gather(
-    alloc: Global,
-    shares: Vec<Result<Seq<JobDone>, OutOfMemory>>,
-) -> Result<Vec<JobDone>, OutOfMemory>
-    ensures { (jobs : List (List _)) → AllZip IsHashed jobs shares.items → IfOk result (λ done. AreDone (flat_map (λ s. s) jobs) done.items) }
-{
-    let mut all = Vec::new(alloc);
-    for share in shares {
-        let mut done = share?.into_vec();
-        all.append(&mut done)?;
-    }
-    Ok(all)
-}
-
-/// Hashes shares side by side, each on a thread of its own where one can be started.
-fn hash_shares<R: Threads + Sync, G: Gate>(
+/// Takes jobs from the pile and hashes them until none is left, or memory is missing for one.
+fn hash_from<N: Batch, G: Gate, R: Wait>(
     alloc: Global,
     rt: &R,
     pool: &BlockPool,
     gate: &G,
-    shares: Vec<Seq<Job>>,
-) -> Result<Vec<Result<Seq<JobDone>, OutOfMemory>>, OutOfMemory>
-    requires { All (AreOf pool.now) shares.items }
-    ensures { IfOk result (λ results. AllZip IsHashed shares.items results.items) }
+    pile: &Mutex<Pile<N>>,
+)
+    requires { EachAskedIsOf pool.now N.asked }
 {
-    let hash = |share: Seq<Job>| -> Result<Seq<JobDone>, OutOfMemory>
-        requires { AreOf pool.now share }
-        ensures { IsHashed share result }
-    { hash_share(alloc, pool, gate, share) };
-    Ok(thread::map_vec(rt, shares, &hash)?)
+    for _ in rt.forever() {
+        let taken = pile.lock(rt).take();
+        let Some((place, job)) = taken else {
+            return;
+        };
+        let Ok(done) = hash_job(alloc, pool, gate, job) else {
+            return;
+        };
+        pile.lock(rt).put(place, done);
+    }
+    unreachable!()
+}
+
+/// Hashes jobs on so many threads, each of which takes the next job whenever it has hashed one.
+fn hash_side_by_side<N: Batch + Send + Sync, G: Gate, R: Threads + Wait + Sync>(
+    alloc: Global,
+    rt: &R,
+    pool: &BlockPool,
+    gate: &G,
+    jobs: Vec<Job>,
+    threads: usize,
+) -> Result<Vec<JobDone>, OutOfMemory>
+    requires of { EachAskedIsOf pool.now N.asked }
+    requires batch { map asked_of jobs.items ≡ N.asked }
+    ensures { IfOk result (λ done. map asked_done done.items ≡ N.asked) }
+{
+    let pile = Mutex::new(Pile::<N>::new(alloc, jobs)?);
+    let hash = |_: usize|
+        requires { EachAskedIsOf pool.now N.asked }
+    { hash_from(alloc, rt, pool, gate, &pile) };
+    let _ended = thread::map_indices(rt, alloc, threads, &hash)?;
+    pile.into_inner().into_results(alloc)
 }
 
 /// Hashes these jobs, each once the gate let it begin, and gives the results in the order of the jobs. Several threads hash them
-/// where there is enough to do, each of them a share of about as many bytes; where one can't be started, the thread that is there
-/// hashes its share. For want of memory the jobs are dropped.
-pub fn hash_batch<R: Threads + Sync, G: Gate>(
+/// where there is enough to do, each the next job whenever it has hashed one; where one can't be started, those that are there do
+/// its part. For want of memory the jobs are dropped.
+pub fn hash_batch<R: Threads + Wait + Sync, G: Gate>(
     alloc: Global,
     rt: &R,
     pool: &BlockPool,
@@ -200,8 +178,10 @@ pub fn hash_batch<R: Threads + Sync, G: Gate>(
     ensures done { IfOk result (λ done. AreDone jobs.items done.items) }
     ensures of { IfOk result (λ done. AreDoneOf pool.now done.items) }
 {
-    let most = share_of(rt, pool, &jobs);
-    let shares = deal(alloc, pool, jobs, most)?;
-    let results = hash_shares(alloc, rt, pool, gate, shares)?;
-    gather(alloc, results)
+    let threads = threads_for(rt, pool, &jobs);
+    if threads < 2 {
+        hash_in_order(alloc, pool, gate, jobs)
+    } else {
+        hash_side_by_side::<Brand, G, R>(alloc, rt, pool, gate, jobs, threads)
+    }
 }

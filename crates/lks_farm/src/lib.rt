@@ -21,6 +21,7 @@ mod batches;
 mod entries;
 mod farms;
 mod jobs;
+mod piles;
 mod queues;
 mod rule;
 mod seats;

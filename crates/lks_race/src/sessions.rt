@@ -4,6 +4,7 @@ ghost use Rattle.std.specs.Prelude.{◌≡◌, IfSome, IsTrue, None, Some};
 ghost use Rattle.lks_blocks.specs.Block.{AllOf};
 ghost use Rattle.lks_farm.specs.Batches.{asked_done};
 ghost use Rattle.lks_farm.specs.Entries.{asked_of, entry_done};
+ghost use Rattle.lks_race.specs.Racing.{IsJobOf};
 ghost use Rattle.lks_work.specs.Names.{refs_done, refs_of};
 
 use crate::locked::Locked;
@@ -24,6 +25,19 @@ use std::thread;
 pub fn tell<G: Gate>(gate: &G, entry: Option<Entry>) {
     if let Some(entry) = entry {
         gate.told(&entry);
+    }
+}
+
+/// Asks the world for what is due, unless another thread is at it: waiting for the lock would hash nothing.
+fn meet<'a, N: Naming, D: CrashDisk + Drop, J: EffortJudge, B: Bell, R: Wait>(
+    rt: &R,
+    locked: &Mutex<Locked<'a, N, D, J, B>>,
+) -> Met
+    ensures { IsJobOf N.begin.pool result }
+{
+    match locked.try_lock() {
+        Some(mut world) => world.meet(rt),
+        None => Met::Out,
     }
 }
 
@@ -180,7 +194,8 @@ fn work<'a, N: Naming, D: CrashDisk + Drop, J: EffortJudge, B: Bell, G: Gate, R:
     }
 }
 
-/// Asks the world for what is due and does it: offers a job, and where all jobs are out helps with them. Whether the race goes on.
+/// Asks the world for what is due and does it: offers a job, and where all jobs are out, or another thread asks, helps with them.
+/// Whether the race goes on.
 fn turn<'a, N: Naming, D: CrashDisk + Drop, J: EffortJudge, B: Bell, G: Gate, R: Wait>(
     rt: &R,
     alloc: Global,
@@ -197,8 +212,7 @@ fn turn<'a, N: Naming, D: CrashDisk + Drop, J: EffortJudge, B: Bell, G: Gate, R:
     ensures badge { seat.new.badge ≡ seat.old.badge }
     ensures free { IsTrue result → seat.new.held ≡ None }
 {
-    let met = locked.lock(rt).meet(rt);
-    match met {
+    match meet(rt, locked) {
         Met::On(entry) => {
             tell(gate, entry);
             true

@@ -20,7 +20,7 @@ pub enum Met {
     On(Option<Entry>),
     /// A job to be hashed.
     Work(Job),
-    /// All that is due is work whose jobs are out.
+    /// For now there is nothing to do but to hash: all that is due is work whose jobs are out, or another thread is at the world.
     Out,
     /// It takes no further step.
     End,

@@ -16,6 +16,7 @@ use lks_farm::hash_batch;
 use lks_host::Host;
 use lks_work::{Gate, Job, JobDone, JobName};
 use std::alloc::Global;
+use std::sync::Wait;
 use std::thread::Threads;
 
 /// The job of this step, if it is work.
@@ -140,7 +141,7 @@ fn gather<D: Disk>(
 }
 
 /// Hashes all ready work that has no result, and puts the results beside.
-fn hash_ready<R: Threads + Sync, D: Disk, G: Gate>(
+fn hash_ready<R: Threads + Wait + Sync, D: Disk, G: Gate>(
     alloc: Global,
     rt: &R,
     pool: &BlockPool,
@@ -185,7 +186,7 @@ fn take_fresh<D: Disk>(
 
 /// The result of what is due, if it is work: the one that waits, or else one that is made now, together with those of all
 /// other ready work that has none.
-pub fn result_for<R: Threads + Sync, D: CrashDisk, G: Gate>(
+pub fn result_for<R: Threads + Wait + Sync, D: CrashDisk, G: Gate>(
     alloc: Global,
     rt: &R,
     gate: &G,

@@ -3,10 +3,10 @@ use Rattle.std.proofs.lemmas.List.Elements.{All-rest}
 use Rattle.lks_blocks.specs.Block.{AllOf}
 use Rattle.lks_farm.proofs.Batching.{all_done, one_done}
 use Rattle.lks_work.specs.Names.{refs_of}
-use Rattle.lks_farm.proofs.batches.hash_share.Goals as goal
+use Rattle.lks_farm.proofs.batches.hash_in_order.Goals as goal
 
 pub loop-job-init : goal.loop-job-init
-loop-job-init g c = let given = c.into_iter-job-iterator.ensures.into_iter_gives.0 in rw (given, c.into_vec-job-items.ensures, c.new-done.ensures.items) (tt, tt, refl, c.requires)
+loop-job-init g c = let given = c.into_iter-job-iterator.ensures.into_iter_gives.0 in rw (given, c.new-done.ensures.items) (tt, tt, refl, c.requires)
 
 pub loop-job-preserved : goal.loop-job-preserved
 loop-job-preserved g c =
@@ -21,4 +21,4 @@ loop-job-preserved g c =
 pub returns : goal.returns
 returns g c =
     let none : length c.loop-job.job-iterator.rest.items ≡ 0 = search rules in
-    rw c.from_vec.ensures (all_done c.args.share c.loop-job.done.items c.loop-job.job-iterator.rest.items none c.loop-job.invariant.2)
+    all_done c.args.jobs.items c.loop-job.done.items c.loop-job.job-iterator.rest.items none c.loop-job.invariant.2
