@@ -12,18 +12,36 @@
 //! with the copy up to the first repaired block are hashed once for both. Another poll begins anew, with the copy where it is
 //! on the same AU; where its number is above those of all polls before the last repaired block, it is read from there on.
 //!
-//! ```rust
-//! use lks_base::{OutOfMemory, Plan};
-//! use lks_evidence::{Finding, Shelf, examine};
-//! use std::alloc::Global;
+//! A set that is examined:
 //!
-//! fn is_evidenced(alloc: Global, plan: &Plan, set: &[Shelf]) -> Result<bool, OutOfMemory>
-//!     requires { IsSmall set.now }
-//!     ensures { IfOk result (λ yes. IsTrue yes ↔ SetHolds plan.now set.now) }
-//! {
-//!     Ok(matches!(examine(alloc, plan, set)?, Finding::Yes { .. }))
-//! }
+//! ```rust
+//! let alloc = rt.alloc();
+//! let plan = plan_of(alloc)?;
+//! let first = Bytes::from_vec(b"A".to_vec(alloc)?);
+//! let second = Bytes::from_vec(b"B".to_vec(alloc)?);
+//! let blocks = Seq::from_vec(vec![in alloc; first, second]?);
+//! let bytes = Bytes::from_vec(b"C".to_vec(alloc)?);
+//! let deposit = Record::Deposit { au: 1, blocks };
+//! // A replaced block with no poll behind it.
+//! let replaced = Record::Replaced {
+//!     number: 1,
+//!     au: 1,
+//!     block: 1,
+//!     bytes,
+//! };
+//! let list = vec![in alloc; deposit, replaced]?;
+//! let set = vec![in alloc; Shelf { peer: 1, list }]?;
+//! let doubt = Doubt {
+//!     peer: 1,
+//!     place: 1,
+//!     why: Why::Poll,
+//! };
+//! assert_eq!(rt; examine(alloc, &plan, &set)?, Finding::No(doubt));
+//! Ok(())
 //! ```
+//!
+//! These are the lines of the test `a_set_that_is_examined` (`lks_peer_trials`). Its `plan_of` reads a plan by
+//! `read_script` (`lks_script`).
 #![tactic(auto)]
 
 mod copies;

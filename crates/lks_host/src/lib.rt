@@ -2,6 +2,26 @@
 //!
 //! Each reaction's records become one batch, which is appended to the journal and synced before the
 //! reaction is handed out. A reaction without records makes no call of the disk.
+//!
+//! A host over a disk:
+//!
+//! ```rust
+//! let alloc = rt.alloc();
+//! let plan = plan_of(alloc)?;
+//! let pool = BlockPool::new(alloc)?;
+//! let disk = MemDisk::new(alloc, Vec::new(alloc));
+//! let mut host = Host::create(alloc, &rt, &pool, &plan, 1, disk).map_err(|e| e.1)?;
+//! // The opening is on the disk before the invitations are handed out.
+//! let opened = host.step(&rt, &pool, 5, &Input::OpenPoll { au: 1 })?;
+//! assert_eq!(rt; opened.sends.as_slice().len(), 3);
+//! // The journal on the disk has two batches: the deposit, and the opening.
+//! let (_journal, batches) = Journal::reopen(alloc, host.into_disk()).map_err(|e| e.1)?;
+//! assert_eq!(rt; batches.len(), 2);
+//! Ok(())
+//! ```
+//!
+//! These are the lines of the test `a_host_over_a_disk` (`lks_peer_trials`). Its `plan_of` reads a plan by
+//! `read_script` (`lks_script`).
 #![tactic(auto)]
 
 mod answering;

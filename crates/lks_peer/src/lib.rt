@@ -1,4 +1,27 @@
 //! A peer: what it adds to its journal and sends, whatever it does or receives.
+//!
+//! A peer that is told things:
+//!
+//! ```rust
+//! let alloc = rt.alloc();
+//! let plan = plan_of(alloc)?;
+//! let pool = BlockPool::new(alloc)?;
+//! let (mut peer, _deposits) = begin_peer(alloc, &rt, &pool, &plan, 1)?;
+//! // At tick 5 it is told to open a poll on AU 1, and invites three peers.
+//! let opened = peer.step(&rt, &pool, 5, &Input::OpenPoll { au: 1 })?;
+//! assert_eq!(rt; opened.sends.as_slice().len(), 3);
+//! // At tick 6 it gets an invitation of peer 2 to its poll 7 on AU 1, and joins it.
+//! let invitation = b"\x01\x01\0\0\0\x07\0\x01";
+//! let Some(told) = receive_judged(alloc, 2, invitation, Judged::NotAsked)? else {
+//!     return Err("no message".into());
+//! };
+//! let joined = peer.step(&rt, &pool, 6, &told)?;
+//! assert_eq!(rt; joined.records.as_slice().len(), 1);
+//! Ok(())
+//! ```
+//!
+//! These are the lines of the test `a_peer_that_is_told_things` (`lks_peer_trials`). Its `plan_of` reads a plan by
+//! `read_script` (`lks_script`).
 #![tactic(auto)]
 
 mod faults;
