@@ -10,7 +10,7 @@ from dataclasses import dataclass
 from lks import disk
 from lks.disk import Disk
 from lks.journal import PollOpened, Record, Replaced, VoteIn, of_kind
-from lks.script import BEHIND, MOST_BYTES, STEP_LINES, Plan, Script, read_lines
+from lks.script import BEHIND, MOST_BYTES, STEP_LINES, Plan, Script, judge_lines
 
 # No rule of evidence asks what a plan's copies are: how many blocks an AU has stands in its own line. They would take most of
 # the room.
@@ -42,7 +42,7 @@ class Folder:
 def plan_of(data: bytes) -> tuple[Plan, str]:
     """The plan of a script, and its lines as an input has them."""
     script = Script()
-    read_lines(script, data)
+    judge_lines(data, script.add_line)
     script.end()
     return script.plan, "".join(f"{line}\n" for line in script.lines if line.split(" ")[0] in KEPT_LINES)
 

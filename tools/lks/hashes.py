@@ -30,6 +30,10 @@ def key(kind: str, poller: int, number: int, poll_nonce: bytes, voter: int, au: 
     return digest(kind, b"LOCKSS/1" + poll + struct.pack(">HHH", voter, au, count))
 
 
+# Of equal blocks the same one, so that votes that are kept share them.
+_same: Callable[[bytes], bytes] = lru_cache(2048)(lambda block: block)
+
+
 @lru_cache(1024)
 def _vote(kind: str, vote_key: bytes, blocks: tuple[bytes, ...]) -> tuple[bytes, ...]:
     hash_of = KINDS[kind]
@@ -39,7 +43,7 @@ def _vote(kind: str, vote_key: bytes, blocks: tuple[bytes, ...]) -> tuple[bytes,
 
 def vote(kind: str, vote_key: bytes, blocks: Iterable[bytes]) -> tuple[bytes, ...]:
     """The running hashes of these blocks, one for each. The last votes are kept: who looks at a run asks for one often."""
-    return _vote(kind, vote_key, tuple(blocks))
+    return _vote(kind, vote_key, tuple(map(_same, blocks)))
 
 
 def _quarter_round(x: list[int], a: int, b: int, c: int, d: int) -> None:

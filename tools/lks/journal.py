@@ -10,7 +10,7 @@ from typing import Any, NamedTuple
 from lks.fields import BE16, BE32, BLOCK, HASH, HASHES, INDEX, KIND, NOMINEES, POLL, YES_OR_NO
 from lks.fields import BadBytes, Family, Field, Source, group, listed, number, sized, whole
 from lks.hashes import Draws, key, vote
-from lks.script import LAST_ID, MOST_BYTES, BadLine, Broken, Peer, Plan, Script, is_idle, must, read_lines
+from lks.script import LAST_ID, MOST_BYTES, Broken, Peer, Plan, Script, is_idle, judge_lines, must
 from lks.script import number as decimal
 
 OPEN, CLOSED = b"\xa5", b"\0"
@@ -63,8 +63,6 @@ Voted = RECORDS.kind(14, "Voted", poll=POLL, hashes=HASHES)
 Served = RECORDS.kind(15, "Served", poll=POLL, block=INDEX)
 Ended = RECORDS.kind(16, "Ended", poll=POLL)
 Tuned = RECORDS.kind(17, "Tuned", first_form=2, limits=LIMITS, repairs=REPAIRS)
-
-
 BATCH = listed(number(2, least=1), Field(RECORDS.read, RECORDS.write))
 BODY = sized(number(4))
 Batch = tuple[Record, ...]
@@ -98,18 +96,20 @@ class Journals:
         """The records of a peer, in order; none where its journal isn't there."""
         return [record for batch in self.batches.get(peer, []) for record in batch]
 
-
-def _read_journal(plan: Plan, known: Iterable[int], line: str) -> tuple[int, list[Batch]]:
-    words = line.split(" ")
-    must(len(words) == 3 and words[0] == "journal", "a line here is `journal`, a peer and hex")
-    peer = decimal("peer", 0, LAST_ID)(plan, words[1])
-    must(peer in plan.peers and plan.peers[peer].honest, "no such honest peer")
-    must(peer not in known, f"peer {peer} has its journal already")
-    must(re.fullmatch("[0-9A-Fa-f]*", words[2]) is not None and len(words[2]) % 2 == 0, "no hex of whole bytes")
-    try:
-        return peer, read_frames(bytes.fromhex(words[2]))
-    except BadBytes as fault:
-        raise Broken(f"no journal: {fault}") from None
+    def add_line(self, line: str) -> None:
+        """Adds the journal that a line says, or breaks a rule."""
+        if is_idle(line):
+            return
+        plan, words = self.script.plan, line.split(" ")
+        must(len(words) == 3 and words[0] == "journal", "a line here is `journal`, a peer and hex")
+        peer = decimal("peer", 0, LAST_ID)(plan, words[1])
+        must(peer in plan.peers and plan.peers[peer].honest, "no such honest peer")
+        must(peer not in self.batches, f"peer {peer} has its journal already")
+        must(re.fullmatch("[0-9A-Fa-f]*", words[2]) is not None and len(words[2]) % 2 == 0, "no hex of whole bytes")
+        try:
+            self.batches[peer] = read_frames(bytes.fromhex(words[2]))
+        except BadBytes as fault:
+            raise Broken(f"no journal: {fault}") from None
 
 
 def read(data: bytes, most: int = MOST_BYTES) -> Journals:
@@ -119,20 +119,10 @@ def read(data: bytes, most: int = MOST_BYTES) -> Journals:
         raise ValueError(f"more than {most} bytes")
     at = 0 if data.startswith(b"journal ") else data.find(b"\njournal ") + 1 or len(data)
     script = Script()
-    read_lines(script, data[:at])
+    judge_lines(data[:at], script.add_line)
     script.end()
-    found, number_before = Journals(script), len(script.lines)
-    *lines, last = data[at:].decode("latin-1").split("\n")
-    for place, line in enumerate(lines, number_before + 1):
-        if is_idle(line):
-            continue
-        try:
-            peer, batches = _read_journal(script.plan, found.batches, line)
-        except Broken as rule:
-            raise BadLine(place, line, str(rule)) from None
-        found.batches[peer] = batches
-    if last:
-        raise BadLine(number_before + len(lines) + 1, last, "no line feed at the end of the file")
+    found = Journals(script)
+    judge_lines(data[at:], found.add_line, len(script.lines))
     return found
 
 

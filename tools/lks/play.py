@@ -6,7 +6,7 @@ import functools
 import pathlib
 import subprocess
 from collections.abc import Iterable, Sequence
-from dataclasses import dataclass, replace
+from dataclasses import replace
 from typing import NamedTuple, Protocol
 
 from lks import journal, message, report
@@ -59,19 +59,12 @@ class Run:
 
 # A message that a peer of a strategy received, or its bytes where they spell none.
 Received = NamedTuple("Received", [("sender", int), ("receiver", int), ("message", message.Message)])
-
-
-@dataclass(frozen=True)
-class Told:
-    """What a strategy is told: the clock, the plan with its own peers alone, and what these received since it was last told."""
-
-    tick: int
-    own: Plan
-    received: tuple[Received, ...]
+# What a strategy is told: the clock, the plan with its own peers alone, and what these received since it was last told.
+Told = NamedTuple("Told", [("tick", int), ("own", Plan), ("received", tuple[Received, ...])])
 
 
 class Strategy(Protocol):
-    """Who moves corrupt peers, as `Forger` in tests/test_tools.py. It is to answer the same whenever it is told the same."""
+    """Who moves corrupt peers, as those of `lks.strategies`. It is to answer the same whenever it is told the same."""
 
     def act(self, what: Told) -> Iterable[Sequence[Word]]:
         """The words of `say` and `forge` lines that its peers send now."""

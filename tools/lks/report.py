@@ -11,33 +11,17 @@ from typing import NamedTuple
 from lks.fields import PollName
 
 # What the words behind the name of an event are. `peer` is the one whose event it is.
-EVENTS = {
-    "open": "peer au",
-    **dict.fromkeys(("outer", "shut", "tally", "nudge", "give-up"), "peer number"),
-    **dict.fromkeys(("work", "expire"), "peer poller number"),
-    **dict.fromkeys(("check", "crash"), "peer"),
-    "tune": "peer quorum minority repairs",
-    "tick": "ticks",
-    "lose": "message",
-    "deliver": "message sender peer",
-    "forge": "peer receiver length",
-}
+EVENTS = {"open": "peer au", "tune": "peer quorum minority repairs", "tick": "ticks"}
+EVENTS |= {"lose": "message", "deliver": "message sender peer", "forge": "peer receiver length"}
+EVENTS |= dict.fromkeys(("outer", "shut", "tally", "nudge", "give-up"), "peer number")
+EVENTS |= dict.fromkeys(("work", "expire"), "peer poller number") | dict.fromkeys(("check", "crash"), "peer")
 # The same of notes. Those with a poller are of polls of others.
-NOTES = {
-    "opened": "number au",
-    "shut": "number",
-    "closed": "number outcome",
-    **dict.fromkeys(("vote-in", "nominated"), "number voter"),
-    **dict.fromkeys(("asked", "repair-bad"), "number block voter"),
-    "replaced": "number au block length",
-    "outer": "number count",
-    "overdue": "au",
-    "joined": "poller number au grade",
-    "committed": "poller number version",
-    **dict.fromkeys(("voted", "ended"), "poller number"),
-    "served": "poller number block",
-    "tuned": "quorum minority repairs",
-}
+NOTES = {"opened": "number au", "shut": "number", "closed": "number outcome", "outer": "number count", "overdue": "au"}
+NOTES |= {"replaced": "number au block length", "tuned": "quorum minority repairs"}
+NOTES |= dict.fromkeys(("vote-in", "nominated"), "number voter")
+NOTES |= dict.fromkeys(("asked", "repair-bad"), "number block voter")
+NOTES |= {"joined": "poller number au grade", "committed": "poller number version", "served": "poller number block"}
+NOTES |= dict.fromkeys(("voted", "ended"), "poller number")
 # Words that are no numbers.
 OUTCOME = "agreed|inquorate|(?:split|no-supplier)-[0-9]+"
 WORDS = {"outcome": OUTCOME, "grade": "low|high"}

@@ -3,6 +3,7 @@
 from __future__ import annotations
 
 import re
+from collections import Counter
 from collections.abc import Callable, Sequence
 from dataclasses import dataclass, field
 from typing import Any, NamedTuple
@@ -67,6 +68,12 @@ class Plan:
     def honest(self) -> list[Peer]:
         """Its honest peers, in order."""
         return [peer for peer in self.peers.values() if peer.honest]
+
+    def published(self, au: int, holder: int | None = None) -> tuple[bytes, ...]:
+        """An AU as it was published, if it is held: at each place the block that most honest copies have, at a tie the
+        first of them; or that of one holder."""
+        copies = [it.copies[au] for it in self.honest() if au in it.copies and holder in (None, it.id)]
+        return tuple(Counter(blocks).most_common(1)[0][0] for blocks in zip(*copies))
 
 
 # A step line: the word that names it, and the values of those behind it.
@@ -148,52 +155,36 @@ def blocks(plan: Plan, word: str) -> list[bytes]:
 
 
 PEER, HONEST, CORRUPT = declared(), declared("honest"), declared("corrupt")
-OWN_STEPS: dict[str, tuple[Reader, ...]] = {
-    "open": (HONEST, au_id),
-    **dict.fromkeys(("outer", "shut", "tally", "nudge", "give-up"), (HONEST, POLL)),
-    **dict.fromkeys(("work", "expire"), (HONEST, PEER, POLL)),
-    "check": (HONEST,),
-    "tune": (HONEST, number("quorum", 1), number("minority"), number("repairs", 0, 512)),
-}
-STEPS: dict[str, tuple[Reader, ...]] = {
-    **OWN_STEPS,
-    "tick": (number("ticks", 1, 1_000_000),),
-    "next": (number("count", 1, MOST_EVENTS),),
-    **dict.fromkeys(("lose", "settle", "finish"), ()),
-    "again": (number("message"),),
-    "forge": (CORRUPT, PEER, hex_bytes("message", 40_000)),
-    "crash": (HONEST,),
-}
+OWN_STEPS: dict[str, tuple[Reader, ...]] = {"open": (HONEST, au_id), "check": (HONEST,)}
+OWN_STEPS |= dict.fromkeys(("outer", "shut", "tally", "nudge", "give-up"), (HONEST, POLL))
+OWN_STEPS |= dict.fromkeys(("work", "expire"), (HONEST, PEER, POLL))
+OWN_STEPS |= {"tune": (HONEST, number("quorum", 1), number("minority"), number("repairs", 0, 512))}
+STEPS = OWN_STEPS | {"tick": (number("ticks", 1, 1_000_000),), "next": (number("count", 1, MOST_EVENTS),)}
+STEPS |= {"again": (number("message"),), "forge": (CORRUPT, PEER, hex_bytes("message", 40_000)), "crash": (HONEST,)}
+STEPS |= dict.fromkeys(("lose", "settle", "finish"), ())
 # Behind `say F WHAT T N`.
-SAYINGS: dict[str, tuple[Reader, ...]] = {
-    "vote": (au_id, one_of("of"), blocks),
-    "repair": (BLOCK_NUMBER, block),
-    "challenge": (one_of("yes", "no"),),
-    "poll": (au_id,),
-    "request": (BLOCK_NUMBER,),
-    **dict.fromkeys(("proof", "receipt"), ()),
-}
+SAYINGS: dict[str, tuple[Reader, ...]] = {"vote": (au_id, one_of("of"), blocks), "repair": (BLOCK_NUMBER, block)}
+SAYINGS |= {"challenge": (one_of("yes", "no"),), "poll": (au_id,), "request": (BLOCK_NUMBER,)}
+SAYINGS |= dict.fromkeys(("proof", "receipt"), ())
 CUT = (number("calls", 0, 8), number("choice", 0, 255))
 # The lines of a plan with a word for each reader.
-PLAN_LINES: dict[str, tuple[Reader, ...]] = {
-    "turns": (number("turns", 0, MOST_EVENTS),),
-    "au": (ID, number("count", 1, 512)),
-    "peer": (ID, one_of("honest", "corrupt"), hex_bytes("seed", 32, empty=False), hex_bytes("proof", 64)),
-    "hash": (PEER, one_of(*KINDS)),
-    "damage": (HONEST, au_id, BLOCK_NUMBER, block),
-}
+PLAN_LINES: dict[str, tuple[Reader, ...]] = {"hash": (PEER, one_of(*KINDS)), "au": (ID, number("count", 1, 512))}
+PLAN_LINES |= {"turns": (number("turns", 0, MOST_EVENTS),), "damage": (HONEST, au_id, BLOCK_NUMBER, block)}
+PLAN_LINES |= {"peer": (ID, one_of("honest", "corrupt"), hex_bytes("seed", 32, empty=False), hex_bytes("proof", 64))}
 STEP_LINES = {*STEPS, "say", "cut"}
 LIST_LINES = {"refs", "friends", "hash", "copy", "damage"}
 # How far a script is: the lines that may come next, and what is said where another one comes; then the part behind a line.
 PARTS = {
     "blank": ({"lockss"}, "the first line is `lockss 1`"),
     "titled": ({"rules"}, "the rules come behind the title"),
-    "ruled": ({"turns", "au", "peer"}, "`turns`, an AU or a peer comes here"),
+    "ruled": ({"turns", "au"}, "`turns` or an AU comes here"),
+    "turned": ({"au"}, "an AU comes here"),
+    "aus": ({"au", "peer"}, "an AU or a peer comes here"),
     "peers": ({"peer"} | LIST_LINES | STEP_LINES, "it comes before the peers"),
     "lists": (LIST_LINES | STEP_LINES, "it comes before lists and copies"),
     "steps": (STEP_LINES, "it comes before the steps"),
 }
-BEHIND = {"lockss": "titled", "rules": "ruled", "turns": "ruled", "au": "ruled", "peer": "peers"}
+BEHIND = {"lockss": "titled", "rules": "ruled", "turns": "turned", "au": "aus", "peer": "peers"}
 BEHIND |= dict.fromkeys(LIST_LINES, "lists") | dict.fromkeys(STEP_LINES, "steps")
 
 
@@ -259,7 +250,6 @@ class Script:
         self.plan = Plan()
         self.steps: list[Step] = []
         self.part = "blank"
-        self.has_turns = False
         self.hashed: set[int] = set()
         self.copied = 0
 
@@ -316,8 +306,7 @@ class Script:
         self.plan.rules = rules
 
     def _add_turns(self, turns: int) -> None:
-        must(not self.plan.aus and not self.has_turns, "`turns` comes once, before the AUs")
-        self.plan.turns, self.has_turns = turns, True
+        self.plan.turns = turns
 
     def _add_au(self, au: int, count: int) -> None:
         must(au not in self.plan.aus, f"AU {au} is declared twice")
@@ -325,7 +314,6 @@ class Script:
         self.plan.aus[au] = count
 
     def _add_peer(self, peer: int, kind: str, seed: bytes, proof: bytes) -> None:
-        must(len(self.plan.aus) > 0, "a peer before any AU")
         must(peer not in self.plan.peers, f"peer {peer} is declared twice")
         must(len(self.plan.peers) < 32, "more than 32 peers")
         self.plan.peers[peer] = Peer(peer, kind == "honest", seed.ljust(32, b"\0"), proof)
@@ -376,13 +364,16 @@ class Script:
         self.steps.append(read_step(self.plan, name, words))
 
 
-def read_lines(script: Script, data: bytes) -> None:
-    """Adds the lines of these bytes; a last one without its line feed is bad."""
-    *lines, last = data.split(b"\n")
-    for line in lines:
-        script.add_line(line.decode("latin-1"))
+def judge_lines(data: bytes, judge: Callable[[str], None], before: int = 0) -> None:
+    """Judges the lines of these bytes, which stand behind so many others; a last one without its line feed is bad."""
+    *lines, last = data.decode("latin-1").split("\n")
+    for place, line in enumerate(lines, before + 1):
+        try:
+            judge(line)
+        except Broken as rule:
+            raise BadLine(place, line, str(rule)) from None
     if last:
-        raise BadLine(len(script.lines) + 1, last.decode("latin-1"), "no line feed at the end of the file")
+        raise BadLine(before + len(lines) + 1, last, "no line feed at the end of the file")
 
 
 def read(data: bytes) -> Script:
@@ -390,7 +381,7 @@ def read(data: bytes) -> Script:
     if len(data) > MOST_BYTES:
         raise ValueError(f"more than {MOST_BYTES} bytes")
     script = Script()
-    read_lines(script, data)
+    judge_lines(data, script.add_line)
     script.end()
     return script
 

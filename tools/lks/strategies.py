@@ -7,6 +7,7 @@ al., USENIX Annual Technical Conference 2005. Their sections are named by their 
 
 from __future__ import annotations
 
+from collections import deque
 from collections.abc import Iterator, Sequence
 from dataclasses import dataclass, replace
 
@@ -19,6 +20,8 @@ from lks.script import Word
 Words = Sequence[Word]
 # No good block of a scene has this length.
 BAD = b"\xff" * 15
+# So many polls are remembered, and so many votes for a poller, the latest ones.
+MOST_KNOWN = 1_000
 # So many sessions a peer has open at a time (docs/PROTOCOL.md, "Voting in polls of others").
 SESSIONS = 16
 
@@ -113,6 +116,10 @@ class League(Nominations):
         for it in what.received:
             poll = PollName(it.sender, it.message.number)
             circle = self.circles.setdefault(poll, [])
+            if len(self.circles) > MOST_KNOWN:
+                oldest = next(iter(self.circles))
+                del self.circles[oldest]
+                self.begun.discard(oldest)
             if isinstance(it.message, Poll) and poll not in self.begun and it.receiver not in circle:
                 circle.append(it.receiver)
             elif isinstance(it.message, PollProof):
@@ -186,7 +193,7 @@ class Credit(Attrition):
 
     def __init__(self, known: Known) -> None:
         super().__init__(known)
-        self.voters: dict[int, list[int]] = {}
+        self.voters: dict[int, deque[int]] = {}
 
     def inviters(self, victim: int) -> Sequence[int]:
         return self.voters.get(victim, ())
@@ -195,7 +202,7 @@ class Credit(Attrition):
         for it in what.received:
             yield from self.answer(it)
             if isinstance(it.message, PollProof):
-                self.voters.setdefault(it.sender, []).append(it.receiver)
+                self.voters.setdefault(it.sender, deque(maxlen=MOST_KNOWN)).append(it.receiver)
         yield from super().act(what)
 
 
@@ -283,7 +290,7 @@ class Mixed(Faithful):
             own = part.known.own
             peers = {peer: what.own.peers[peer] for peer in own}
             received = tuple(it for it in what.received if it.receiver in own)
-            yield from part.act(replace(what, own=replace(what.own, peers=peers), received=received))
+            yield from part.act(what._replace(own=replace(what.own, peers=peers), received=received))
 
     def meanwhile(self) -> Iterator[Words]:
         yield from self.bad_times[self.known.draws.below(2)].meanwhile()

@@ -28,9 +28,11 @@ MOST_WAIT, MOST_DOWN, MOST_CUT, MOST_HELD = 2.0, 4.0, 6.0, 6.0
 
 def gate_of(path: pathlib.Path) -> int:
     """The offset of the closed gate of a journal."""
-    data, at = path.read_bytes() if path.exists() else b"", 0
-    while data[at : at + 1] == OPEN:
-        at += 5 + int.from_bytes(data[at + 1 : at + 5], "big")
+    at = 0
+    if path.exists():
+        with open(path, "rb") as file:
+            while (head := file.read(5))[:1] == OPEN:
+                at = file.seek(int.from_bytes(head[1:], "big"), os.SEEK_CUR)
     return at
 
 

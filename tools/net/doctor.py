@@ -4,11 +4,14 @@ from __future__ import annotations
 
 import asyncio
 import csv
+import hashlib
+import mmap
 import pathlib
 import random
+import shutil
 import subprocess
 from collections import Counter
-from collections.abc import Callable, Iterator, Mapping, Sequence
+from collections.abc import Callable, Iterator, Mapping
 from typing import NamedTuple
 
 from lks.disk import MOST_APPENDED, Damaged
@@ -26,9 +29,11 @@ COPIES, PAUSE, MOST_SECONDS = 24, 5.0, 120
 BYTE = number(1)
 # A part of a file: where it begins, how long it is, and what it is called.
 Part = NamedTuple("Part", [("at", int), ("size", int), ("name", str)])
+# The bytes of a file, which may be mapped.
+Data = bytes | mmap.mmap
 
 
-def parts(data: bytes) -> Iterator[Part]:
+def parts(data: Data) -> Iterator[Part]:
     """What the bytes of a journal belong to."""
     source = Source(data)
 
@@ -51,10 +56,33 @@ def parts(data: bytes) -> Iterator[Part]:
         yield Part(source.place, len(data) - source.place, "behind it")
 
 
-def draw(found: Sequence[Part], draws: random.Random) -> tuple[int, Part]:
-    """A byte of a file, and what it belongs to: each byte alike, or, in half of the cases, each part."""
-    part = draws.choice(found) if draws.randrange(2) else draws.choices(found, [it.size for it in found])[0]
-    return part.at + draws.randrange(part.size), part
+def drawn(data: Data, draws: random.Random, count: int) -> list[tuple[int, Part]]:
+    """So many bytes of a file, and what each belongs to: each byte is as likely as another, or, in half of the cases, each
+    part. A file has the more parts the longer it grows, so they are counted, and none is kept that isn't drawn."""
+    most = sum(1 for _ in parts(data))
+    by_part = Counter(draws.randrange(most) for _ in range(count) if draws.randrange(2))
+    offsets = sorted((draws.randrange(len(data)) for _ in range(count - by_part.total())), reverse=True)
+    found = []
+    for place, part in enumerate(parts(data)):
+        found += [(part.at + draws.randrange(part.size), part) for _ in range(by_part[place])]
+        while offsets and offsets[-1] < part.at + part.size:
+            found.append((offsets.pop(), part))
+    return found
+
+
+def turn(path: pathlib.Path, at: int, bit: int) -> None:
+    """Turns a bit of the byte at this offset of a file."""
+    with open(path, "r+b") as file:
+        file.seek(at)
+        byte = file.read(1)[0]
+        file.seek(at)
+        file.write(bytes([byte ^ 1 << bit]))
+
+
+def digest(path: pathlib.Path) -> bytes:
+    """The hash of a file."""
+    with open(path, "rb") as file:
+        return hashlib.file_digest(file, "sha256").digest()
 
 
 def refusal(plan: Plan, script: bytes, peer: Peer, path: pathlib.Path) -> str:
@@ -89,32 +117,35 @@ class Doctor:
 
     async def _visit(self, peer: Peer) -> None:
         async with peer.lock:
-            if not peer.is_up or not peer.journal.exists():
+            if not peer.is_up or not peer.journal.exists() or peer.journal.stat().st_size == 0:
                 return
             await asyncio.to_thread(peer.rest)
-            whole = peer.journal.read_bytes()
-            await asyncio.to_thread(self._turn, peer, whole)
-            if peer.journal.read_bytes() != whole:
+            whole = digest(peer.journal)
+            await asyncio.to_thread(self._turn, peer)
+            if digest(peer.journal) != whole:
                 self.faults.append(f"peer {peer.number}: the true file changed")
-            self.tell("doctor", peer=peer.number, bytes=len(whole))
+            self.tell("doctor", peer=peer.number, bytes=peer.journal.stat().st_size)
             peer.start()
 
-    def _turn(self, peer: Peer, whole: bytes) -> None:
+    def _turn(self, peer: Peer) -> None:
         """Tries copies of a file, and notes each: its peer, its length, offset, bit, part, and who refused it."""
-        found, script = list(parts(whole)), peer.script.encode()
-        deposited = max((it.at for it in found if it.name.startswith("Deposit")), default=0)
+        with open(peer.journal, "rb") as journal, mmap.mmap(journal.fileno(), 0, access=mmap.ACCESS_READ) as data:
+            found, size = drawn(data, self.draws, COPIES), len(data)
+            deposited = max((it.at for it in parts(data) if it.name.startswith("Deposit")), default=0)
+        script, path = peer.script.encode(), self.folder / "copy"
         with open(self.folder / "turned.csv", "a", encoding="ascii", newline="") as file:
-            for _ in range(COPIES):
+            # in another order than that of the file, since the run may be over before the last of them
+            for at, part in self.draws.sample(found, len(found)):
                 if self.over.is_set():
                     return
-                (at, part), bit = draw(found, self.draws), self.draws.randrange(8)
-                path = self.folder / "copy"
-                path.write_bytes(whole[:at] + bytes([whole[at] ^ 1 << bit]) + whole[at + 1 :])
+                bit = self.draws.randrange(8)
+                shutil.copyfile(peer.journal, path)
+                turn(path, at, bit)
                 by = refusal(self.plan, script, peer, path)
                 path.unlink()
                 self.found[part.name, by] += 1
-                self._judge(peer, part, by, len(whole) if at > deposited else 0)
-                csv.writer(file, lineterminator="\n").writerow([peer.number, len(whole), at, bit, part.name, by])
+                self._judge(peer, part, by, size if at > deposited else 0)
+                csv.writer(file, lineterminator="\n").writerow([peer.number, size, at, bit, part.name, by])
 
     def _judge(self, peer: Peer, part: Part, by: str, size: int) -> None:
         """What can't be: another end of a node, or a gate that nobody misses, behind the deposits and far from the end."""

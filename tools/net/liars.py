@@ -14,11 +14,12 @@ from lks.play import Received, Told
 from lks.script import Plan, Word, read_step, spelled
 from lks.strategies import STRATEGIES, Crashes, Known, Losses
 from net.peers import link
-from net.scenes import published
 from peer import config
 from peer.links import Link
 from peer.log import Log, mark
 
+# So many polls are known to which they were invited, the latest ones.
+MOST_POLLS = 1_000
 # The strategies that corrupt peers can follow here: of the others it is the network that acts.
 NAMES = [name for name, it in STRATEGIES.items() if not issubclass(it, (Crashes, Losses))]
 
@@ -40,10 +41,10 @@ class Liars:
         honest = tuple(it.id for it in plan.honest())
         self.plan, self.own, self.tell = plan, replace(plan, peers=own), tell
         self.strategies = {
-            au: STRATEGIES[name](Known(tuple(own), honest, au, published(plan, au), plan.rules, draws_of(seed, place)))
+            au: STRATEGIES[name](Known(tuple(own), honest, au, plan.published(au), plan.rules, draws_of(seed, place)))
             for place, au in enumerate(plan.aus)
         }
-        # the AUs of polls to which they were invited, the latest of them
+        # the AUs of those polls
         self.aus: dict[PollName, int] = {}
         self.links = {
             (peer, to): Link(to, config.Link(link(peer, wires[to]), config.QUEUE), Quiet()) for peer in own for to in honest
@@ -73,7 +74,7 @@ class Liars:
         name = PollName(sender, said.number)
         if isinstance(said, message.Poll):
             self.aus[name] = said.au
-            if len(self.aus) > 10_000:
+            if len(self.aus) > MOST_POLLS:
                 del self.aus[next(iter(self.aus))]
         au = self.aus.get(name, next(iter(self.strategies)))
         if au in self.strategies:

@@ -10,7 +10,7 @@ import shlex
 import signal
 import subprocess
 import sys
-import time
+from collections import Counter
 from collections.abc import Iterator, Mapping
 
 from lks.play import TOP, Failed
@@ -58,8 +58,8 @@ class Peer(trial.Peer):
         self.journal = top / str(number)
         # nothing else is done to a peer while one thing is
         self.lock = asyncio.Lock()
-        # those with which its daemon ended when it was told to
-        self.statuses: list[int] = []
+        # how often its daemon ended with which status when it was told to
+        self.statuses: Counter[int] = Counter()
         if len(os.fsencode(self.socket)) > MOST_PATH:
             raise ValueError(f"{self.socket}: a socket's path has at most {MOST_PATH} bytes")
 
@@ -117,5 +117,5 @@ class Peer(trial.Peer):
             self.kill()
             raise Failed(f"peer {self.number} didn't stop") from None
         self.daemon = None
-        self.statuses.append(status)
+        self.statuses[status] += 1
         return status

@@ -1,11 +1,10 @@
-"""Plans of networks: what each peer is given of one, what was published, and a plan over the files of a folder."""
+"""Plans of networks: what each peer is given of one, and a plan over the files of a folder."""
 
 from __future__ import annotations
 
 import os
 import pathlib
 import random
-from collections import Counter
 from collections.abc import Iterable, Sequence
 
 from lks import files
@@ -13,12 +12,6 @@ from lks.script import MOST_COPY_BYTES, Plan, Script, rules_words
 
 # The rules of a plan that is made here: seven voters, of whom two may be wrong.
 RULES = {"inner": 7, "quorum": 5, "minority": 2, "outer": 2, "repairs": 64, "overdue": 100_000, "unknown": 100, "debt": 100}
-
-
-def published(plan: Plan, au: int) -> tuple[bytes, ...]:
-    """An AU as it was published: at each place the block that most honest copies have."""
-    copies = [peer.copies[au] for peer in plan.honest() if au in peer.copies]
-    return tuple(Counter(blocks).most_common(1)[0][0] for blocks in zip(*copies))
 
 
 def own_plan(plan: Plan, own: int) -> str:

@@ -16,7 +16,6 @@ from lks.fields import whole
 from lks.journal import OPEN, Record
 from lks.report import NOTES
 from lks.script import Plan
-from net.scenes import published
 from peer import follow, log
 
 # The events of steps, with the values behind the peer's own number.
@@ -24,8 +23,9 @@ STEPS = {"open": ["au"], "check": [], "work": ["peer", "poll"], "expire": ["peer
 STEPS |= dict.fromkeys(("outer", "shut", "tally", "nudge", "give-up"), ["poll"])
 # What notes call a record, where it isn't the record's own name.
 NOTED = {"pollopened": "opened", "votein": "vote-in", "repairbad": "repair-bad", "outeropened": "outer"}
-# So many messages are known by their sender, receiver and mark; older ones are forgotten.
-MOST_KNOWN = 50_000
+# Behind so many later messages one is forgotten. In the networks of docs/RUNNING.md that is after more than three
+# minutes, and a link that ended is away for one at most.
+MOST_KNOWN = 20_000
 
 # What was told, when and by whom: the peer of a daemon, or 0 for the links.
 Line = NamedTuple("Line", [("time", str), ("own", int), ("values", dict[str, str])])
@@ -92,23 +92,28 @@ class Messages:
 
     def __init__(self) -> None:
         self.count = 0
+        # those that wait, by keys in the order in which their last one was sent; and the last one of each key that came
         self.waiting: dict[Key, list[int]] = {}
         self.came: dict[Key, int] = {}
 
     def send(self, key: Key) -> None:
         """One more was sent."""
-        self.waiting.setdefault(key, []).append(self.count)
+        oldest = self.count - MOST_KNOWN
+        self.waiting[key] = [it for it in self.waiting.pop(key, []) if it > oldest] + [self.count]
         self.count += 1
-        for known in (self.waiting, self.came):
-            if len(known) > MOST_KNOWN:
-                del known[next(iter(known))]
+        first = next(iter(self.waiting))
+        if self.waiting[first][-1] <= oldest:
+            del self.waiting[first]
 
     def take(self, key: Key) -> int | None:
         """The first that waits, which does so no more; or the one that came last; or none, where there is neither."""
         if numbers := self.waiting.get(key):
+            self.came.pop(key, None)
             self.came[key] = numbers.pop(0)
             if not numbers:
                 del self.waiting[key]
+            if len(self.came) > MOST_KNOWN:
+                del self.came[next(iter(self.came))]
         return self.came.get(key)
 
 
@@ -116,7 +121,7 @@ class Teller:
     """Writes the report, and counts what the journals come to. `bad` has the blocks that aren't as published."""
 
     def __init__(self, plan: Plan, journals: Mapping[int, pathlib.Path], path: pathlib.Path) -> None:
-        self.published = {au: published(plan, au) for au in plan.aus}
+        self.published = {au: plan.published(au) for au in plan.aus}
         copies = [(peer.id, au, blocks) for peer in plan.honest() for au, blocks in peer.copies.items()]
         blocks = [(peer, au, at, it) for peer, au, held in copies for at, it in enumerate(held)]
         self.bad = {(peer, au, at) for peer, au, at, it in blocks if it != self.published[au][at]}

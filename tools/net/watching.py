@@ -7,8 +7,8 @@ import os
 import pathlib
 import statistics
 import sys
-from collections.abc import Iterable, Mapping, Sequence
-from typing import NamedTuple
+from collections.abc import Iterable, Iterator, Mapping, Sequence
+from itertools import islice
 
 from lks.picture import Point, picture
 
@@ -18,13 +18,15 @@ ENOUGH = 300
 SLOTS = 40
 SHOWN = {"nodes up": "up", "polls agreed": "agreed", "bad blocks": "bad blocks"}
 MEASURED = ("memory of nodes, MB", "memory of daemons, MB", "open files of daemons")
-# What was measured at a second: counts so far, and of all processes of a kind that run the memory in MB and the open files.
-Sample = NamedTuple("Sample", [("second", int), ("counts", dict[str, int]), ("measures", dict[str, list[float]])])
 COUNTS = ("up", "polls", "agreed", "replaced", "alarms", "bad blocks", "frames")
+# What a sample has of each measure, in columns of these names: of all processes of a kind that run.
+EXTREMES = ("least", "median", "most")
+# A row of the file of samples, by the names of its columns. Where no process of a kind ran, nothing stands there.
+Row = dict[str, str]
 
 
 def usage(processes: Iterable[int]) -> tuple[list[float], list[float]]:
-    """The memory and the open files of each of these processes that still runs."""
+    """The memory in MB and the open files of each of these processes that still runs."""
     memory, opened = [], []
     for process in processes:
         try:
@@ -41,61 +43,72 @@ def extremes(values: Sequence[float]) -> tuple[float, float, float]:
     return min(values), statistics.median(values), max(values)
 
 
+def extremes_of(rows: Sequence[Row], name: str) -> tuple[float, float, float] | None:
+    """Those of a count, or of a measure with the median of its medians, in samples; none where nothing was measured."""
+    columns = [name] * 3 if name in COUNTS else [f"{name} {it}" for it in EXTREMES]
+    least, middle, most = ([float(row[column]) for row in rows if row[column]] for column in columns)
+    return (min(least), statistics.median(middle), max(most)) if middle else None
+
+
 class Watch:
-    """The samples of a run, which go into a file as they come."""
+    """Samples of a run, which go into a file as they come and are read again at its end: they are kept nowhere else, so
+    that a long run takes no more memory than a short one."""
 
     def __init__(self, path: pathlib.Path) -> None:
-        self.samples: list[Sample] = []
-        self.file = open(path, "w", encoding="ascii", newline="")
+        self.path, self.file = path, open(path, "w", encoding="ascii", newline="")
         self.rows = csv.writer(self.file, lineterminator="\n")
+        self.count, self.last, self.measures = 0, "", list[str]()
 
-    def add(self, second: int, counts: dict[str, int], kinds: Mapping[str, Sequence[int]]) -> None:
+    def add(self, second: int, counts: Mapping[str, int], kinds: Mapping[str, Sequence[int]]) -> None:
         """Measures the processes of each kind."""
         measures: dict[str, list[float]] = {}
         for kind, processes in kinds.items():
             measures[f"memory of {kind}, MB"], measures[f"open files of {kind}"] = usage(processes)
-        if not self.samples:
-            head = [f"{name} {which}" for name in measures for which in ("least", "median", "most")]
-            self.rows.writerow(["second", *COUNTS, *head])
-        found = [f"{it:.1f}" for values in measures.values() for it in (extremes(values) if values else ())]
+        if self.count == 0:
+            self.measures = list(measures)
+            self.rows.writerow(["second", *COUNTS, *(f"{name} {it}" for name in measures for it in EXTREMES)])
+        found = [f"{it:.1f}" if values else "" for values in measures.values() for it in extremes(values or [0.0])]
         self.rows.writerow([second, *(counts[name] for name in COUNTS), *found])
         self.file.flush()
-        self.samples.append(Sample(second, counts, measures))
+        self.count += 1
+        self.last = f"{second} s: " + ", ".join(f"{counts[name]} {name}" for name in COUNTS)
 
     def progress(self, is_over: bool = False) -> None:
         """The line of progress, where standard error is a terminal."""
-        if sys.stderr.isatty() and self.samples:
-            counts = self.samples[-1].counts
-            told = ", ".join(f"{counts[name]} {name}" for name in COUNTS)
-            sys.stderr.write(f"\r\x1b[K{self.samples[-1].second} s: {told}" + "\n" * is_over)
+        if sys.stderr.isatty() and self.last:
+            sys.stderr.write(f"\r\x1b[K{self.last}" + "\n" * is_over)
             sys.stderr.flush()
 
-    def parts(self) -> list[list[Sample]]:
+    def samples(self, first: int = 0, last: int | None = None) -> Iterator[Row]:
+        """The samples from one place to another, read again."""
+        with open(self.path, encoding="ascii", newline="") as file:
+            yield from islice(csv.DictReader(file), first, last)
+
+    def parts(self) -> Iterator[list[Row]]:
         """The samples, parted into as many stretches as a picture has points, or fewer."""
-        size = -(-len(self.samples) // SLOTS)
-        return [self.samples[at : at + size] for at in range(0, len(self.samples), size)] if size else []
+        samples, size = self.samples(), -(-self.count // SLOTS)
+        while part := list(islice(samples, size)):
+            yield part
 
     def draw(self, path: pathlib.Path, title: str) -> None:
         """A picture of the run."""
         panels: dict[str, list[Point]] = {name: [] for name in (*SHOWN, *MEASURED)}
         for part in self.parts():
-            shown = {name: [float(it.counts[count]) for it in part] for name, count in SHOWN.items()}
-            shown |= {name: [value for it in part for value in it.measures[name]] for name in MEASURED}
-            for name, values in shown.items():
-                panels[name] += [Point(part[-1].second, *extremes(values))] if values else []
+            for name, points in panels.items():
+                if found := extremes_of(part, SHOWN.get(name, name)):
+                    points.append(Point(int(part[-1]["second"]), *found))
         if all(panels.values()):
             path.write_text(picture(title, "seconds", panels), encoding="ascii")
 
     def growth(self) -> list[str]:
-        """Of each measure the median of all processes in the second tenth of the run, and in the last one, if it was long enough
+        """Of each measure the median in the second tenth of the run and in the last one, where the run was long enough
         for that to say something."""
-        tenth, lines = len(self.samples) // 10, list[str]()
-        for name in self.samples[0].measures if len(self.samples) >= ENOUGH else ():
-            early, late = (
-                [value for it in part for value in it.measures.get(name, [])]
-                for part in (self.samples[tenth : 2 * tenth], self.samples[-tenth:])
-            )
-            if early and late:
-                middle = f"{statistics.median(early):.1f} early, {statistics.median(late):.1f} late"
-                lines.append(f"{name}: {middle}, at most {max(late):.1f}")
+        tenth, lines = self.count // 10, list[str]()
+        if self.count < ENOUGH:
+            return lines
+        early, late = list(self.samples(tenth, 2 * tenth)), list(self.samples(self.count - tenth))
+        for name in self.measures:
+            before, now = extremes_of(early, name), extremes_of(late, name)
+            if before and now:
+                lines.append(f"{name}: {before[1]:.1f} early, {now[1]:.1f} late, at most {now[2]:.1f}")
         return lines

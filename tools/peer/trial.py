@@ -9,7 +9,7 @@ import signal
 import subprocess
 import sys
 import time
-from collections.abc import Callable, Mapping, Sequence
+from collections.abc import Callable, Iterator, Mapping, Sequence
 from datetime import UTC, datetime
 
 from lks import disk
@@ -23,7 +23,7 @@ DAMAGED = [GOOD[0], b"rotten", *GOOD[2:]]
 # A second has five ticks.
 TICKS = {"open": 150, "nudge": 10, "outer": 5, "shut": 20, "give-up": 50, "check": 25, "expire": 600, "expire-bare": 100}
 SECONDS = 0.2
-MOST_WAIT = 60.0
+MOST_WAIT = 180.0
 
 
 def program() -> pathlib.Path | None:
@@ -81,9 +81,11 @@ class Peer:
         self.daemon.send_signal(signal.SIGTERM)
         return self.daemon.wait(MOST_WAIT)
 
-    def log(self) -> list[dict[str, str]]:
+    def log(self) -> Iterator[dict[str, str]]:
         """The events that its daemon told."""
-        return [log.read(line) for line in (self.told.read_text().splitlines() if self.told.exists() else [])]
+        if self.told.exists():
+            with open(self.told) as file:
+                yield from map(log.read, file)
 
     def events(self, what: str, **values: object) -> list[dict[str, str]]:
         """Those of this name with these values."""

@@ -8,6 +8,7 @@ import unittest
 import xml.etree.ElementTree
 from collections.abc import Iterator, Sequence
 from dataclasses import replace
+from unittest import mock
 
 from lks import attack, journal, message, outcome, picture, play, report, script, strategies
 from lks.tests.commands import tool
@@ -73,6 +74,16 @@ class Strategies(unittest.TestCase):
         against = (strategies.BAD, *GOOD[1:])
         self.assertEqual([votes("nuisance", count) for count in (2, 3)], [[GOOD] * 2, [against] * 3])
         self.assertEqual(votes("nuisance", 5), [against] * 3 + [GOOD] * 2)
+
+    def test_memory(self) -> None:
+        league, credit = strategy("stealth"), strategy("credit")
+        with mock.patch.object(strategies, "MOST_KNOWN", 3):
+            for number in range(9):
+                for of in (league, credit):
+                    hear(of, message.Poll(number, attack.AU))
+                    hear(of, message.PollProof(number, NONCE, b"\1"))
+        self.assertEqual([it.number for it in league.circles], [6, 7, 8])
+        self.assertEqual((len(league.begun), len(credit.voters[1])), (3, 3))
         self.assertEqual(votes("nominations", 5), [GOOD] * 5)
 
     def test_nominees(self) -> None:

@@ -1,4 +1,4 @@
-"""bin/lockss and bin/proved, over a faked program, a faked kit, and no other command than they use."""
+"""bin/lockss and bin/proved, over a faked program, a faked kit, and no command but those they use; how others start."""
 
 from __future__ import annotations
 
@@ -24,6 +24,17 @@ cp ../../made out/lockss && touch out/lockss.stamp && exec out/lockss
 """
 FIRST = "lockss: proving and building the program first, 2 crates\n"
 NO_PROGRAM = "lockss: the program isn't built, or a source changed since, and "
+
+
+class Commands(unittest.TestCase):
+    def test_starts(self) -> None:
+        """Each starts by itself, and not only in a fork of the tests."""
+        paths = [it for it in (TOP / "bin").iterdir() if b"env python3" in it.read_bytes()[:40]]
+        files = {"stdin": subprocess.DEVNULL, "stdout": subprocess.PIPE, "stderr": subprocess.PIPE}
+        started = [subprocess.Popen([it, "--help"], text=True, **files) for it in paths]
+        for path, it in zip(paths, started):
+            out, err = it.communicate()
+            self.assertEqual((it.returncode, err, out.startswith("usage: ")), (0, "", True), path)
 
 
 class Launcher(unittest.TestCase):

@@ -18,11 +18,11 @@ from lks import disk, files, hashes, journal, message, play, report, script
 from lks.journal import Closed, Deposit, Limits, PollOpened, Replaced, Shut, VoteIn
 from lks.tests.commands import tool
 from lks.tests.test_tools import EXAMPLES, NONCE, SCRIPTS
-from net import chaos, doctor, judging, peers, running
+from net import chaos, doctor, judging, peers, running, telling
 from net.liars import NAMES, Liars
-from net.scenes import own_plan, published, same_files, scene
+from net.scenes import own_plan, same_files, scene
 from net.telling import Line, Messages, Tail, Teller, note_of
-from net.watching import COUNTS, Watch
+from net.watching import COUNTS, Watch, extremes_of
 from net.weather import Weather
 from net.wires import Wires
 from peer import trial
@@ -53,7 +53,7 @@ def peer_in(top: pathlib.Path, number: int = 2) -> peers.Peer:
 
 class Scenes(unittest.TestCase):
     def test_published(self) -> None:
-        self.assertEqual(published(PLAN.plan, 1), tuple(bytes([0x41 + at]) * 4096 for at in range(8)))
+        self.assertEqual(PLAN.plan.published(1), tuple(bytes([0x41 + at]) * 4096 for at in range(8)))
         self.assertEqual(COPY[5], b"rotten")
 
     def test_own_plan(self) -> None:
@@ -69,7 +69,7 @@ class Scenes(unittest.TestCase):
                 (top / "in" / name).write_text(name * 20_000)
             plan = scene(top / "in", 8, 2, 2, 7).plan
             self.assertEqual([it.honest for it in plan.peers.values()], [True] * 6 + [False] * 2)
-            whole = published(plan, 1)
+            whole = plan.published(1)
             bad = [(it.id, at) for it in plan.honest() for at in range(len(whole)) if it.copies[1][at] != whole[at]]
             self.assertEqual((len(bad), len({it for it, _ in bad}), len({at for _, at in bad})), (2, 2, 2))
             self.assertEqual(same_files(whole, top / "in", top / "out"), [])
@@ -179,7 +179,7 @@ class Links(unittest.IsolatedAsyncioTestCase):
             if name in ("nominations", "stealth"):
                 nonce = hashes.nonce(PLAN.plan.peers[1].seed, 3)
                 key = hashes.key("sha256", 1, 3, nonce, 7, 1, 8)
-                self.assertEqual(sent[-1].hashes, hashes.vote("sha256", key, published(PLAN.plan, 1)))
+                self.assertEqual(sent[-1].hashes, hashes.vote("sha256", key, PLAN.plan.published(1)))
             self.assertEqual(len([it for it in told.mock_calls if it.args[0] == "reached"]), 3, name)
             self.assertTrue(bool(sent) != (name == "silent") or name == "mixed", name)
 
@@ -230,6 +230,15 @@ class Telling(unittest.TestCase):
         found.send(key)
         found.send(key)
         self.assertEqual([found.take(key) for _ in range(3)], [0, 1, 1])
+        with mock.patch.object(telling, "MOST_KNOWN", 3):
+            for to in (3, 4, 3, 5, 6, 4):
+                found.send((1, to, "bb"))
+                found.take((1, 5, "bb"))
+            self.assertEqual(found.waiting, {(1, 6, "bb"): [6], (1, 4, "bb"): [7]})
+            for to in range(7, 12):
+                found.send((1, to, "bb"))
+                found.take((1, to, "bb"))
+        self.assertEqual((found.waiting, len(found.came)), ({}, 3))
 
     def test_tail(self) -> None:
         with folder() as top:
@@ -243,11 +252,15 @@ class Telling(unittest.TestCase):
     def test_watch(self) -> None:
         with folder() as top, contextlib.closing((watch := Watch(top / "samples.csv")).file):
             for second in range(1, 302):
-                watch.add(second, dict.fromkeys(COUNTS, second), {"nodes": [os.getpid(), 2**22 + 1], "daemons": [1]})
+                nodes = [os.getpid(), 2**22 + 1] if second % 2 else []
+                watch.add(second, dict.fromkeys(COUNTS, second), {"nodes": nodes, "daemons": [os.getpid()]})
             watch.draw(top / "picture.svg", "a run")
             self.assertEqual((top / "picture.svg").read_text().count("open files of daemons"), 1)
-            self.assertEqual((len(watch.samples[0].measures["memory of nodes, MB"]), len(watch.growth())), (1, 4))
-            self.assertLessEqual(len(watch.parts()), 40)
+            self.assertEqual((len(watch.growth()), len(list(watch.parts())), watch.last[:6]), (4, 38, "301 s:"))
+            self.assertEqual(extremes_of(list(watch.samples(10, 21)), "agreed"), (11, 16, 21))
+            # in an even second no node ran, and the columns of daemons are where they were
+            found = [extremes_of(list(watch.samples(11, 12)), f"open files of {it}") for it in ("nodes", "daemons")]
+            self.assertEqual([it is None for it in found], [True, False])
 
 
 class Doing(unittest.TestCase):
@@ -270,9 +283,18 @@ class Doing(unittest.TestCase):
         self.assertEqual((at, found[-1].name), (len(data), "behind it"))
         names = {it.name for it in found}
         self.assertTrue({"gate", "length", "Deposit blocks", "VoteIn hashes", "PollOpened nonce", "closed gate"} <= names)
-        for seed in range(200):
-            place, part = doctor.draw(found, random.Random(seed))
-            self.assertTrue(part.at <= place < part.at + part.size)
+        for seed in range(20):
+            drawn = doctor.drawn(data, random.Random(seed), 10)
+            self.assertEqual(len(drawn), 10)
+            for place, part in drawn:
+                self.assertTrue(part in found and part.at <= place < part.at + part.size)
+        with folder() as top:
+            (top / "file").write_bytes(data)
+            before = doctor.digest(top / "file")
+            doctor.turn(top / "file", 5, 3)
+            self.assertEqual((top / "file").read_bytes(), data[:5] + bytes([data[5] ^ 8]) + data[6:])
+            doctor.turn(top / "file", 5, 3)
+            self.assertEqual(doctor.digest(top / "file"), before)
 
     def test_ends(self) -> None:
         self.assertEqual(judging.unexplained(Counter({0: 9, -9: 3, -15: 1}), 3), [])
@@ -318,7 +340,7 @@ class ShortRun(unittest.TestCase):
             for number, peer in found.peers.items():
                 records = [it for it in peer.records() if not isinstance(it, Deposit)]
                 self.assertEqual([note.text for event, note in told.notes() if event.peer == number], list(map(note_of, records)))
-                self.assertEqual(files.copy_of(peer.journal.read_bytes(), 1)[1], list(published(PLAN.plan, 1)))
+                self.assertEqual(files.copy_of(peer.journal.read_bytes(), 1)[1], list(PLAN.plan.published(1)))
             self.assertIn("bin/check-evidence: evidence yes", lines[-1])
 
 

@@ -3,13 +3,13 @@
 from __future__ import annotations
 
 import subprocess
-import tempfile
 import unittest
-from collections.abc import Callable, Iterable, Sequence
+from collections.abc import Callable
 from typing import Any
 
 from lks import hashes, journal, message, play, report, script
 from lks.fields import PollName, whole
+from lks.strategies import Faithful, Forger, Known
 from lks.tests.at_random import Scripts
 from lks.tests.commands import tool
 from lks.tests.side_by_side import long
@@ -59,14 +59,10 @@ class Judging(unittest.TestCase):
             self.assertEqual(judged(path.read_bytes())[0], int(path.name.split("-")[1]), path)
             self.compare(path.read_bytes())
 
-    def test_scripts_at_random(self) -> None:
-        scripts = Scripts(SEED)
-        for _ in range(COUNT):
-            self.compare(scripts.script())
-
-    def test_mutated_texts(self) -> None:
+    def test_texts_at_random(self) -> None:
         scripts, text = Scripts(SEED), (EXAMPLES / "repaired.journals").read_bytes()
         for _ in range(COUNT):
+            self.compare(scripts.script())
             self.compare(scripts.mutated(scripts.choice(SCRIPTS).read_bytes()))
             self.compare(scripts.mutated(text), journal.read, "evidence")
 
@@ -136,22 +132,9 @@ class Spelling(unittest.TestCase):
             self.assertEqual((message.write(said).hex(), message.read(bytes.fromhex(spelled))), (spelled, said))
 
 
-class Forger:
-    """Votes as if its peers held these blocks, and gives them where it is asked."""
-
-    def __init__(self, *blocks: bytes) -> None:
-        self.blocks = blocks
-
-    def act(self, what: play.Told) -> Iterable[Sequence[script.Word]]:
-        for sender, own, it in what.received:
-            if isinstance(it, message.Poll):
-                yield "say", own, "challenge", sender, it.number, "yes"
-            elif isinstance(it, message.PollProof):
-                key = hashes.key(it.hash, sender, it.number, it.nonce, own, 1, 2)
-                vote = message.Vote(it.number, hashes.vote(it.hash, key, self.blocks), what.own.peers[own].proof)
-                yield "forge", own, sender, message.write(vote)
-            elif isinstance(it, message.RepairRequest):
-                yield "say", own, "repair", sender, it.number, it.block, [self.blocks[it.block]]
+def drills_from(first: int) -> Callable[[Runs], None]:
+    """A test of five drills."""
+    return long(lambda runs: runs.check_drills(range(first, first + 5)))
 
 
 class Runs(unittest.TestCase):
@@ -218,14 +201,18 @@ class Runs(unittest.TestCase):
 
     def test_play(self) -> None:
         plan = (EXAMPLES / "repaired.lockss").read_text().split("open")[0].encode()
-        games = [play.Play(script.read(plan), Forger(b"A", b"C"), [2, 3, 4]) for _ in range(2)]
-        for game in games:
+        known, runs = Known((2, 3, 4), (1,), 1, (b"A", b"C"), {}, hashes.Draws(SEED_1, 7, 0)), []
+        for kind in (Faithful, Faithful, Forger):
+            game = play.Play(script.read(plan), kind(known), known.own)
             game.step("open", 1, 1)
             game.step("finish")
-            run = play.Run(game.script)
+            runs.append(play.Run(game.script))
+            self.check_run(runs[-1])
+        for run in runs[:2]:
             self.assertEqual(journal.versions(run.journals.records(1), 1)[-1], (b"A", b"C"))
             self.assertEqual([it.outcome for it in run.report.polls], ["agreed"])
-        self.assertEqual(*(game.script.text() for game in games))
+        self.assertEqual(*(run.script.text() for run in runs[:2]))
+        self.assertIn("\nforge 2 1 ", runs[2].script.text())
 
     def check_drills(self, seeds: range) -> None:
         for seed in seeds:
@@ -237,33 +224,11 @@ class Runs(unittest.TestCase):
             self.assertEqual(line.encode(), play.run("drill", str(seed)).out)
             self.check_run(run)
 
-    @long
-    def test_drills_1_to_5(self) -> None:
-        self.check_drills(range(1, 6))
-
-    @long
-    def test_drills_6_to_10(self) -> None:
-        self.check_drills(range(6, 11))
-
-    @long
-    def test_drills_11_to_15(self) -> None:
-        self.check_drills(range(11, 16))
-
-    @long
-    def test_drills_16_to_20(self) -> None:
-        self.check_drills(range(16, 21))
+    # tests of their own, which run side by side
+    test_drills_1, test_drills_6, test_drills_11, test_drills_16 = map(drills_from, (1, 6, 11, 16))
 
 
 class Commands(unittest.TestCase):
-    def test_starts(self) -> None:
-        """Each starts by itself, and not only in a fork of the tests."""
-        paths = [it for it in (play.TOP / "bin").iterdir() if b"env python3" in it.read_bytes()[:40]]
-        files = {"stdin": subprocess.DEVNULL, "stdout": subprocess.PIPE, "stderr": subprocess.PIPE}
-        started = [subprocess.Popen([it, "--help"], text=True, **files) for it in paths]
-        for path, it in zip(paths, started):
-            out, err = it.communicate()
-            self.assertEqual((it.returncode, err, out.startswith("usage: ")), (0, "", True), path)
-
     def test_why(self) -> None:
         ended = tool("why", EXAMPLES / "bad/line-8-list-with-its-own-peer-alone.lockss")
         self.assertEqual((ended.returncode, ended.stdout), (1, "line 8: `refs 1 1`: peer 1 lists itself\n"))
@@ -295,7 +260,4 @@ class Commands(unittest.TestCase):
         self.assertEqual(ended.stderr, "".join(f"sums: warning: {it}\n" for it in warnings))
         for count, told in ((4_096, "sums: warning: the history is full: it has 4096 events\n"), (4_095, "")):
             lines = ["lockss report 1", *(f"{number} tick 1 | - | 0" for number in range(1, count + 1)), f"end {count}", ""]
-            with tempfile.NamedTemporaryFile() as file:
-                file.write("\n".join(lines).encode())
-                file.flush()
-                self.assertEqual(tool("sums", "--report", file.name).stderr, told)
+            self.assertEqual(tool("sums", "--report", "/dev/stdin", input="\n".join(lines)).stderr, told)
