@@ -41,6 +41,10 @@ def _vote(kind: str, vote_key: bytes, blocks: tuple[bytes, ...]) -> tuple[bytes,
     return tuple(hashes)
 
 
+# Lets go of the votes that are kept.
+forget: Callable[[], None] = _vote.cache_clear
+
+
 def vote(kind: str, vote_key: bytes, blocks: Iterable[bytes]) -> tuple[bytes, ...]:
     """The running hashes of these blocks, one for each. The last votes are kept: who looks at a run asks for one often."""
     return _vote(kind, vote_key, tuple(map(_same, blocks)))

@@ -10,8 +10,9 @@ from typing import Any, NamedTuple
 from lks.fields import BE16, BE32, BLOCK, HASH, HASHES, INDEX, KIND, NOMINEES, POLL, YES_OR_NO
 from lks.fields import BadBytes, Family, Field, Source, group, listed, number, sized, whole
 from lks.hashes import Draws, key, vote
-from lks.script import LAST_ID, MOST_BYTES, Broken, Peer, Plan, Script, is_idle, judge_lines, must
-from lks.script import number as decimal
+from lks.plan import LAST_ID, Broken, Peer, Plan, must
+from lks.plan import number as decimal
+from lks.script import MOST_BYTES, Script, is_idle, judge_lines
 
 OPEN, CLOSED = b"\xa5", b"\0"
 OUTCOMES = ("agreed", "inquorate", "split", "no-supplier")

@@ -9,8 +9,9 @@ from lks.fields import BE16, BE32, BLOCK, HASH, HASHES, INDEX, KIND, NOMINEES, P
 from lks.fields import BadBytes, Family, PollName, whole
 from lks.journal import Asked, Committed, Ended, Joined, Journals, PollOpened, Record, RepairBad, Replaced, Voted
 from lks.journal import of_kind, only, references, versions
+from lks.plan import Peer, Plan
 from lks.report import Event, Report
-from lks.script import Peer, Plan, Script, Step
+from lks.script import Script, Step
 
 # The table "Messages" of docs/FORMATS.md.
 Message = Any

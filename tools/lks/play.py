@@ -10,7 +10,8 @@ from dataclasses import replace
 from typing import NamedTuple, Protocol
 
 from lks import journal, message, report
-from lks.script import Plan, Script, Word, read
+from lks.plan import Plan
+from lks.script import Script, Word, read
 
 TOP = pathlib.Path(__file__).resolve().parents[2]
 
@@ -64,7 +65,7 @@ Told = NamedTuple("Told", [("tick", int), ("own", Plan), ("received", tuple[Rece
 
 
 class Strategy(Protocol):
-    """Who moves corrupt peers, as those of `lks.strategies`. It is to answer the same whenever it is told the same."""
+    """Who moves corrupt peers, as those of `attack.strategies`. It is to answer the same whenever it is told the same."""
 
     def act(self, what: Told) -> Iterable[Sequence[Word]]:
         """The words of `say` and `forge` lines that its peers send now."""

@@ -11,9 +11,9 @@ import time
 from collections import Counter
 from collections.abc import Callable, Iterator, Mapping
 
-from lks import disk
+from files import disk
 from lks.journal import OPEN
-from lks.script import Plan
+from lks.plan import Plan
 from net.peers import Peer
 from net.weather import Weather
 from net.wires import Wires

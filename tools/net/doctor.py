@@ -14,10 +14,10 @@ from collections import Counter
 from collections.abc import Callable, Iterator, Mapping
 from typing import NamedTuple
 
-from lks.disk import MOST_APPENDED, Damaged
+from files.disk import MOST_APPENDED, Damaged
 from lks.fields import BE16, BE32, Source, number
 from lks.journal import OPEN, RECORDS
-from lks.script import Plan
+from lks.plan import Plan
 from net.peers import Peer
 from peer.follow import Follower
 from peer.node import frame

@@ -7,19 +7,18 @@ import pathlib
 from collections.abc import Callable, Iterable, Mapping, Sequence
 from dataclasses import replace
 
-from lks import message
-from lks.attack import draws_of
+from attack.course import draws_of
+from attack.strategies import MOST_POLLS, STRATEGIES, Crashes, Known, Losses
+from lks import hashes, message
 from lks.fields import PollName
+from lks.plan import Plan
 from lks.play import Received, Told
-from lks.script import Plan, Word, read_step, spelled
-from lks.strategies import STRATEGIES, Crashes, Known, Losses
+from lks.script import Word, read_step, spelled
 from net.peers import link
 from peer import config
 from peer.links import Link
 from peer.log import Log, mark
 
-# So many polls are known to which they were invited, the latest ones.
-MOST_POLLS = 1_000
 # The strategies that corrupt peers can follow here: of the others it is the network that acts.
 NAMES = [name for name, it in STRATEGIES.items() if not issubclass(it, (Crashes, Losses))]
 
@@ -44,7 +43,7 @@ class Liars:
             au: STRATEGIES[name](Known(tuple(own), honest, au, plan.published(au), plan.rules, draws_of(seed, place)))
             for place, au in enumerate(plan.aus)
         }
-        # the AUs of those polls
+        # the AUs of the latest polls to which they were invited
         self.aus: dict[PollName, int] = {}
         self.links = {
             (peer, to): Link(to, config.Link(link(peer, wires[to]), config.QUEUE), Quiet()) for peer in own for to in honest
@@ -60,6 +59,8 @@ class Liars:
                 self.seconds += 1
                 for au in self.strategies:
                     self._act(au, ())
+                # nobody asks for a vote again that was given
+                hashes.forget()
         finally:
             for task in tasks:
                 task.cancel()

@@ -3,6 +3,7 @@
 from __future__ import annotations
 
 import asyncio
+import contextlib
 import ctypes
 import os
 import pathlib
@@ -22,8 +23,8 @@ PARTS = {"nudge": 1 / 12, "outer": 1 / 4, "shut": 3 / 5, "give-up": 1 / 5, "chec
 LEAST_BETWEEN = 12
 # The longest path of a socket.
 MOST_PATH = 107
-# prctl(PR_SET_CHILD_SUBREAPER)
-_SUBREAPER = 36
+# prctl(PR_SET_CHILD_SUBREAPER), mallopt(M_ARENA_MAX)
+_SUBREAPER, _ARENAS = 36, -8
 
 
 def ticks(between: int) -> dict[str, int]:
@@ -34,6 +35,12 @@ def ticks(between: int) -> dict[str, int]:
 def adopt() -> None:
     """What a killed daemon leaves behind becomes a child of this process, which waits for it."""
     ctypes.CDLL(None).prctl(_SUBREAPER, 1, 0, 0, 0)
+
+
+def share_heap() -> None:
+    """All threads of this process take memory from one heap: else each keeps what it once needed. Only glibc has more."""
+    with contextlib.suppress(AttributeError):
+        ctypes.CDLL(None).mallopt(_ARENAS, 1)
 
 
 def children(process: int) -> Iterator[int]:

@@ -3,6 +3,7 @@
 from __future__ import annotations
 
 import asyncio
+import gc
 import os
 import pathlib
 import resource
@@ -20,7 +21,7 @@ from net import judging
 from net.chaos import Chaos
 from net.doctor import Doctor
 from net.liars import Liars
-from net.peers import LEAST_BETWEEN, Peer, adopt, ticks
+from net.peers import LEAST_BETWEEN, Peer, adopt, share_heap, ticks
 from net.scenes import own_plan
 from net.telling import Line, Tail, Teller
 from net.watching import Watch
@@ -30,6 +31,8 @@ from peer.log import Log
 
 # So many seconds lie between two looks. So old a line has to be before it is told: by then all earlier ones are there.
 EVERY, BEHIND = 2, timedelta(seconds=1)
+# After so many looks it is swept: what ended links leave refers to itself, and else waits until it is a quarter of all.
+SWEEP = 30
 # So many seconds it rests before it looks whether it is over, and so many that it may sleep longer than it wanted.
 REST, MOST_LAG = 0.2, 2.0
 
@@ -100,6 +103,7 @@ class Net:
     async def run(self) -> None:
         """Runs it, and ends all processes whatever comes."""
         adopt()
+        share_heap()
         most = resource.getrlimit(resource.RLIMIT_NOFILE)[1]
         resource.setrlimit(resource.RLIMIT_NOFILE, (most, most))
         for number in (signal.SIGTERM, signal.SIGINT):
@@ -157,6 +161,8 @@ class Net:
                     it.daemon = None
             if not self.is_over:
                 self._sample()
+            if self.watch.count % SWEEP == 0:
+                gc.collect()
 
     def _take(self, until: str) -> None:
         """Tells the lines from before a time."""

@@ -7,8 +7,9 @@ import pathlib
 import random
 from collections.abc import Iterable, Sequence
 
-from lks import files
-from lks.script import MOST_COPY_BYTES, Plan, Script, rules_words
+from files import archive
+from lks.plan import Plan
+from lks.script import MOST_COPY_BYTES, Script, rules_words
 
 # The rules of a plan that is made here: seven voters, of whom two may be wrong.
 RULES = {"inner": 7, "quorum": 5, "minority": 2, "outer": 2, "repairs": 64, "overdue": 100_000, "unknown": 100, "debt": 100}
@@ -46,7 +47,7 @@ def scene(folder: pathlib.Path, peers: int, liars: int, damaged: int, seed: int)
     honest = everyone[: peers - liars]
     if not 0 <= damaged <= len(honest) or not honest:
         raise ValueError(f"{damaged} damaged and {liars} corrupt ones of {peers} peers can't be")
-    units = [files.blocks_of(unit) for unit in files.split(files.walk(os.fsencode(folder)), MOST_COPY_BYTES // len(honest))]
+    units = [archive.blocks_of(unit) for unit in archive.split(archive.walk(os.fsencode(folder)), MOST_COPY_BYTES // len(honest))]
     made.add("lockss", 1)
     made.add(*rules_words(**RULES))
     for au, blocks in enumerate(units, 1):
@@ -64,8 +65,8 @@ def scene(folder: pathlib.Path, peers: int, liars: int, damaged: int, seed: int)
 
 def same_files(blocks: Sequence[bytes], folder: pathlib.Path, to: pathlib.Path) -> list[str]:
     """Writes the files of a copy, and tells which of them aren't whole, or not those of a folder."""
-    found = [f"{files.shown(path)}: {fault}" for path, fault in files.write(blocks, os.fsencode(to)) if fault]
-    for it in files.walk(os.fsencode(to)):
+    found = [f"{archive.shown(path)}: {fault}" for path, fault in archive.write(blocks, os.fsencode(to)) if fault]
+    for it in archive.walk(os.fsencode(to)):
         if it.content != (folder / os.fsdecode(it.path)).read_bytes():
-            found.append(f"{files.shown(it.path)}: it differs from that of {folder}")
+            found.append(f"{archive.shown(it.path)}: it differs from that of {folder}")
     return found

@@ -9,13 +9,14 @@ from __future__ import annotations
 import pathlib
 from collections import Counter, deque
 from collections.abc import Iterable, Iterator, Mapping
+from itertools import takewhile
 from typing import NamedTuple
 
 from lks import journal
 from lks.fields import whole
 from lks.journal import OPEN, Record
+from lks.plan import Plan
 from lks.report import NOTES
-from lks.script import Plan
 from peer import follow, log
 
 # The events of steps, with the values behind the peer's own number.
@@ -23,9 +24,9 @@ STEPS = {"open": ["au"], "check": [], "work": ["peer", "poll"], "expire": ["peer
 STEPS |= dict.fromkeys(("outer", "shut", "tally", "nudge", "give-up"), ["poll"])
 # What notes call a record, where it isn't the record's own name.
 NOTED = {"pollopened": "opened", "votein": "vote-in", "repairbad": "repair-bad", "outeropened": "outer"}
-# Behind so many later messages one is forgotten. In the networks of docs/RUNNING.md that is after more than three
-# minutes, and a link that ended is away for one at most.
-MOST_KNOWN = 20_000
+# After so many looks a message is forgotten. In a network that is after four minutes, and a link that ended is away for one
+# at most. By looks and not by messages: so a long run holds what a short one does.
+MOST_LOOKS = 120
 
 # What was told, when and by whom: the peer of a daemon, or 0 for the links.
 Line = NamedTuple("Line", [("time", str), ("own", int), ("values", dict[str, str])])
@@ -92,18 +93,24 @@ class Messages:
 
     def __init__(self) -> None:
         self.count = 0
+        # how many were sent before each of the latest looks
+        self.looks = deque([0] * MOST_LOOKS, MOST_LOOKS)
         # those that wait, by keys in the order in which their last one was sent; and the last one of each key that came
         self.waiting: dict[Key, list[int]] = {}
         self.came: dict[Key, int] = {}
 
     def send(self, key: Key) -> None:
         """One more was sent."""
-        oldest = self.count - MOST_KNOWN
-        self.waiting[key] = [it for it in self.waiting.pop(key, []) if it > oldest] + [self.count]
+        self.waiting[key] = [it for it in self.waiting.pop(key, []) if it >= self.looks[0]] + [self.count]
         self.count += 1
-        first = next(iter(self.waiting))
-        if self.waiting[first][-1] <= oldest:
-            del self.waiting[first]
+
+    def look(self) -> None:
+        """One look more: those of before all that are known are forgotten."""
+        self.looks.append(self.count)
+        for key in list(takewhile(lambda it: self.waiting[it][-1] < self.looks[0], self.waiting)):
+            del self.waiting[key]
+        for key in list(takewhile(lambda it: self.came[it] < self.looks[0], self.came)):
+            del self.came[key]
 
     def take(self, key: Key) -> int | None:
         """The first that waits, which does so no more; or the one that came last; or none, where there is neither."""
@@ -112,8 +119,6 @@ class Messages:
             self.came[key] = numbers.pop(0)
             if not numbers:
                 del self.waiting[key]
-            if len(self.came) > MOST_KNOWN:
-                del self.came[next(iter(self.came))]
         return self.came.get(key)
 
 
@@ -143,6 +148,7 @@ class Teller:
             self._tell(queues[own].popleft())
             if not queues[own]:
                 del queues[own]
+        self.messages.look()
         self.file.flush()
 
     def end(self) -> None:

@@ -10,7 +10,7 @@ import sys
 from collections.abc import Iterable, Iterator, Mapping, Sequence
 from itertools import islice
 
-from lks.picture import Point, picture
+from attack.picture import Point, picture
 
 # So many samples are enough to see what grows.
 ENOUGH = 300

@@ -10,8 +10,9 @@ from dataclasses import dataclass
 from datetime import datetime
 from typing import Any, NamedTuple
 
+from lks.plan import LAST_ID, LAST_NUMBER, Plan
 from lks.play import TOP
-from lks.script import LAST_ID, LAST_NUMBER, Plan, read
+from lks.script import read
 
 # How many messages wait for a link, and how many ticks the clock may leap, where a config doesn't say it.
 QUEUE, LEAP = 256, 100_000

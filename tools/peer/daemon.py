@@ -7,10 +7,10 @@ import contextlib
 import signal
 import time
 
+from files.disk import Damaged
 from lks import journal, message
-from lks.disk import Damaged
 from lks.journal import Record
-from lks.script import LAST_NUMBER
+from lks.plan import LAST_NUMBER
 from peer.config import Config
 from peer.door import Door
 from peer.follow import Follower

@@ -8,11 +8,12 @@ import pathlib
 from collections.abc import Iterator
 from dataclasses import dataclass
 
-from lks import disk, journal
-from lks.disk import Damaged
+from files import disk
+from files.disk import Damaged
+from lks import journal
 from lks.fields import HASHES, BadBytes, Family, Field, PollName, listed, number, whole
 from lks.journal import OPEN, Record
-from lks.script import Plan
+from lks.plan import Plan
 
 # The hashes of votes are most of a journal, and nothing here asks for them.
 _COUNT = number(2, 512)

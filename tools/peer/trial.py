@@ -12,7 +12,7 @@ import time
 from collections.abc import Callable, Iterator, Mapping, Sequence
 from datetime import UTC, datetime
 
-from lks import disk
+from files import disk
 from lks.journal import Record
 from lks.play import TOP, Failed
 from lks.script import Script, rules_words

@@ -7,12 +7,12 @@ import unittest
 from collections.abc import Callable
 from typing import Any
 
+from attack.strategies import Faithful, Forger, Known
 from lks import hashes, journal, message, play, report, script
 from lks.fields import PollName, whole
-from lks.strategies import Faithful, Forger, Known
 from lks.tests.at_random import Scripts
-from lks.tests.commands import tool
-from lks.tests.side_by_side import long
+from testing.commands import tool
+from testing.side_by_side import long
 
 # How many scripts of each kind are compared, and what they are made of; bin/check-tools sets both.
 COUNT, SEED = 200, 1

@@ -10,7 +10,17 @@ import subprocess
 import time
 import unittest
 
-from lks.tests import side_by_side
+from testing import side_by_side
+
+
+WHYS = {
+    "dies": "its process ended with -9, and said nothing\n",
+    "exits": "its process ended with 7, and said nothing\n",
+    "fails": "AssertionError: 1 != 2\n\nIt wrote:\nsaid by a program\nsaid by the test\n",
+    "hangs": "it hangs here\n\nIt wrote:\ncleaned up\n",
+    "subtests": "AssertionError: 2 != 1\n",
+    "unexpected": "it passes, though it was expected to fail\n",
+}
 
 
 def cases() -> unittest.TestSuite:
@@ -53,16 +63,6 @@ def cases() -> unittest.TestSuite:
     return unittest.TestLoader().loadTestsFromTestCase(Cases)
 
 
-WHYS = {
-    "dies": "its process ended with -9, and said nothing\n",
-    "exits": "its process ended with 7, and said nothing\n",
-    "fails": "AssertionError: 1 != 2\n\nIt wrote:\nsaid by a program\nsaid by the test\n",
-    "hangs": "it hangs here\n\nIt wrote:\ncleaned up\n",
-    "subtests": "AssertionError: 2 != 1\n",
-    "unexpected": "it passes, though it was expected to fail\n",
-}
-
-
 class SideBySide(unittest.TestCase):
     def test_cases(self) -> None:
         begun = time.monotonic()
@@ -70,7 +70,7 @@ class SideBySide(unittest.TestCase):
             self.assertEqual(side_by_side.run(cases(), 3, 2), 1)
         # nobody waited for what a test left behind
         self.assertLess(time.monotonic() - begun, 15)
-        lines, *failures = told.getvalue().split("\nlks.tests.test_side_by_side.")
+        lines, *failures = told.getvalue().split("\ntesting.tests.test_side_by_side.")
         words = [(line.split()[0], line.split("test_")[-1]) for line in lines.splitlines()]
         others = {"is_skipped": "skipped", "passes": "ok"}
         self.assertEqual(words, [(others.get(name, "FAILED"), name) for name in sorted([*WHYS, *others])])

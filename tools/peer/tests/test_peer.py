@@ -13,12 +13,11 @@ import unittest
 from collections.abc import Awaitable, Iterator
 from unittest import mock
 
-from lks import disk, files, journal, message, script
+from files import archive, disk
+from lks import journal, message, script
 from lks.fields import PollName
 from lks.journal import Asked, Closed, Committed, Deposit, Ended, Joined, Overdue, PollOpened, RepairBad, Replaced, Shut, VoteIn
 from lks.journal import Limits, Voted
-from lks.tests.commands import tool
-from lks.tests.side_by_side import long
 from lks.tests.test_tools import EXAMPLES, NONCE
 from peer import config, links, node, trial
 from peer.daemon import Daemon, Stop
@@ -29,6 +28,8 @@ from peer.log import Log, word
 from peer.node import Ended as NodeEnded
 from peer.node import Node, Reply, Send, frame, status_of
 from peer.schedule import Schedule
+from testing.commands import tool
+from testing.side_by_side import long
 
 GIVEN = (EXAMPLES / "peer/peer.toml").read_text()
 FROM = trial.TOP / "bin/from"
@@ -433,7 +434,7 @@ class TwoPeers(unittest.TestCase):
         self.two.start()
         self.one.start()
         trial.until("a poll agrees", lambda: self.one.events("closed", outcome="agreed"))
-        self.assertEqual(files.copy_of(self.one.journal.read_bytes(), 1), (1, trial.GOOD))
+        self.assertEqual(archive.copy_of(self.one.journal.read_bytes(), 1), (1, trial.GOOD))
         self.assertEqual([it.stop() for it in (self.one, self.two)], [0, 0])
         self.assertEqual((len(self.one.events("stopped")), len(self.one.events("ended", status=0))), (1, 1))
         # each reply with records tells where the closed gate then stood

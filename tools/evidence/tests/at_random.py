@@ -7,8 +7,8 @@ from dataclasses import dataclass, field, fields, replace
 from random import Random
 from typing import Any
 
+from evidence.checker import Checker, line_of
 from lks import journal, play, script
-from lks.evidence import Checker, line_of
 from lks.fields import PollName
 from lks.journal import RECORDS, Committed, Deposit, Joined, Journals, PollOpened, Replaced, Shut, VoteIn
 

@@ -14,9 +14,9 @@ from collections.abc import Iterator
 from typing import Any
 from unittest import mock
 
-from lks import disk, files, hashes, journal, message, play, report, script
+from files import archive, disk
+from lks import hashes, journal, message, play, report, script
 from lks.journal import Closed, Deposit, Limits, PollOpened, Replaced, Shut, VoteIn
-from lks.tests.commands import tool
 from lks.tests.test_tools import EXAMPLES, NONCE, SCRIPTS
 from net import chaos, doctor, judging, peers, running, telling
 from net.liars import NAMES, Liars
@@ -28,6 +28,7 @@ from net.wires import Wires
 from peer import trial
 from peer.log import mark
 from peer.node import frame
+from testing.commands import tool
 
 PLAN = script.read((EXAMPLES / "net/plan.lockss").read_bytes())
 COPY = tuple(PLAN.plan.peers[2].copies[1])
@@ -183,6 +184,16 @@ class Links(unittest.IsolatedAsyncioTestCase):
             self.assertEqual(len([it for it in told.mock_calls if it.args[0] == "reached"]), 3, name)
             self.assertTrue(bool(sent) != (name == "silent") or name == "mixed", name)
 
+    async def test_votes_are_forgotten(self) -> None:
+        liars = Liars(PLAN.plan, "forger", 1, {it: pathlib.Path(f"/{it}") for it in PLAN.plan.peers}, mock.Mock())
+        liars.hear(1, 7, message.write(message.PollProof(3, NONCE, b"\1", hash="sha256")))
+        self.assertGreater(hashes._vote.cache_info().currsize, 0)
+        liars.links.clear()
+        going = asyncio.create_task(liars.run())
+        await self.until(lambda: hashes._vote.cache_info().currsize == 0)
+        going.cancel()
+        await asyncio.gather(going, return_exceptions=True)
+
 
 class Telling(unittest.TestCase):
     def test_notes(self) -> None:
@@ -225,20 +236,26 @@ class Telling(unittest.TestCase):
         self.assertEqual(counts, {"polls": 1, "replaced": 1, "split": 1, "alarms": 1})
 
     def test_messages(self) -> None:
-        found, key = Messages(), (1, 2, "aa")
+        with mock.patch.object(telling, "MOST_LOOKS", 3):
+            found, key = Messages(), (1, 2, "aa")
         self.assertIsNone(found.take(key))
         found.send(key)
         found.send(key)
         self.assertEqual([found.take(key) for _ in range(3)], [0, 1, 1])
-        with mock.patch.object(telling, "MOST_KNOWN", 3):
-            for to in (3, 4, 3, 5, 6, 4):
-                found.send((1, to, "bb"))
-                found.take((1, 5, "bb"))
-            self.assertEqual(found.waiting, {(1, 6, "bb"): [6], (1, 4, "bb"): [7]})
-            for to in range(7, 12):
-                found.send((1, to, "bb"))
-                found.take((1, to, "bb"))
-        self.assertEqual((found.waiting, len(found.came)), ({}, 3))
+        for to in (3, 4, 3, 5, 6, 4):
+            found.send((1, to, "bb"))
+            found.take((1, 5, "bb"))
+            found.look()
+        # as old as the oldest look that is known, or younger
+        self.assertEqual((found.waiting, found.came), ({(1, 6, "bb"): [6], (1, 4, "bb"): [7]}, {}))
+        for to in range(7, 12):
+            found.send((1, to, "bb"))
+            found.take((1, to, "bb"))
+            found.look()
+        self.assertEqual((found.waiting, list(found.came.values())), ({}, [11, 12]))
+        for _ in range(3):
+            found.look()
+        self.assertEqual((found.came, found.count), ({}, 13))
 
     def test_tail(self) -> None:
         with folder() as top:
@@ -340,7 +357,7 @@ class ShortRun(unittest.TestCase):
             for number, peer in found.peers.items():
                 records = [it for it in peer.records() if not isinstance(it, Deposit)]
                 self.assertEqual([note.text for event, note in told.notes() if event.peer == number], list(map(note_of, records)))
-                self.assertEqual(files.copy_of(peer.journal.read_bytes(), 1)[1], list(PLAN.plan.published(1)))
+                self.assertEqual(archive.copy_of(peer.journal.read_bytes(), 1)[1], list(PLAN.plan.published(1)))
             self.assertIn("bin/check-evidence: evidence yes", lines[-1])
 
 

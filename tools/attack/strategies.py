@@ -1,4 +1,4 @@
-"""Strategies for attacks on polls, played by lks.attack.
+"""Strategies for attacks on polls, played by attack.course.
 
 A strategy is told what its peers receive, and nothing else (`lks.play.Told`). From the start it knows what anybody may know:
 the AU, the rules, and who is there. SOSP is Maniatis et al., SOSP 2003; TOCS the same, ACM TOCS 23(1), 2005; USENIX Giuli et
@@ -20,8 +20,9 @@ from lks.script import Word
 Words = Sequence[Word]
 # No good block of a scene has this length.
 BAD = b"\xff" * 15
-# So many polls are remembered, and so many votes for a poller, the latest ones.
-MOST_KNOWN = 1_000
+# So many polls are remembered, the latest ones, twice as many as 32 peers have open at a time on 4 AUs; and so many votes for
+# a poller.
+MOST_POLLS, MOST_VOTES = 256, 1_000
 # So many sessions a peer has open at a time (docs/PROTOCOL.md, "Voting in polls of others").
 SESSIONS = 16
 
@@ -116,7 +117,7 @@ class League(Nominations):
         for it in what.received:
             poll = PollName(it.sender, it.message.number)
             circle = self.circles.setdefault(poll, [])
-            if len(self.circles) > MOST_KNOWN:
+            if len(self.circles) > MOST_POLLS:
                 oldest = next(iter(self.circles))
                 del self.circles[oldest]
                 self.begun.discard(oldest)
@@ -202,7 +203,7 @@ class Credit(Attrition):
         for it in what.received:
             yield from self.answer(it)
             if isinstance(it.message, PollProof):
-                self.voters.setdefault(it.sender, deque(maxlen=MOST_KNOWN)).append(it.receiver)
+                self.voters.setdefault(it.sender, deque(maxlen=MOST_VOTES)).append(it.receiver)
         yield from super().act(what)
 
 

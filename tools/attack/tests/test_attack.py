@@ -10,20 +10,21 @@ from collections.abc import Iterator, Sequence
 from dataclasses import replace
 from unittest import mock
 
-from lks import attack, journal, message, outcome, picture, play, report, script, strategies
-from lks.tests.commands import tool
-from lks.tests.side_by_side import long
+from attack import course, outcome, picture, strategies
+from lks import journal, message, play, report, script
 from lks.tests.test_tools import EXAMPLES, NONCE
+from testing.commands import tool
+from testing.side_by_side import long
 
-GIVEN = attack.settings(peers=12, corrupt=5, refs=8, rounds=2)
-GOOD = attack.good_blocks(GIVEN)
+GIVEN = course.settings(peers=12, corrupt=5, refs=8, rounds=2)
+GOOD = course.good_blocks(GIVEN)
 OWN, HONEST = (8, 9, 10, 11, 12), (1, 2, 3, 4, 5, 6, 7)
-PLAN = attack.scene(GIVEN, 1).plan
+PLAN = course.scene(GIVEN, 1).plan
 
 
 def strategy(name: str) -> strategies.Faithful:
     """A strategy of five peers."""
-    return strategies.STRATEGIES[name](strategies.Known(OWN, HONEST, attack.AU, GOOD, PLAN.rules, attack.draws_of(1, 2)))
+    return strategies.STRATEGIES[name](strategies.Known(OWN, HONEST, course.AU, GOOD, PLAN.rules, course.draws_of(1, 2)))
 
 
 def hear(of: strategies.Faithful, said: message.Message, to: Sequence[int] = OWN, tick: int = 0) -> list[strategies.Words]:
@@ -35,9 +36,9 @@ def hear(of: strategies.Faithful, said: message.Message, to: Sequence[int] = OWN
 def votes(name: str, circle: int) -> list[tuple[bytes, ...]]:
     """For which blocks so many peers of a strategy vote, of which two more are invited once the first votes are given."""
     of, number = strategy(name), 3
-    hear(of, message.Poll(number, attack.AU), OWN[:circle])
+    hear(of, message.Poll(number, course.AU), OWN[:circle])
     said = hear(of, message.PollProof(number, NONCE, b"\1"), OWN[:circle])
-    hear(of, message.Poll(number, attack.AU), OWN[circle:])
+    hear(of, message.Poll(number, course.AU), OWN[circle:])
     asked = hear(of, message.RepairRequest(number, 0), OWN[:1])
     given = [words[-1] for words in said if words[1 : 3] == (words[1], "vote")]
     assert asked == [("say", OWN[0], "repair", 1, number, 0, [given[0][0]])]
@@ -51,18 +52,18 @@ def example(name: str) -> play.Run:
 
 class Scenes(unittest.TestCase):
     def test_scene(self) -> None:
-        plan = script.read(attack.scene(attack.settings(damage=50), 7).text().encode()).plan
+        plan = script.read(course.scene(course.settings(damage=50), 7).text().encode()).plan
         self.assertEqual([it.id for it in plan.honest()], list(range(1, 13)))
         self.assertEqual({(len(it.refs), len(it.friends)) for it in plan.honest()}, {(10, 2)})
         self.assertTrue(all(friend <= 12 for it in plan.honest() for friend in it.friends))
         bad = [sum(one != other for one, other in zip(it.copies[1], GOOD)) for it in plan.honest()]
         self.assertEqual((set(bad), 3 <= sum(bad) <= 9), ({0, 1}, True))
-        texts = {attack.scene(attack.settings(), seed).text() for seed in (1, 1, 2)}
+        texts = {course.scene(course.settings(), seed).text() for seed in (1, 1, 2)}
         self.assertEqual(len(texts), 2)
 
     def test_settings(self) -> None:
         for changed in ({"corrupt": 16}, {"peers": 33}, {"damage": 101}, {"liars": 1}):
-            self.assertRaises(ValueError, attack.settings, **changed)
+            self.assertRaises(ValueError, course.settings, **changed)
 
 
 class Strategies(unittest.TestCase):
@@ -77,10 +78,10 @@ class Strategies(unittest.TestCase):
 
     def test_memory(self) -> None:
         league, credit = strategy("stealth"), strategy("credit")
-        with mock.patch.object(strategies, "MOST_KNOWN", 3):
+        with mock.patch.multiple(strategies, MOST_POLLS=3, MOST_VOTES=3):
             for number in range(9):
                 for of in (league, credit):
-                    hear(of, message.Poll(number, attack.AU))
+                    hear(of, message.Poll(number, course.AU))
                     hear(of, message.PollProof(number, NONCE, b"\1"))
         self.assertEqual([it.number for it in league.circles], [6, 7, 8])
         self.assertEqual((len(league.begun), len(credit.voters[1])), (3, 3))
@@ -98,7 +99,7 @@ class Strategies(unittest.TestCase):
         self.assertEqual([(it.count(1), it.count(2)) for it in waves], [(16, 16), (0, 0), (4, 16), (16, 16)])
         self.assertEqual(len(waves[0]), 16 * len(HONEST))
         said = hear(strategy("credit"), message.PollProof(1, NONCE, b"\1"), OWN[:1], 1)
-        self.assertEqual(said[2:], [("say", OWN[0], "poll", 1, number, attack.AU) for number in range(1, 17)])
+        self.assertEqual(said[2:], [("say", OWN[0], "poll", 1, number, course.AU) for number in range(1, 17)])
 
     def test_others(self) -> None:
         self.assertEqual(hear(strategy("silent"), message.Poll(1, 1)), [])

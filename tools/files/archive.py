@@ -13,12 +13,14 @@ from collections.abc import Iterable, Iterator, Sequence
 from contextlib import suppress
 from typing import NamedTuple
 
-from lks import disk, journal
-from lks.disk import Damaged
+from files import disk
+from files.disk import Damaged
+from lks import journal
 from lks.fields import BE16, BE32, HASH, BadBytes, group, listed, sized, whole
 from lks.hashes import digest
 from lks.journal import CLOSED, OPEN, Deposit, Replaced, of_kind
-from lks.script import MOST_BLOCK_BYTES, MOST_BYTES, BadLine, spelled
+from lks.plan import MOST_BLOCK_BYTES
+from lks.script import MOST_BYTES, BadLine, spelled
 
 MOST_BLOCKS, MOST_AUS = 512, 4
 # How many bytes of a script are left for its other lines, and how long the path of a file may be.

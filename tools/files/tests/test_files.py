@@ -9,10 +9,11 @@ import tempfile
 import unittest
 from random import Random
 
-from lks import files, hashes, journal, play, script
-from lks.files import Entry, File
-from lks.tests.commands import tool
-from lks.tests.side_by_side import long
+from files import archive
+from files.archive import Entry, File
+from lks import hashes, journal, play, script
+from testing.commands import tool
+from testing.side_by_side import long
 
 BLOCK = 16_384
 NAMES = (b"plain %d", b"two  words %d", b"line\nfeed %d", b"\xff\xfe %d", b"a folder\n\xc3/of its own/%d", b"\xe2\x82\xac %d")
@@ -42,8 +43,8 @@ def entry(path: bytes, content: bytes, first: int, **more: object) -> Entry:
 
 def copy(entries: list[Entry], *blocks: bytes) -> list[bytes]:
     """A manifest of one block, whatever it says, and blocks behind it."""
-    body = files.BODY.write(files.ENTRIES.write(entries))
-    return [files.TITLE + hashes.digest("sha256", body) + body, *blocks]
+    body = archive.BODY.write(archive.ENTRIES.write(entries))
+    return [archive.TITLE + hashes.digest("sha256", body) + body, *blocks]
 
 
 class Case(unittest.TestCase):
@@ -75,14 +76,14 @@ class RoundTrip(Case):
         status, lines = self.au("import", os.path.join(self.top, b"from"), "--peers", "1,2,3,4")
         self.assertEqual(status, 0)
         aus, copies = lines.splitlines()[:1], lines.splitlines()[1:]
-        blocks = files.blocks_of([File(path, wanted[path]) for path in sorted(wanted)])
-        entries = {it.path: it for it in files.entries_of(blocks)}
+        blocks = archive.blocks_of([File(path, wanted[path]) for path in sorted(wanted)])
+        entries = {it.path: it for it in archive.entries_of(blocks)}
         # a block of the manifest, the last of the longest files, and a file of one whole block
         self.assertEqual(copies[0], f"copy 1 1 {script.spelled(blocks)}")
         one, two = (entries[NAMES[place] % (6 * row + place)] for row, place in ((4, 3), (1, 2)))
         damage = [f"damage 1 1 {block} 00" for block in (0, one.first + 2, two.first)]
         self.play([*aus, *(f"peer {peer} honest 0{peer} 01" for peer in (1, 2, 3, 4)), "refs 1 2 3 4", *copies, *damage])
-        names = [files.shown(it.path) for it in (one, two)]
+        names = [archive.shown(it.path) for it in (one, two)]
         for version, bad in ((0, ["the manifest of AU 1 at version 0"]), (1, sorted(names))):
             to = self.to + b"%d" % version
             status, told = self.au("export", self.top + b"/journals", "1", to, "--version", str(version))
@@ -107,12 +108,12 @@ class RoundTrip(Case):
     def test_many_aus(self) -> None:
         wanted = {b"%03d" % place: bytes([place % 256]) * (BLOCK + place) for place in range(520)}
         wanted[b"zero"] = b""
-        units = files.split([File(*it) for it in sorted(wanted.items())], 2**27)
+        units = archive.split([File(*it) for it in sorted(wanted.items())], 2**27)
         self.assertEqual(len(units), 3)
         for unit in units:
-            blocks = files.blocks_of(unit)
+            blocks = archive.blocks_of(unit)
             self.assertLessEqual(len(blocks), 512)
-            self.assertEqual(files.write(blocks, self.to), [(file.path, "") for file in unit])
+            self.assertEqual(archive.write(blocks, self.to), [(file.path, "") for file in unit])
             self.assertEqual(written(self.to), dict(unit))
             self.to += b"+"
 
@@ -129,8 +130,8 @@ class Limits(Case):
             ([File(b"w", random), File(b"x", random)], 3 * BLOCK),
         ):
             with self.assertRaisesRegex(ValueError, "^'x' doesn't fit: a plan has 4 AUs of 512 blocks"):
-                files.split(more, most)
-            files.split(more[:-1], most)
+                archive.split(more, most)
+            archive.split(more[:-1], most)
 
     def test_bad_words(self) -> None:
         os.makedirs(self.to)
@@ -141,7 +142,7 @@ class Limits(Case):
         for words, status in (([held, "2", b"x"], 3), ([held, "1", b"x", "--version", "1"], 3), ([b"none", "1", b"x"], 3)):
             self.assertEqual(self.au("export", *words)[0], status)
         self.assertEqual(self.au("export", held, "1", self.to)[0], 1)
-        self.put(b"held", journal.write_frames([(journal.Deposit(1, tuple(files.blocks_of([]))),)]))
+        self.put(b"held", journal.write_frames([(journal.Deposit(1, tuple(archive.blocks_of([]))),)]))
         self.assertEqual(self.au("export", held, "1", self.to)[0], 2)
         told = self.au("export", held, "1", self.top + b"/new")
         self.assertEqual(told, (0, "AU 1 at version 0: 0 files are good, 0 differ\n"))
@@ -153,7 +154,7 @@ class Hostile(Case):
     """A manifest is of whoever won the poll."""
 
     def check(self, entries: list[Entry], good: list[bytes], *blocks: bytes) -> None:
-        told = files.write(copy(entries, *blocks), self.to)
+        told = archive.write(copy(entries, *blocks), self.to)
         self.assertEqual([path for path, fault in told if not fault], good)
         self.assertEqual(sorted(written(self.to)), sorted(good))
         self.assertEqual(os.listdir(self.top), [b"to"])
@@ -161,7 +162,7 @@ class Hostile(Case):
     def test_paths(self) -> None:
         outside = [b"/abs", b"../up", b"a/../../up", b"..", b".", b"", b"a//b", b"a/", b"nul\0", b"./c", b"a/.", b"/", b"a/.."]
         for path in outside:
-            self.assertEqual(files.faults_of([b""], [entry(path, b"", 1)]), ["its path leads to no place in the folder"], path)
+            self.assertEqual(archive.faults_of([b""], [entry(path, b"", 1)]), ["its path leads to no place in the folder"], path)
             self.check([entry(path, b"", 1), entry(b"ok", b"", 1)], [b"ok"])
             os.unlink(os.path.join(self.to, b"ok"))
         names = [b"...", b"a\\..\\b", b"-", b"~", b"ok"]
@@ -189,10 +190,10 @@ class Hostile(Case):
     def test_manifests(self) -> None:
         whole = copy([entry(b"x", b"A", 1)], b"A")
         for at in range(len(whole[0])):
-            with self.assertRaises(files.NoManifest):
-                files.entries_of([whole[0][:at] + bytes([whole[0][at] ^ 1]) + whole[0][at + 1 :], b"A"])
-            with self.assertRaises(files.NoManifest):
-                files.entries_of([whole[0][:at], b"A"])
+            with self.assertRaises(archive.NoManifest):
+                archive.entries_of([whole[0][:at] + bytes([whole[0][at] ^ 1]) + whole[0][at + 1 :], b"A"])
+            with self.assertRaises(archive.NoManifest):
+                archive.entries_of([whole[0][:at], b"A"])
 
     def test_links(self) -> None:
         os.makedirs(self.to)
@@ -200,10 +201,10 @@ class Hostile(Case):
         os.symlink(self.top + b"/out", self.to + b"/link")
         os.symlink(self.top + b"/out/new", self.to + b"/file")
         with self.assertRaisesRegex(ValueError, "isn't empty"):
-            files.write(copy([entry(b"link/x", b"", 1)]), self.to)
+            archive.write(copy([entry(b"link/x", b"", 1)]), self.to)
         top = os.open(self.to, os.O_RDONLY)
         self.addCleanup(os.close, top)
         for path in (b"link/x", b"file", b"link"):
             with self.assertRaises(OSError):
-                files._put(top, File(path, b"A"))
+                archive._put(top, File(path, b"A"))
         self.assertEqual(written(self.top + b"/out"), {})

@@ -1,4 +1,4 @@
-"""What came of a run of lks.attack: it is read anew, checked, and summed up."""
+"""What came of a run of attack.course: it is read anew, checked, and summed up."""
 
 from __future__ import annotations
 
@@ -7,11 +7,11 @@ from collections import Counter
 from collections.abc import Iterator
 from dataclasses import dataclass
 
+from attack.course import Course, Settings, good_blocks
 from lks import journal, play, report
-from lks.attack import Course, Settings, good_blocks
 from lks.fields import PollName
 from lks.journal import Committed, PollOpened, Replaced, VoteIn, of_kind, only, versions
-from lks.script import MOST_EVENTS, Plan
+from lks.plan import MOST_EVENTS, Plan
 
 OUTCOMES = ("agreed", "inquorate", "split", "no-supplier", "running")
 MEASURES = ("rounds", "events", *OUTCOMES, "alarms", "damaged", "healed", "turned bad", "bad at the end", "rounds until healed")

@@ -8,13 +8,14 @@ import unittest
 from dataclasses import replace
 from typing import Any
 
-from lks import disk, gather, hashes, journal, play, script
-from lks.evidence import Checker, line_of
+from evidence.checker import Checker, line_of
+from evidence.tests.at_random import Compared, compare
+from files import disk, gather
+from lks import hashes, journal, play, script
 from lks.fields import PollName
 from lks.journal import Committed, Deposit, Joined, Limits, PollOpened, Record, Replaced, Shut, VoteIn
-from lks.tests.commands import tool
-from lks.tests.evidence_at_random import Compared, compare
-from lks.tests.side_by_side import long
+from testing.commands import tool
+from testing.side_by_side import long
 
 EXAMPLES = play.TOP / "examples"
 NONCE, OTHER = bytes(32), bytes(range(32))

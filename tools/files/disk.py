@@ -7,7 +7,7 @@ from typing import NamedTuple
 
 from lks.fields import BadBytes, whole
 from lks.journal import BATCH, OPEN, Batch, Deposit, Record
-from lks.script import Plan
+from lks.plan import Plan
 
 # What an append of an event writes behind the closed gate has at most so many bytes.
 MOST_APPENDED = 32_768

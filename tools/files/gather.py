@@ -7,10 +7,11 @@ import re
 from collections.abc import Iterable, Mapping
 from dataclasses import dataclass
 
-from lks import disk
-from lks.disk import Disk
+from files import disk
+from files.disk import Disk
 from lks.journal import PollOpened, Record, Replaced, VoteIn, of_kind
-from lks.script import BEHIND, MOST_BYTES, STEP_LINES, Plan, Script, judge_lines
+from lks.plan import Plan
+from lks.script import BEHIND, MOST_BYTES, STEP_LINES, Script, judge_lines
 
 # No rule of evidence asks what a plan's copies are: how many blocks an AU has stands in its own line. They would take most of
 # the room.

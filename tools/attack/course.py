@@ -10,11 +10,12 @@ from collections import Counter
 from collections.abc import Iterable
 from dataclasses import replace
 
+from attack.strategies import STRATEGIES, Known, Words
 from lks import journal, message, play, report
 from lks.fields import PollName
 from lks.hashes import Draws
-from lks.script import BOUNDS, MOST_EVENTS, Script, rules_words
-from lks.strategies import STRATEGIES, Known, Words
+from lks.plan import MOST_EVENTS
+from lks.script import BOUNDS, Script, rules_words
 
 AU, LABEL = 1, 7
 # What a scene is made of: default, least, most, and what it is.
