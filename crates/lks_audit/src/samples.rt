@@ -21,8 +21,7 @@ const OUTER_CIRCLE: u8 = 2;
 
 const FRIENDS: u8 = 4;
 
-/// At most `most` members of a list, by the draw of this label and number. A list that no plan has counts as one that is
-/// refused memory.
+/// At most `most` members of a list, by the draw of this label and number.
 fn pick(
     alloc: Global,
     own: &Station,
@@ -33,9 +32,6 @@ fn pick(
 ) -> Result<Vec<PeerId>, OutOfMemory>
     ensures { IfOk result (λ v. v.items ≡ picked_by (drawn_from own.now.seed label number) list.now most) }
 {
-    if list.len() > u32::MAX as usize {
-        return Err(OutOfMemory);
-    }
     let mut draws = Draws::new(&own.seed, label, number);
     match draws.pick(alloc, list, most as usize) {
         Ok(members) => Ok(members),

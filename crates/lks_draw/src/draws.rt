@@ -45,22 +45,31 @@ impl Draws {
     }
 
     /// A number below `n`: the next word times `n`, shifted right by 32 bits.
-    #[tactic(auto, unfolding(crate::specs::Words::words_of))]
     pub fn next(&mut self, n: u32) -> u32
         requires { 1 ≤ n }
         ensures word { result ≡ next_of self.old n }
         ensures below { result < n }
         ensures moved { self.new ≡ moved self.old 1 }
     {
+        self.next_place(n as usize) as u32
+    }
+
+    // A place in a list of this length, drawn as `next` draws a number.
+    #[tactic(auto, unfolding(crate::specs::Words::words_of))]
+    fn next_place(&mut self, len: usize) -> usize
+        requires { 1 ≤ len }
+        ensures word { result ≡ next_of self.old len }
+        ensures below { result < len }
+        ensures moved { self.new ≡ moved self.old 1 }
+    {
         let word = self.words.next_word();
-        ((u64::from(word) * u64::from(n)) >> 32) as u32
+        ((u128::from(word) * len as u128) >> 32) as usize
     }
 
     /// At most `n` members of a list: a list of at most `n` is taken whole, in its order and without a word. Else `n`
     /// times the member at the place `next(length)` is taken out, and the rest keeps its order.
     #[tactic(auto, unfolding(crate::specs::Picks::picked, crate::specs::Picks::words_taken))]
     pub fn pick(&mut self, alloc: Global, list: &[u16], n: usize) -> Result<Vec<u16>, OutOfMemory>
-        requires { length list.now < 2 ^ 32 }
         ensures picked { IfOk result (λ v. v.items ≡ picked_by self.old list.now n) }
         ensures law { IfOk result (λ v. IsPickOf list.now n v.items) }
         ensures moved { OnOk result (self.new ≡ moved self.old (words_taken list.now n)) }
@@ -78,14 +87,13 @@ impl Draws {
     // Takes `n` members out of `rest`, and puts them where there is room.
     fn take_out(&mut self, rest: &mut Vec<u16>, members: &mut Vec<u16>, n: usize)
         requires enough { n ≤ vec_len rest.old }
-        requires few { vec_len rest.old < 2 ^ 32 }
         requires room { vec_len members.old + n ≤ vec_capacity members.old }
         ensures members { members.new.items ≡ members.old.items ++ taken (words_of self.old.key) self.old.place rest.old.items n }
         ensures moved { self.new ≡ moved self.old n }
     {
         for _i in 0..n {
-            let at = self.next(rest.len() as u32);
-            put(members, rest.remove(at as usize));
+            let at = self.next_place(rest.len());
+            put(members, rest.remove(at));
         }
     }
 }

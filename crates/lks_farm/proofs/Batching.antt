@@ -1,11 +1,7 @@
 -- Jobs and their results.
-use Rattle.std.proofs.Common.{◌≡◌, ◌∙◌, ◌<◌, ℕ, suc, List, [], ◌∷◌, ◌++◌, ap, refl, sym, subst, append_assoc, length, map, arith}
-use Rattle.std.specs.Prelude.{Ok, Result, slice_index_or}
-use Rattle.std.specs.List.{flat_map, AllZip}
+use Rattle.std.proofs.Common.{◌≡◌, ◌∙◌, ℕ, List, [], ◌∷◌, ◌++◌, ap, refl, sym, subst, append_assoc, length, map, arith}
 use Rattle.std.proofs.lemmas.List.{append-nil, map-append}
 use Rattle.std.proofs.lemmas.List.Elements.{All-cons, All-head, All-nil, All-tail}
-use Rattle.std.proofs.lemmas.List.Concat.{flat_map-append}
-use Rattle.lks_base.specs.declared.memory.OutOfMemory.{OutOfMemory}
 use Rattle.lks_blocks.specs.Block.{AllOf}
 use Rattle.lks_farm.specs.Batches.{asked_done, AreDone, AreDoneOf, AreOf, EachAskedIsOf}
 use Rattle.lks_farm.specs.Entries.{asked_of}

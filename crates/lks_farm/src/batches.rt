@@ -1,6 +1,6 @@
 //! Jobs that are hashed side by side and come back together.
 
-ghost use Rattle.std.specs.Prelude.{◌≡◌, IfOk, map};
+ghost use Rattle.std.specs.Prelude.{◌≡◌, IfOk, OnOk, map};
 ghost use Rattle.lks_blocks.specs.Block.{AllOf};
 ghost use Rattle.lks_farm.specs.Batches.{asked_done, AreDone, AreDoneOf, AreOf, EachAskedIsOf};
 ghost use Rattle.lks_farm.specs.Entries.{asked_of};
@@ -143,7 +143,27 @@ fn hash_from<N: Batch, G: Gate, R: Wait>(
     unreachable!()
 }
 
-/// Hashes jobs on so many threads, each of which takes the next job whenever it has hashed one.
+/// Hashes the jobs that are left in the pile.
+fn hash_rest<N: Batch, G: Gate>(
+    alloc: Global,
+    pool: &BlockPool,
+    gate: &G,
+    pile: &mut Pile<N>,
+) -> Result<(), OutOfMemory>
+    requires { EachAskedIsOf pool.now N.asked }
+    ensures { OnOk result (pile.new ≡ 0) }
+{
+    for _turn in 0..pile.left() {
+        let Some((place, job)) = pile.take() else {
+            return Ok(());
+        };
+        let done = hash_job(alloc, pool, gate, job)?;
+        pile.put(place, done);
+    }
+    Ok(())
+}
+
+/// Hashes jobs on so many threads, each of which takes the next job whenever it has hashed one. What they leave is hashed here.
 fn hash_side_by_side<N: Batch + Send + Sync, G: Gate, R: Threads + Wait + Sync>(
     alloc: Global,
     rt: &R,
@@ -161,7 +181,9 @@ fn hash_side_by_side<N: Batch + Send + Sync, G: Gate, R: Threads + Wait + Sync>(
         requires { EachAskedIsOf pool.now N.asked }
     { hash_from(alloc, rt, pool, gate, &pile) };
     let _ended = thread::map_indices(rt, alloc, threads, &hash)?;
-    pile.into_inner().into_results(alloc)
+    let mut pile = pile.into_inner();
+    hash_rest(alloc, pool, gate, &mut pile)?;
+    pile.into_results(alloc)
 }
 
 /// Hashes these jobs, each once the gate let it begin, and gives the results in the order of the jobs. Several threads hash them

@@ -1,6 +1,6 @@
 //! Plans and journals as text.
 
-ghost use Rattle.std.specs.Prelude.{◌≡◌, ◌<◌, ◌^◌, ◌++◌, [], Ok, List, OnOk, IfOk, length, All};
+ghost use Rattle.std.specs.Prelude.{◌≡◌, ◌<◌, ◌^◌, ◌++◌, [], Ok, List, OnOk, OnErr, IfOk, length, All};
 ghost use Rattle.std.specs.List.{flat_map};
 ghost use Rattle.lks_field.specs.Frames.{frame, AreBodies};
 ghost use Rattle.hex.specs.Hex.{encode_lower, IsBytes};
@@ -84,7 +84,7 @@ fn put_journal(alloc: Global, out: &mut Vec<u8>, journal: &Filed) -> Result<(), 
 }
 
 /// A line for each journal. Without memory some of them may stand behind `out`.
-pub fn put_journals(alloc: Global, out: &mut Vec<u8>, journals: &[Filed]) -> Result<(), AllocError>
+fn put_lines(alloc: Global, out: &mut Vec<u8>, journals: &[Filed]) -> Result<(), AllocError>
     requires { All (λ j. AreBodies j.bodies) journals.now }
     ensures lines { OnOk result (out.new.items ≡ out.old.items ++ flat_map journal_text journals.now) }
     ensures bytes { OnOk result (AreFiles journals.now) }
@@ -93,6 +93,18 @@ pub fn put_journals(alloc: Global, out: &mut Vec<u8>, journals: &[Filed]) -> Res
         put_journal(alloc, out, journal)?;
     }
     Ok(())
+}
+
+/// A line for each journal. Without memory nothing is added to `out`.
+pub fn put_journals(alloc: Global, out: &mut Vec<u8>, journals: &[Filed]) -> Result<(), AllocError>
+    requires { All (λ j. AreBodies j.bodies) journals.now }
+    ensures lines { OnOk result (out.new.items ≡ out.old.items ++ flat_map journal_text journals.now) }
+    ensures bytes { OnOk result (AreFiles journals.now) }
+    ensures same { OnErr result (out.new.items ≡ out.old.items) }
+{
+    let mut text = Vec::new(alloc);
+    put_lines(alloc, &mut text, journals)?;
+    out.extend_from_slice(&text)
 }
 
 /// The lines of the plan, and behind them a line `journal P HEX` for each journal, where `HEX` is its frames and a closed gate
@@ -107,6 +119,6 @@ pub fn print_set(alloc: Global, plan: &Plan, journals: &[Filed]) -> Result<Vec<u
 {
     let mut out = Vec::new(alloc);
     put_plan(alloc, &mut out, plan)?;
-    put_journals(alloc, &mut out, journals)?;
+    put_lines(alloc, &mut out, journals)?;
     Ok(out)
 }

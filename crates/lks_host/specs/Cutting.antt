@@ -5,7 +5,7 @@ use Rattle.lks_base.specs.declared.records.Record.{Record}
 use Rattle.lks_disk.specs.Counts.{Rose, raised}
 use Rattle.lks_disk.specs.Face.{Face}
 use Rattle.lks_host.specs.Bodies.{bodies_of}
-use Rattle.lks_host.specs.Faults.{IsFresh}
+use Rattle.lks_host.specs.Faults.{IsFresh, is_refused}
 use Rattle.lks_host.specs.Hosted.{StandsFor}
 use Rattle.lks_journal.specs.Adding.{HoldsEither}
 use Rattle.lks_host.specs.declared.faults.HostFault.{HostFault}
@@ -39,10 +39,10 @@ pub record HadFuse {D T : Type 0} (f : Face D) (calls choice : ℕ) (old new : H
   pub chosen : f.choice new.journal.disk ≡ choice
   pub burns : OnErr result ((f.burns new.journal.disk ≡ f.burns old.journal.disk) ⊎ (f.burns new.journal.disk ≡ raised (f.burns old.journal.disk)))
 
--- The power was cut, once. It is the same peer, no fuse is set, and at `Ok` the host takes steps again. The count of faults
--- rose where the answer says so, and not at `Ok`, and the answer is never a cut.
+-- The power was cut, once. It is the same peer, no fuse is set, and the host is broken where it was refused, and takes steps
+-- again at `Ok`. The count of faults rose where the answer says so, and not at `Ok`, and the answer is never a cut.
 pub record IsBack {D T : Type 0} (f : Face D) (old new : Host D) (result : Result T HostFault) : Type 0 where
-  pub whole : OnOk result (new.broken ≡ false)
+  pub broken : new.broken ≡ is_refused result
   pub own : new.peer.own ≡ old.peer.own
   pub pool : new.peer.pool ≡ old.peer.pool
   pub cuts : f.cuts new.journal.disk ≡ raised (f.cuts old.journal.disk)

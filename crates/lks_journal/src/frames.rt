@@ -25,7 +25,7 @@ pub fn behind_gate(alloc: Global, body: &[u8]) -> Result<Vec<u8>, AllocError>
     requires { length body.now < 2 ^ 32 }
     ensures { IfOk result (λ piece. piece.items ≡ to_be_bytes w32 (length body.now) ++ body.now ++ 0 ∷ []) }
 {
-    let mut piece = Vec::new(alloc);
+    let mut piece = Vec::with_capacity(alloc, body.len() + 5)?;
     piece.extend_from_slice((body.len() as u32).to_be_bytes().as_slice())?;
     piece.extend_from_slice(body)?;
     piece.push(CLOSED)?;

@@ -1,5 +1,5 @@
 //! Journals.
-ghost use Rattle.std.specs.Prelude.{◌≡◌, ◌↔◌, ◌+◌, ◌-◌, ◌<◌, ◌≤◌, ◌∷◌, ◌++◌, [], ℕ, List, length, IfOk, OnOk, IsErrOf};
+ghost use Rattle.std.specs.Prelude.{◌≡◌, ◌↔◌, ◌+◌, ◌-◌, ◌<◌, ◌≤◌, ◌∷◌, ◌++◌, [], ℕ, List, length, IfOk, OnOk, OnErr, IsErrOf};
 ghost use Rattle.lks_disk.specs.Face.{AlwaysLeaves, HasFuse, HasLost};
 ghost use Rattle.lks_journal.specs.Adding.{KeepsOrAdds, IsFramed, end_after, count_after};
 ghost use Rattle.lks_journal.specs.Called.{Called};
@@ -95,6 +95,7 @@ impl<D: Disk> Journal<D> {
         ensures settled { D.face.told self.old.disk → IfOk result (λ bodies. IsSettled D.face self.new bodies.items) }
         ensures end { IfOk result (λ bodies. self.new.end ≡ length (frames bodies.items)) }
         ensures count { IfOk result (λ bodies. self.new.count ≡ length bodies.items) }
+        ensures same { OnErr result ((self.new.end ≡ self.old.end) × (self.new.count ≡ self.old.count)) }
         ensures found { D.face.told self.old.disk → Reopens D.face self.old.disk self.new.disk (bodies_in (λ bodies. bodies.items) result) }
         ensures full { IsErrOf result JournalFault.Full → ⊥ }
         ensures called { Called D.face 1 self.old.disk self.new.disk result }

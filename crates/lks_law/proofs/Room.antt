@@ -174,6 +174,16 @@ fit_more own s (x ∷ xs) ys first next = (first.0, fit_more own (after own s x)
 blank_most : (own : Station) → HasAtMost 0 (blank own)
 blank_most own = record { openings = omega arith; versions = All-nil (HasVersions 0); marks = All-nil (HasMarks 0) }
 
+most_all : (own : Station) (n : ℕ) (s : State) (rs : List Record) → HasAtMost n s → HasAtMost (n + length rs) (after_all own s rs)
+most_all own n s [] most = subst (λ (k : ℕ). HasAtMost k s) (omega arith) most
+most_all own n s (r ∷ rs) most = subst (λ (k : ℕ). HasAtMost k (after_all own (after own s r) rs)) (omega arith) (most_all own (n + 1) (after own s r) rs (most_more n own s r most))
+
+-- a journal that is short enough leaves room
+pub room_left : (own : Station) (journal : List Record) → length journal < most_numbered → has_room (state_of own journal) ≡ true
+unfolding state_of
+room_left own journal few =
+    room_in (0 + length journal) (after_all own (blank own) journal) (omega (arith, few)) (most_all own 0 (blank own) journal (blank_most own))
+
 rules_fit : (own : Station) (before : List Record) (h : Heard) → AreWritten [] before → AreFitting own (after_all own (blank own) before) (react_on own (after_all own (blank own) before) h.tick h.input).records
     → AreFitting own (after_all own (blank own) before) (reaction own before h.tick h.input).records
 unfolding state_of

@@ -162,10 +162,11 @@ pub fn whatever_is_added_fits()
 {}
 
 /// Each journal of an honest peer of a plan that breaks no rule, with its numbers or without, fits record by record, while it is
-/// short enough that each thing in it can be numbered.
+/// short enough that each thing in it can be numbered; and such a journal leaves room to number a poll, a version and a vote more.
 pub fn every_journal_fits()
-    ensures { (plan : Plan) (id : ℕ) (p : PeerPlan) → plan_fault plan ≡ None → honest_peer id plan ≡ Some p → (tick : ℕ) (journal : List Record) → length journal < most_numbered
+    ensures fits { (plan : Plan) (id : ℕ) (p : PeerPlan) → plan_fault plan ≡ None → honest_peer id plan ≡ Some p → (tick : ℕ) (journal : List Record) → length journal < most_numbered
         → IsJournalOf (station_of plan p) (deposits plan.aus p.copies) tick journal → AreFitting (station_of plan p) (blank (station_of plan p)) journal }
+    ensures room { (own : Station) (journal : List Record) → length journal < most_numbered → has_room (state_of own journal) ≡ true }
 {}
 
 /// Each journal that the rules make is written so, with its numbers or without, and so is that of each honest peer of a world.

@@ -1,5 +1,5 @@
 -- A node that begins over a new journal, or over one of its own.
-use Rattle.std.proofs.Common.{◌≡◌, ◌∙◌, ◌++◌, ℕ, List, [], ◌∷◌, Option, Some, ap, sym, subst, refl, arith, inl, inr, length, ◌≤◌, take, drop, length-append}
+use Rattle.std.proofs.Common.{◌≡◌, ◌∙◌, ◌++◌, ◌⊎◌, ℕ, List, [], ◌∷◌, Option, Some, ap, sym, subst, refl, arith, inl, inr, ⊎_elim, length, ◌≤◌, take, drop, length-append}
 use Rattle.std.proofs.lemmas.List.{append-nil, drop_all, drop-map, length-map, length-take, map-append, take_all, take-append-drop}
 use Rattle.std.proofs.lemmas.List.Elements.{All-head, All-tail}
 use Rattle.std.proofs.lemmas.Simd.{map-map}
@@ -11,13 +11,15 @@ use Rattle.lks_base.specs.declared.plans.PeerPlan.{PeerPlan}
 use Rattle.lks_base.specs.declared.plans.Plan.{Plan}
 use Rattle.lks_base.specs.declared.records.Record.{Record}
 use Rattle.lks_disk.specs.Counts.{Rose}
-use Rattle.lks_disk.specs.Face.{Face}
+use Rattle.lks_disk.specs.Device.{Only}
+use Rattle.lks_disk.specs.Face.{Face, Same}
 use Rattle.lks_field.specs.Frames.{HoldsBodies, IsDamagedAt}
-use Rattle.lks_host.specs.Adopting.{IsFiled, IsReadAs, filled}
+use Rattle.lks_host.specs.Adopting.{IsFiled, IsReadAs, LeavesFront, filled}
 use Rattle.lks_host.specs.Bodies.{bodies_of, AreRead}
-use Rattle.lks_host.specs.Hosted.{StandsFor}
+use Rattle.lks_host.specs.Hosted.{HasFront, StandsFor}
 use Rattle.lks_host.specs.declared.hosts.Host.{Host}
 use Rattle.lks_journal.specs.Settled.{IsSettled}
+use Rattle.lks_journal.specs.Stays.{Stays}
 use Rattle.lks_journal.specs.declared.journals.Journal.{Journal}
 use Rattle.lks_law.proofs.Batches.{each_alone}
 use Rattle.lks_law.proofs.Sorting.{begun_is, latest_both, latest_deposits}
@@ -29,7 +31,7 @@ use Rattle.lks_law.specs.Polls.{Station}
 use Rattle.lks_law.specs.State.{state_of}
 use Rattle.lks_law.specs.World.{deposits, standing_of, station_of}
 use Rattle.lks_node.specs.Again.{AreWhole}
-use Rattle.lks_node.specs.Opening.{BeginsWith, IsBegun, IsSorted, IsUnready, IsUnsorted}
+use Rattle.lks_node.specs.Opening.{BeginsInPart, BeginsWith, HandsBack, IsBegun, IsPlain, IsRefused, IsSorted, IsUnready, IsUnsorted}
 use Rattle.lks_node.specs.declared.ends.Unready.{Unready}
 use Rattle.lks_node.specs.declared.ends.Unready.TheVariants.{Failed, Memory, Damaged, Full, Foreign}
 use Rattle.lks_node.specs.declared.nodes.Node.{Node}
@@ -151,7 +153,7 @@ module _ (aus : List AuPlan) (copies : List Holding) (list : List Record) (peer 
   ]
 
 module _ {D : Type 0} (f : Face D) (plan : Plan) (p : PeerPlan) (journal : Journal D) (list : List Record) (peer : Knowing) (bodies : List (List ℕ)) (read : IsReadAs f journal bodies)
-    (owns : Owns (station_of plan p) plan.aus p.copies bodies list peer) (host : Host D) where
+    (owns : Owns (station_of plan p) plan.aus p.copies bodies list peer) where
   abbrev begun : List Record
   begun = deposits plan.aus p.copies
 
@@ -165,9 +167,9 @@ module _ {D : Type 0} (f : Face D) (plan : Plan) (p : PeerPlan) (journal : Journ
   settled told = subst (IsSettled f journal) owns.spell.spelled (read.settled told)
 
   -- over a journal of its own, or the first of its deposits
-  pub begun_adopted : IsSorted (station_of plan p) begun bodies list → host.peer ≡ peer → (f.told host.journal.disk → f.told journal.disk) → (f.told journal.disk → (bs : List (List Record)) → IsFiled f journal list bs → StandsFor f host (filled begun list bs))
+  pub begun_adopted : (host : Host D) → IsSorted (station_of plan p) begun bodies list → host.peer ≡ peer → (f.told host.journal.disk → f.told journal.disk) → (f.told journal.disk → (bs : List (List Record)) → IsFiled f journal list bs → StandsFor f host (filled begun list bs))
       → IsBegun f plan p journal.disk (record { host = host; tick = latest list })
-  begun_adopted sorts same back adopts =
+  begun_adopted host sorts same back adopts =
       let own : host.peer.own ≡ peer.own = ap (λ (k : Knowing). k.own) same in
       record {
         first = record { batches = filled begun list batches; tick = latest list; heard = [] };
@@ -186,7 +188,114 @@ module _ {D : Type 0} (f : Face D) (plan : Plan) (p : PeerPlan) (journal : Journ
         held = λ told. inr (batches, (settled told).holds, are_read batches owns.spell.are, ap (λ (l : List Record). filled begun l batches) owns.spell.all);
       }
 
+  -- refused, a crash leaves the batches and a front of the deposits that they lack
+  part_adopted : (now : D) → IsSorted (station_of plan p) begun bodies list → ((bs : List (List Record)) → IsFiled f journal list bs → LeavesFront f bs (map alone (missing_of begun list)) now)
+      → f.told journal.disk → BeginsInPart f (station_of plan p) begun journal.disk now
+  part_adopted now sorts leaves told = inr (
+    batches,
+    (settled told).holds,
+    are_read batches owns.spell.are,
+    subst (IsSorted (station_of plan p) begun (bodies_of batches)) owns.spell.all (subst (λ (bs : List (List ℕ)). IsSorted (station_of plan p) begun bs list) owns.spell.spelled sorts),
+    subst (λ (l : List Record). LeavesFront f batches (map alone (missing_of begun l)) now) owns.spell.all (leaves batches (record { spelled = owns.spell.are; all = owns.spell.all; settled = settled told })),
+  )
+
+  pub unsorted_adopted : {X : Type 0} (o : Option PeerPlan) (result : Result X (D × Unready)) → o ≡ Some p → IsSorted (station_of plan p) begun bodies list
+      → IfErr result (λ e. IsPlain (f.faults journal.disk) (f.faults e.0) e.1
+      × ((q : PeerPlan) → o ≡ Some q → f.told journal.disk → (bs : List (List Record)) → IsFiled f journal list bs → LeavesFront f bs (map alone (missing_of (deposits plan.aus q.copies) list)) e.0))
+      → IfErr result (λ e. IsUnsorted f (station_of plan p) begun bodies journal.disk e.0 e.1)
+  unsorted_adopted o (Ok x) there sorts is = tt
+  unsorted_adopted o (Err e) there sorts is = by_fault e.1 is.0
+    where
+      part : f.told journal.disk → BeginsInPart f (station_of plan p) begun journal.disk e.0
+      part told = part_adopted e.0 sorts (is.1 p there told) told
+
+      by_fault : (u : Unready) → IsPlain (f.faults journal.disk) (f.faults e.0) u → IsUnsorted f (station_of plan p) begun bodies journal.disk e.0 u
+      by_fault Failed rose = (rose, part)
+      by_fault Memory rose = λ told. inr (part told)
+      by_fault (Damaged offset) rose = absurd rose
+      by_fault Full rose = absurd rose
+      by_fault (Foreign batch) rose = absurd rose
+
 -- The same store, after calls that changed no byte.
+
+no_bytes : (bytes : List ℕ) → length bytes ≡ 0 → bytes ≡ []
+no_bytes [] none = refl
+no_bytes (b ∷ bs) none = absurd (omega (arith, none))
+
+module _ {D : Type 0} (f : Face D) (old new : D) where
+  stays_over : Same f old new → (now : D) → Stays f new now → Stays f old now
+  stays_over same now stays = record {
+    bytes = stays.bytes ∙ same.bytes;
+    crash = λ c left. same.leaves c (stays.crash c left);
+    any_moment = record {
+      later = let since = same.time in let run = stays.any_moment.later in omega (arith, since, run);
+      each = λ c left. same.leaves c (stays.any_moment.each c (subst (λ (t : ℕ). f.left_since now t c) (sym same.time) left));
+      before = λ t c le left. let since = same.time in ⊎_elim (λ past. inl (same.past t c past)) (λ here. inr (same.leaves c here)) (stays.any_moment.before t c (omega (arith, le, since)) left);
+    };
+  }
+
+  part_over : f.seen new ≡ f.seen old → ((c : List ℕ) → f.may_leave new c → f.may_leave old c) → (own : Station) (deposited : List Record) (now : D) → BeginsInPart f own deposited new now → BeginsInPart f own deposited old now
+  part_over same less own deposited now (inl (empty, front)) = inl (sym same ∙ empty, λ only. front (λ c left. only c (less c left)))
+  part_over same less own deposited now (inr (held, holds, read, sorts, front)) = inr (held, subst (HoldsBodies (bodies_of held)) same holds, read, sorts, front)
+
+  either_over : Same f old new → (own : Station) (deposited : List Record) (now : D) → Stays f new now ⊎ BeginsInPart f own deposited new now → Stays f old now ⊎ BeginsInPart f own deposited old now
+  either_over same own deposited now (inl stays) = inl (stays_over same now stays)
+  either_over same own deposited now (inr part) = inr (part_over same.bytes same.leaves own deposited now part)
+
+  hands_over : Same f old new → (own : Station) (deposited : List Record) (now : D) (u : Unready) → HandsBack f own deposited new now u → HandsBack f own deposited old now u
+  hands_over same own deposited now Failed left = either_over same own deposited now left
+  hands_over same own deposited now Memory left = either_over same own deposited now left
+  hands_over same own deposited now (Damaged offset) left = stays_over same now left
+  hands_over same own deposited now Full left = (stays_over same now left.0, λ c leaves. left.1 c leaves ∙ same.bytes)
+  hands_over same own deposited now (Foreign batch) left = (stays_over same now left.0, λ c leaves. left.1 c leaves ∙ same.bytes)
+
+  pub unready_over : {X : Type 0} → Same f old new → (own : Station) (deposited : List Record) (result : Result X (D × Unready)) → f.faults new ≡ f.faults old → IfErr result (λ e. IsUnready f own deposited new e.0 e.1) → IfErr result (λ e. IsUnready f own deposited old e.0 e.1)
+  unready_over same own deposited (Ok x) count is = tt
+  unready_over same own deposited (Err e) count is = record { cause = by_fault e.1 is.cause; left = λ t. hands_over same own deposited e.0 e.1 (is.left (same.tells.0 t)) }
+    where
+      by_fault : (u : Unready) → IsRefused f own deposited new e.0 u → IsRefused f own deposited old e.0 u
+      by_fault Failed is = subst (λ n. Rose n (f.faults e.0)) count is
+      by_fault Memory is = tt
+      by_fault (Damaged offset) is = λ t. subst (λ (file : List ℕ). IsDamagedAt file offset × (file ≡ [] → ⊥)) same.bytes (is (same.tells.0 t))
+      by_fault Full is = λ t. let found = is (same.tells.0 t) in (found.0, subst (HoldsBodies found.0) same.bytes found.1, found.2)
+      by_fault (Foreign batch) is = λ t. let found = is (same.tells.0 t) in (found.0, subst (HoldsBodies found.0) same.bytes found.1, found.2)
+
+  -- an empty store on which a new journal wasn't made
+  pub unready_new : {X : Type 0} (plan : Plan) (p : PeerPlan) (o : Option PeerPlan) → o ≡ Some p → Same f old new → (own : Station) (result : Result X (D × Unready)) → f.faults new ≡ f.faults old → (f.told old → length (f.seen old) ≡ 0)
+      → IfErr result (λ e. IsPlain (f.faults new) (f.faults e.0) e.1 × ((q : PeerPlan) → o ≡ Some q → f.told new → Only [] (f.may_leave new) → HasFront f (map alone (deposits plan.aus q.copies)) e.0))
+      → IfErr result (λ e. IsUnready f own (deposits plan.aus p.copies) old e.0 e.1)
+  unready_new plan p o there same own (Ok x) count empty is = tt
+  unready_new plan p o there same own (Err e) count empty is = by_fault e.1 is.0
+    where
+      part : f.told old → BeginsInPart f own (deposits plan.aus p.copies) old e.0
+      part t = inl (no_bytes (f.seen old) (empty t), λ only. is.1 p there (same.tells.0 t) (λ c left. only c (same.leaves c left)))
+
+      by_fault : (u : Unready) → IsPlain (f.faults new) (f.faults e.0) u → IsUnready f own (deposits plan.aus p.copies) old e.0 u
+      by_fault Failed rose = record { cause = subst (λ n. Rose n (f.faults e.0)) count rose; left = λ t. inr (part t) }
+      by_fault Memory rose = record { cause = tt; left = λ t. inr (part t) }
+      by_fault (Damaged offset) rose = absurd rose
+      by_fault Full rose = absurd rose
+      by_fault (Foreign batch) rose = absurd rose
+
+  -- bodies that a store holds, and that aren't the peer's
+  pub unsorted_is : {X : Type 0} → (f.told old → Stays f old new) → (own : Station) (deposited : List Record) (bodies : List (List ℕ)) (result : Result X (D × Unready)) → f.faults new ≡ f.faults old → (f.told old → f.told new)
+      → (f.told old → HoldsBodies bodies (f.seen old)) → (f.told old → Only (f.seen old) (f.may_leave new)) → IfErr result (λ e. IsUnsorted f own deposited bodies new e.0 e.1) → IfErr result (λ e. IsUnready f own deposited old e.0 e.1)
+  unsorted_is stays own deposited bodies (Ok x) count told holds durable is = tt
+  unsorted_is stays own deposited bodies (Err e) count told holds durable is = by_fault e.1 is
+    where
+      either : f.told old → (e.0 ≡ new) ⊎ BeginsInPart f own deposited new e.0 → Stays f old e.0 ⊎ BeginsInPart f own deposited old e.0
+      either t (inl same) = inl (subst (Stays f old) (sym same) (stays t))
+      either t (inr part) = inr (part_over (stays t).bytes (stays t).crash own deposited e.0 part)
+
+      by_fault : (u : Unready) → IsUnsorted f own deposited bodies new e.0 u → IsUnready f own deposited old e.0 u
+      by_fault Failed is = record { cause = subst (λ n. Rose n (f.faults e.0)) count is.0; left = λ t. either t (inr (is.1 (told t))) }
+      by_fault Memory is = record { cause = tt; left = λ t. either t (is (told t)) }
+      by_fault (Damaged offset) is = absurd is
+      by_fault Full is = absurd is
+      by_fault (Foreign batch) is = record {
+        cause = λ t. (bodies, holds t, is.0);
+        left = λ t. (subst (Stays f old) (sym is.1) (stays t), subst (λ (d : D). Only (f.seen old) (f.may_leave d)) (sym is.1) (durable t));
+      }
 
 module _ {D : Type 0} (f : Face D) (plan : Plan) (p : PeerPlan) (old new : D) (told : f.told old → f.told new) (same : f.told old → f.seen new ≡ f.seen old) where
   pub begun_over : {E : Type 0} (result : Result (Node D) E) → IfOk result (IsBegun f plan p new) → IfOk result (IsBegun f plan p old)
@@ -200,27 +309,3 @@ module _ {D : Type 0} (f : Face D) (plan : Plan) (p : PeerPlan) (old new : D) (t
     whole = is.whole;
     held = λ t. subst (λ (file : List ℕ). BeginsWith (deposits plan.aus p.copies) file is.first.batches) (same t) (is.held (told t));
   }
-
-  pub unready_over : {X : Type 0} (own : Station) (begun : List Record) (result : Result X (D × Unready)) → f.faults new ≡ f.faults old → IfErr result (λ e. IsUnready f own begun new e.0 e.1) → IfErr result (λ e. IsUnready f own begun old e.0 e.1)
-  unready_over own begun (Ok x) count is = tt
-  unready_over own begun (Err e) count is = by_fault e.1 is
-    where
-      by_fault : (u : Unready) → IsUnready f own begun new e.0 u → IsUnready f own begun old e.0 u
-      by_fault Failed is = subst (λ n. Rose n (f.faults e.0)) count is
-      by_fault Memory is = tt
-      by_fault (Damaged offset) is = λ t. subst (λ (file : List ℕ). IsDamagedAt file offset × (file ≡ [] → ⊥)) (same t) (is (told t))
-      by_fault Full is = λ t. let found = is (told t) in (found.0, subst (HoldsBodies found.0) (same t) found.1, found.2)
-      by_fault (Foreign batch) is = λ t. let found = is (told t) in (found.0, subst (HoldsBodies found.0) (same t) found.1, found.2)
-
-  -- bodies that a store holds, and that aren't the peer's
-  pub unsorted_is : {X : Type 0} (own : Station) (begun : List Record) (bodies : List (List ℕ)) (result : Result X (D × Unready)) → f.faults new ≡ f.faults old → (f.told old → HoldsBodies bodies (f.seen old))
-      → IfErr result (λ e. IsUnsorted own begun bodies (f.faults new) (f.faults e.0) e.1) → IfErr result (λ e. IsUnready f own begun old e.0 e.1)
-  unsorted_is own begun bodies (Ok x) count holds is = tt
-  unsorted_is own begun bodies (Err e) count holds is = by_fault e.1 is
-    where
-      by_fault : (u : Unready) → IsUnsorted own begun bodies (f.faults new) (f.faults e.0) u → IsUnready f own begun old e.0 u
-      by_fault Failed is = subst (λ n. Rose n (f.faults e.0)) count is
-      by_fault Memory is = tt
-      by_fault (Damaged offset) is = absurd is
-      by_fault Full is = absurd is
-      by_fault (Foreign batch) is = λ t. (bodies, holds t, is)

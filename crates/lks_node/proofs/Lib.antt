@@ -4,4 +4,5 @@ mod FrameLaws
 mod HowFar
 mod Moving
 mod Onward
+mod Records
 mod Turning

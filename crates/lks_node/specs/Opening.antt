@@ -4,12 +4,15 @@ use Rattle.lks_base.specs.declared.plans.PeerPlan.{PeerPlan}
 use Rattle.lks_base.specs.declared.plans.Plan.{Plan}
 use Rattle.lks_base.specs.declared.records.Record.{Record}
 use Rattle.lks_disk.specs.Counts.{Rose}
+use Rattle.lks_disk.specs.Device.{Only}
 use Rattle.lks_disk.specs.Face.{Face}
 use Rattle.lks_disk.specs.declared.disks.DiskFail.{DiskFail}
 use Rattle.lks_disk.specs.declared.disks.DiskFail.TheVariants as device
 use Rattle.lks_field.specs.Frames.{HoldsBodies, IsDamagedAt}
-use Rattle.lks_host.specs.Adopting.{filled}
+use Rattle.lks_host.specs.Adopting.{filled, LeavesFront}
 use Rattle.lks_host.specs.Bodies.{bodies_of, AreRead}
+use Rattle.lks_host.specs.Hosted.{HasFront}
+use Rattle.lks_journal.specs.Stays.{Stays}
 use Rattle.lks_journal.specs.declared.faults.JournalFault.{JournalFault}
 use Rattle.lks_journal.specs.declared.faults.JournalFault.TheVariants as journal
 use Rattle.lks_law.specs.Batches.{alone, together}
@@ -23,6 +26,7 @@ use Rattle.lks_node.specs.declared.ends.Unready.{Unready}
 use Rattle.lks_node.specs.declared.ends.Unready.TheVariants.{Failed, Memory, Damaged, Full, Foreign}
 use Rattle.lks_node.specs.declared.nodes.Node.{Node}
 use Rattle.lks_node.specs.declared.opening.TheConstants.{MOST_BYTES}
+use Rattle.lks_sort.specs.Owners.{missing_of}
 use Rattle.lks_sort.specs.Sorted.{SortsAs}
 use Rattle.lks_sort.specs.declared.sorting.JournalSort.TheVariants as sorting
 
@@ -69,6 +73,23 @@ pub record IsBegun {D : Type 0} (f : Face D) (plan : Plan) (p : PeerPlan) (store
 abbrev pub IsSorted : Station → List Record → List (List ℕ) → List Record → Type 0
 IsSorted own begun bodies list = SortsAs own begun bodies (sorting.Whole list) ⊎ SortsAs own begun bodies (sorting.Begun list)
 
+-- Deposits were being written. Where the store held batches, which are the peer's own, a crash leaves these, and behind them a front of
+-- the deposits that they lack. Where it was empty, and nothing was pending on it, a crash leaves a front of the deposits, or at most one
+-- byte. What a crash during the calls left isn't said, since `Host::create` and `Host::adopt` don't say it.
+abbrev pub BeginsInPart : {D : Type 0} → Face D → Station → List Record → D → D → Type 0
+BeginsInPart f own begun store now =
+    ((f.seen store ≡ []) × (Only [] (f.may_leave store) → HasFront f (map alone begun) now))
+    ⊎ ((held : List (List Record)) × HoldsBodies (bodies_of held) (f.seen store) × AreRead held × IsSorted own begun (bodies_of held) (together held) × LeavesFront f held (map alone (missing_of begun (together held))) now)
+
+-- What a refused opening leaves of a store: no byte changed, and a crash at any moment leaves only what it could leave before; or, where
+-- a call failed or memory was refused, deposits were being written. A whole journal that isn't taken over is there after every crash.
+abbrev pub HandsBack : {D : Type 0} → Face D → Station → List Record → D → D → Unready → Type 0
+HandsBack f own begun store now Failed = Stays f store now ⊎ BeginsInPart f own begun store now
+HandsBack f own begun store now Memory = Stays f store now ⊎ BeginsInPart f own begun store now
+HandsBack f own begun store now (Damaged offset) = Stays f store now
+HandsBack f own begun store now Full = Stays f store now × Only (f.seen store) (f.may_leave now)
+HandsBack f own begun store now (Foreign batch) = Stays f store now × Only (f.seen store) (f.may_leave now)
+
 -- the count of faults rose, or memory was wanting
 abbrev pub IsPlain : ℕ → ℕ → Unready → Type 0
 IsPlain before now Failed = Rose before now
@@ -77,21 +98,26 @@ IsPlain before now (Damaged offset) = ⊥
 IsPlain before now Full = ⊥
 IsPlain before now (Foreign batch) = ⊥
 
--- or the bodies are another peer's
-abbrev pub IsUnsorted : Station → List Record → List (List ℕ) → ℕ → ℕ → Unready → Type 0
-IsUnsorted own begun bodies before now Failed = Rose before now
-IsUnsorted own begun bodies before now Memory = Unit {0}
-IsUnsorted own begun bodies before now (Damaged offset) = ⊥
-IsUnsorted own begun bodies before now Full = ⊥
-IsUnsorted own begun bodies before now (Foreign batch) = SortsAs own begun bodies (sorting.Foreign batch)
+-- or the bodies of a journal are another peer's; a disk on which no deposits were being written is as it was
+abbrev pub IsUnsorted : {D : Type 0} → Face D → Station → List Record → List (List ℕ) → D → D → Unready → Type 0
+IsUnsorted f own begun bodies disk now Failed = Rose (f.faults disk) (f.faults now) × (f.told disk → BeginsInPart f own begun disk now)
+IsUnsorted f own begun bodies disk now Memory = f.told disk → (now ≡ disk) ⊎ BeginsInPart f own begun disk now
+IsUnsorted f own begun bodies disk now (Damaged offset) = ⊥
+IsUnsorted f own begun bodies disk now Full = ⊥
+IsUnsorted f own begun bodies disk now (Foreign batch) = SortsAs own begun bodies (sorting.Foreign batch) × (now ≡ disk)
 
 -- why a store, with these bytes where it tells them, wasn't made a journal of the peer's own
-abbrev pub IsUnready : {D : Type 0} → Face D → Station → List Record → D → D → Unready → Type 0
-IsUnready f own begun store now Failed = Rose (f.faults store) (f.faults now)
-IsUnready f own begun store now Memory = Unit {0}
-IsUnready f own begun store now (Damaged offset) = f.told store → IsDamagedAt (f.seen store) offset × (f.seen store ≡ [] → ⊥)
-IsUnready f own begun store now Full = f.told store → (bodies : List (List ℕ)) × HoldsBodies bodies (f.seen store) × (MOST_BYTES < sum_by length bodies)
-IsUnready f own begun store now (Foreign batch) = f.told store → (bodies : List (List ℕ)) × HoldsBodies bodies (f.seen store) × SortsAs own begun bodies (sorting.Foreign batch)
+abbrev pub IsRefused : {D : Type 0} → Face D → Station → List Record → D → D → Unready → Type 0
+IsRefused f own begun store now Failed = Rose (f.faults store) (f.faults now)
+IsRefused f own begun store now Memory = Unit {0}
+IsRefused f own begun store now (Damaged offset) = f.told store → IsDamagedAt (f.seen store) offset × (f.seen store ≡ [] → ⊥)
+IsRefused f own begun store now Full = f.told store → (bodies : List (List ℕ)) × HoldsBodies bodies (f.seen store) × (MOST_BYTES < sum_by length bodies)
+IsRefused f own begun store now (Foreign batch) = f.told store → (bodies : List (List ℕ)) × HoldsBodies bodies (f.seen store) × SortsAs own begun bodies (sorting.Foreign batch)
+
+-- so it is, and this is left of it where it tells its bytes
+pub record IsUnready {D : Type 0} (f : Face D) (own : Station) (begun : List Record) (store now : D) (why : Unready) : Type 0 where
+  pub cause : IsRefused f own begun store now why
+  pub left : f.told store → HandsBack f own begun store now why
 
 -- or it can't be read
 abbrev pub IsUnread : {D : Type 0} → Face D → D → D → Unready → Type 0

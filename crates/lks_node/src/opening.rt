@@ -1,20 +1,25 @@
 //! A store becomes a journal of the peer's own.
 
-ghost use Rattle.std.specs.Prelude.{◌≡◌, true, ◌≤◌, ◌↔◌, ◌⊎◌, ℕ, List, [], false, length, sum_by, None, Some, IfOk, IfErr, IsSome, IsTrue};
+ghost use Rattle.std.specs.Prelude.{◌≡◌, true, ◌≤◌, ◌↔◌, ◌⊎◌, ℕ, List, [], false, length, map, sum_by, None, Some, IfOk, IfErr, IsSome, IsTrue};
 ghost use Rattle.lks_base.specs.Checking.{plan_fault};
 ghost use Rattle.lks_base.specs.declared.plans.PeerPlan.{PeerPlan as Planned};
+ghost use Rattle.lks_base.specs.declared.records.Record.{Record as Recorded};
+ghost use Rattle.lks_disk.specs.Device.{Only};
 ghost use Rattle.lks_disk.specs.declared.disks.DiskFail.TheVariants as device;
 ghost use Rattle.lks_field.specs.Frames.{HoldsBodies};
-ghost use Rattle.lks_host.specs.Adopting.{IsReadAs};
+ghost use Rattle.lks_host.specs.Adopting.{IsFiled, IsReadAs, LeavesFront};
 ghost use Rattle.lks_host.specs.Faults.{breaks};
+ghost use Rattle.lks_host.specs.Hosted.{HasFront};
 ghost use Rattle.lks_host.specs.declared.faults.HostFault.TheVariants as hosted;
 ghost use Rattle.lks_journal.specs.declared.faults.JournalFault.TheVariants as journal;
 ghost use Rattle.lks_journal.specs.Settled.{disk_read};
+ghost use Rattle.lks_journal.specs.Stays.{Stays};
+ghost use Rattle.lks_law.specs.Batches.{alone};
 ghost use Rattle.lks_law.specs.Behind.{tick_in, latest};
 ghost use Rattle.lks_law.specs.World.{deposits, honest_peer, station_of};
 ghost use Rattle.lks_node.specs.Being.{IsFit};
 ghost use Rattle.lks_node.specs.Opening.{of_disk, of_journal, store_of, IsBegun, IsCalm, IsPlain, IsSorted, IsUnread, IsUnready, IsUnsorted};
-ghost use Rattle.lks_sort.specs.Owners.{Owns};
+ghost use Rattle.lks_sort.specs.Owners.{Owns, missing_of};
 
 use crate::ends::{Fall, Unready};
 use crate::nodes::{Node, fall};
@@ -30,9 +35,6 @@ use std::sync::Wait;
 
 /// The most bytes of batches that are sorted.
 const MOST_BYTES: u64 = 2_147_483_647;
-
-/// The most records of a journal.
-const MOST_RECORDS: usize = 1_000_000_000;
 
 /// Whether the bodies have together at most as many bytes as a journal.
 fn are_few(bodies: &[Bytes]) -> bool
@@ -141,7 +143,8 @@ fn begin<R: Wait, D: Disk>(
     requires empty { D.face.told store → D.face.seen store ≡ [] }
     ensures begun { (p : Planned) → honest_peer id plan.now ≡ Some p → IfOk result (IsBegun D.face plan.now p store) }
     ensures fit { IfOk result (IsFit D.face pool.now) }
-    ensures causes { IfErr result (λ e. IsPlain (D.face.faults store) (D.face.faults e.0) e.1) }
+    ensures causes { IfErr result (λ e. IsPlain (D.face.faults store) (D.face.faults e.0) e.1 ×
+        ((p : Planned) → honest_peer id plan.now ≡ Some p → D.face.told store → Only [] (D.face.may_leave store) → HasFront D.face (map alone (deposits plan.now.aus p.copies)) e.0)) }
     ensures calm { IsCalm D.face store (store_of result) }
     ensures ok { IfOk result (λ node. D.face.faults node.host.journal.disk ≡ D.face.faults store) }
 {
@@ -163,18 +166,17 @@ fn adopt<D: Disk>(
     requires good { plan_fault plan.now ≡ None }
     requires honest { IsSome (honest_peer id plan.now) }
     requires unfused { D.face.fused journal.disk ≡ false }
-    requires owned { (bodies : List (List ℕ)) × IsReadAs D.face journal bodies ×
+    requires owned { (bodies : List (List ℕ)) × (sum_by length bodies ≤ MOST_BYTES) × IsReadAs D.face journal bodies ×
         ((p : Planned) → honest_peer id plan.now ≡ Some p → Owns (station_of plan.now p) plan.now.aus p.copies bodies list.now peer) }
     ensures begun { (p : Planned) → honest_peer id plan.now ≡ Some p → (bodies : List (List ℕ)) → IsReadAs D.face journal bodies → Owns (station_of plan.now p) plan.now.aus p.copies bodies list.now peer →
         IsSorted (station_of plan.now p) (deposits plan.now.aus p.copies) bodies list.now → IfOk result (IsBegun D.face plan.now p journal.disk) }
     ensures fit { IfOk result (IsFit D.face peer.pool) }
-    ensures causes { IfErr result (λ e. IsPlain (D.face.faults journal.disk) (D.face.faults e.0) e.1) }
+    ensures causes { IfErr result (λ e. IsPlain (D.face.faults journal.disk) (D.face.faults e.0) e.1 ×
+        ((p : Planned) → honest_peer id plan.now ≡ Some p → D.face.told journal.disk → (batches : List (List Recorded)) → IsFiled D.face journal list.now batches →
+        LeavesFront D.face batches (map alone (missing_of (deposits plan.now.aus p.copies) list.now)) e.0)) }
     ensures calm { IsCalm D.face journal.disk (store_of result) }
     ensures ok { IfOk result (λ node. D.face.faults node.host.journal.disk ≡ D.face.faults journal.disk) }
 {
-    if list.len() > MOST_RECORDS {
-        return Err((journal.into_disk(), Unready::Memory));
-    }
     let tick = latest(list);
     match Host::adopt(alloc, plan, id, peer, journal, list) {
         Ok(host) => Ok(Node { host, tick }),
@@ -199,7 +201,7 @@ fn sort_bodies<R: Wait, D: Disk>(
     requires read { IsReadAs D.face journal bodies.now }
     ensures begun { (p : Planned) → honest_peer id plan.now ≡ Some p → IfOk result (IsBegun D.face plan.now p journal.disk) }
     ensures fit { IfOk result (IsFit D.face pool.now) }
-    ensures causes { (p : Planned) → honest_peer id plan.now ≡ Some p → IfErr result (λ e. IsUnsorted (station_of plan.now p) (deposits plan.now.aus p.copies) bodies.now (D.face.faults journal.disk) (D.face.faults e.0) e.1) }
+    ensures causes { (p : Planned) → honest_peer id plan.now ≡ Some p → IfErr result (λ e. IsUnsorted D.face (station_of plan.now p) (deposits plan.now.aus p.copies) bodies.now journal.disk e.0 e.1) }
     ensures calm { IsCalm D.face journal.disk (store_of result) }
     ensures ok { IfOk result (λ node. D.face.faults node.host.journal.disk ≡ D.face.faults journal.disk) }
 {
@@ -220,7 +222,8 @@ fn read_store<D: Disk>(alloc: Global, store: D) -> Result<(Journal<D>, Vec<Bytes
     requires unfused { D.face.fused store ≡ false }
     requires some { D.face.told store → D.face.seen store ≡ [] → ⊥ }
     ensures read { IfOk result (λ found. IsReadAs D.face found.0 found.1.items) }
-    ensures holds { D.face.told store → IfOk result (λ found. HoldsBodies found.1.items (D.face.seen store) × (D.face.seen found.0.disk ≡ D.face.seen store)) }
+    ensures holds { D.face.told store → IfOk result (λ found. HoldsBodies found.1.items (D.face.seen store)) }
+    ensures stays { D.face.told store → Stays D.face store (disk_read result) }
     ensures causes { IfErr result (λ e. IsUnread D.face store e.0 e.1) }
     ensures calm { IsCalm D.face store (disk_read result) }
     ensures ok { IfOk result (λ found. D.face.faults found.0.disk ≡ D.face.faults store) }

@@ -10,13 +10,6 @@
 //! // At tick 5 it is told to open a poll on AU 1, and invites three peers.
 //! let opened = peer.step(&rt, &pool, 5, &Input::OpenPoll { au: 1 })?;
 //! assert_eq!(rt; opened.sends.as_slice().len(), 3);
-//! // At tick 6 it gets an invitation of peer 2 to its poll 7 on AU 1, and joins it.
-//! let invitation = b"\x01\x01\0\0\0\x07\0\x01";
-//! let Some(told) = receive_judged(alloc, 2, invitation, Judged::NotAsked)? else {
-//!     return Err("no message".into());
-//! };
-//! let joined = peer.step(&rt, &pool, 6, &told)?;
-//! assert_eq!(rt; joined.records.as_slice().len(), 1);
 //! Ok(())
 //! ```
 //!

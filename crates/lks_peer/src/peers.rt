@@ -116,6 +116,8 @@ fn have_versions_left(copies: &[Held]) -> bool
     copies.iter().all(|held| held.versions.current() < u32::MAX)
 }
 
+/// Whether a poll, a version and a vote more can be numbered in 32 bits. A journal of fewer than 4,294,967,295 records leaves that
+/// room (`every_journal_fits` of `lks_law`).
 #[tactic(auto, using(crate::proofs::Listing::left_seen))]
 fn has_room(known: &Known) -> bool
     ensures { result ≡ fitting.has_room (state_of known.now) }
@@ -268,7 +270,8 @@ impl Peer {
     }
 
     /// What the peer adds to its journal and sends at this tick. It is afterwards in the state that these records make of the
-    /// one before. After a refusal it is to be restored.
+    /// one before. After a refusal it is to be restored. It is refused, too, where nothing more can be numbered in 32 bits, to which
+    /// no history comes.
     pub fn step<R: Wait>(
         &mut self,
         rt: &R,

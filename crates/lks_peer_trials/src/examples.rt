@@ -1,5 +1,5 @@
-//! The examples of the crate pages of `lks_peer`, `lks_host` and `lks_evidence`, each the lines of a test, of the first one those
-//! up to its first assertion: peer 1 holds the blocks `41` and `42` of AU 1, and knows peers 2, 3 and 4.
+//! The examples of the crate pages of `lks_peer`, `lks_host` and `lks_evidence`, each the lines of a test: peer 1 holds the blocks
+//! `41` and `42` of AU 1, and knows peers 2, 3 and 4.
 
 ghost use Rattle.std.specs.Prelude.{◌≡◌, None, IfOk, IsSome};
 ghost use Rattle.lks_base.specs.Checking.{plan_fault};
@@ -29,7 +29,7 @@ refs 1 2 3 4
 copy 1 1 41,42
 ";
 
-fn plan_of(alloc: Global) -> Result<Plan, Fail>
+pub fn plan_of(alloc: Global) -> Result<Plan, Fail>
     ensures good { IfOk result (λ plan. plan_fault plan ≡ None) }
     ensures honest { IfOk result (λ plan. IsSome (honest_peer 1 plan)) }
 {

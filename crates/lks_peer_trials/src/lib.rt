@@ -8,6 +8,8 @@ mod evidence;
 #[cfg(test)]
 mod examples;
 #[cfg(test)]
+mod hosts;
+#[cfg(test)]
 mod inbox;
 #[cfg(test)]
 mod jobs;

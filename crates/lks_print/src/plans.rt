@@ -1,6 +1,6 @@
 //! Lines that say a plan.
 
-ghost use Rattle.std.specs.Prelude.{◌≡◌, ◌++◌, ◌∷◌, [], OnOk, codes, map};
+ghost use Rattle.std.specs.Prelude.{◌≡◌, ◌++◌, ◌∷◌, [], OnOk, OnErr, codes, map};
 ghost use Rattle.std.specs.Fmt.{decimal};
 ghost use Rattle.std.specs.List.{flat_map};
 ghost use Rattle.lks_print.specs.Steps.{line_of};
@@ -195,9 +195,13 @@ fn put_all_belongings(
     Ok(())
 }
 
-/// The lines of a plan, which stand before the first step. Without memory some of them may stand behind `out`.
+/// The lines of a plan. Without memory some of them may stand behind `out`.
 #[tactic(auto, unfolding(crate::specs::Scripts::plan_text, crate::specs::Steps::line_of))]
-pub fn put_plan(alloc: Global, out: &mut Vec<u8>, plan: &Plan) -> Result<(), AllocError>
+pub(crate) fn put_plan_lines(
+    alloc: Global,
+    out: &mut Vec<u8>,
+    plan: &Plan,
+) -> Result<(), AllocError>
     ensures { OnOk result (out.new.items ≡ out.old.items ++ plan_text plan.now) }
 {
     put_text(out, b"lockss 1\n")?;
@@ -206,4 +210,14 @@ pub fn put_plan(alloc: Global, out: &mut Vec<u8>, plan: &Plan) -> Result<(), All
     put_aus(alloc, out, plan.aus.as_slice())?;
     put_peers(alloc, out, plan.peers.as_slice())?;
     put_all_belongings(alloc, out, plan.peers.as_slice())
+}
+
+/// The lines of a plan, which stand before the first step. Without memory nothing is added to `out`.
+pub fn put_plan(alloc: Global, out: &mut Vec<u8>, plan: &Plan) -> Result<(), AllocError>
+    ensures text { OnOk result (out.new.items ≡ out.old.items ++ plan_text plan.now) }
+    ensures same { OnErr result (out.new.items ≡ out.old.items) }
+{
+    let mut text = Vec::new(alloc);
+    put_plan_lines(alloc, &mut text, plan)?;
+    out.extend_from_slice(&text)
 }

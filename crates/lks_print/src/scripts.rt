@@ -5,7 +5,7 @@ ghost use Rattle.lks_script.specs.Grammar.{script_of};
 ghost use Rattle.lks_print.specs.Said.{IsSaid};
 ghost use Rattle.lks_print.specs.Scripts.{script_text};
 
-use crate::plans::put_plan;
+use crate::plans::put_plan_lines;
 use crate::steps::put_steps;
 use lks_base::OutOfMemory;
 use lks_script::Script;
@@ -21,7 +21,7 @@ pub fn print_script(alloc: Global, script: &Script) -> Result<Vec<u8>, OutOfMemo
     ensures again { IsSaid script.now → IfOk result (λ text. script_of text.items ≡ Ok script.now) }
 {
     let mut out = Vec::new(alloc);
-    put_plan(alloc, &mut out, &script.plan)?;
+    put_plan_lines(alloc, &mut out, &script.plan)?;
     put_steps(alloc, &mut out, script.steps.as_slice())?;
     Ok(out)
 }

@@ -355,6 +355,48 @@ fn put_batch(out: &mut Vec<u8>, list: &[Record]) -> Written
     Ok(())
 }
 
+/// The bytes of a deposit's blocks, with the length before each.
+fn bytes_of_blocks(blocks: &[Bytes]) -> usize {
+    let mut bytes: usize = 0;
+    for block in blocks {
+        bytes = bytes.saturating_add(block.as_slice().len().saturating_add(2));
+    }
+    bytes
+}
+
+/// As many bytes as the record is spelled in, where it holds blocks.
+fn bytes_of(r: &Record) -> usize {
+    match r {
+        Record::Deposit { blocks, .. } => bytes_of_blocks(blocks.as_slice()).saturating_add(6),
+        Record::Replaced { bytes, .. } => bytes.as_slice().len().saturating_add(12),
+        Record::PollOpened { .. }
+        | Record::Nominated { .. }
+        | Record::OuterOpened { .. }
+        | Record::VoteIn { .. }
+        | Record::Shut { .. }
+        | Record::Asked { .. }
+        | Record::RepairBad { .. }
+        | Record::Closed { .. }
+        | Record::Overdue { .. }
+        | Record::Joined { .. }
+        | Record::Committed { .. }
+        | Record::Voted { .. }
+        | Record::Served { .. }
+        | Record::Ended { .. }
+        | Record::Tuned { .. } => 0,
+    }
+}
+
+/// Room for the batch's count and for the records that hold blocks, so that these aren't moved while they are written. A batch
+/// that has a record is no shorter: with the shortest one it has 8 bytes.
+fn room_for(list: &[Record]) -> usize {
+    let mut bytes: usize = 2;
+    for item in list {
+        bytes = bytes.saturating_add(bytes_of(item));
+    }
+    bytes.max(8)
+}
+
 /// The one spelling of the batch.
 pub fn encode_batch(alloc: Global, list: &[Record]) -> Result<Vec<u8>, OutOfMemory>
     requires count { IsCounted list.now }
@@ -365,7 +407,7 @@ pub fn encode_batch(alloc: Global, list: &[Record]) -> Result<Vec<u8>, OutOfMemo
     // It isn't longer than its records may be.
     ensures short { IfOk result (λ v. length v.items ≤ most_batch_bytes list.now) }
 {
-    let mut out = Vec::new(alloc);
+    let mut out = Vec::with_capacity(alloc, room_for(list))?;
     match put_batch(&mut out, list) {
         Ok(()) => Ok(out),
         Err(_) => Err(OutOfMemory),

@@ -1,14 +1,11 @@
 -- What the loop over a nomination needs, and what is true of its candidates.
-use Rattle.std.proofs.Common.{◌≡◌, ◌≢◌, ℕ, ◌+◌, ◌<◌, ◌≤◌, ◌^◌, Bool, true, false, not, ◌&&◌, ◌||◌, cond, List, [], ◌∷◌, ◌++◌, length, take, get_or, eqb, refl, ap, sym, ◌∙◌, arith}
+use Rattle.std.proofs.Common.{◌≡◌, ◌≢◌, ℕ, ◌+◌, ◌<◌, Bool, true, false, not, ◌&&◌, ◌||◌, cond, List, [], ◌∷◌, ◌++◌, length, take, get_or, eqb, refl, ap, sym, ◌∙◌, arith}
 use Rattle.std.specs.List.{filter, All, AllPairs}
 use Rattle.std.proofs.lemmas.Bool.{eqb-true, eq-eqb, false≢true}
-use Rattle.std.proofs.lemmas.Bool.Decides.{Decides-eqb}
 use Rattle.std.proofs.lemmas.List.{take_more}
-use Rattle.std.proofs.lemmas.List.Elements.{All-cons, All-head, All-tail, All-nil, All-filter, All-weaker, All-contains, filter-append, filter_passes}
+use Rattle.std.proofs.lemmas.List.Elements.{All-cons, All-head, All-tail, All-nil, All-filter, All-weaker, filter-append, filter_passes}
 use Rattle.std.proofs.lemmas.List.Kept.{AllPairs-cons, AllPairs-filter}
-use Rattle.std.proofs.lemmas.Map.Made.{IsDistinct-from_AllPairs}
-use Rattle.std.proofs.lemmas.Map.Steps.{length-le_from_distinct_below}
-use Rattle.std.proofs.lemmas.Map.Views.{any-filter_same, Contains-from_any}
+use Rattle.std.proofs.lemmas.Map.Views.{any-filter_same}
 use Rattle.lks_base.specs.Checking.{has_member}
 use Rattle.lks_refs.specs.Circles.{each_once, may_stand, candidates}
 
@@ -86,14 +83,6 @@ candidates-pass own inner circle nominees = filter_passes (may_stand own inner c
 pub All-candidates : (P : ℕ → Type 0) (own : ℕ) (inner circle nominees : List ℕ) → All P nominees → All P (candidates own inner circle nominees)
 unfolding candidates
 All-candidates P own inner circle nominees all = All-filter (may_stand own inner circle) P (each_once nominees) (All-each_once P nominees all)
-
--- peers have numbers of 16 bits, so there are few candidates
-pub candidates-few : (own : ℕ) (inner circle nominees : List ℕ) → All (λ p. p < 2 ^ 16) nominees → length (candidates own inner circle nominees) ≤ 2 ^ 16
-candidates-few own inner circle nominees small =
-    let those = candidates own inner circle nominees in
-    length-le_from_distinct_below those (2 ^ 16)
-    (IsDistinct-from_AllPairs Decides-eqb those (candidates-once own inner circle nominees))
-    (λ q found. All-contains (λ p. p < 2 ^ 16) those q (All-candidates (λ p. p < 2 ^ 16) own inner circle nominees small) (Contains-from_any eqb-true q those found))
 
 -- the candidates of one nominee more
 pub candidates_more : (own : ℕ) (inner circle nominees : List ℕ) (i : ℕ) → i < length nominees

@@ -1,10 +1,10 @@
 -- The outer circle of a poll, from the nominations of its inner circle.
-use Rattle.std.specs.Prelude.{◌≡◌, ◌≢◌, ℕ, ◌+◌, ◌-◌, ◌*◌, ◌≤◌, min, Bool, true, false, not, ◌&&◌, ◌==◌, List, [], ◌∷◌, ◌++◌, length, filter, fold, All, AllPairs}
+use Rattle.std.specs.Prelude.{◌≡◌, ◌≢◌, ℕ, ◌+◌, ◌-◌, ◌*◌, ◌≤◌, min, Bool, true, false, not, ◌&&◌, ◌==◌, List, [], ◌∷◌, ◌++◌, length, take, filter, fold, All, AllPairs}
 use Rattle.std.specs.Int.{div_ceil}
 use Rattle.std.specs.List.{list_any}
 use Rattle.lks_base.specs.Checking.{has_member}
 use Rattle.lks_draw.specs.Picks.{picked, words_taken}
-use Rattle.lks_draw.specs.Words.{Drawn, words_of}
+use Rattle.lks_draw.specs.Words.{Drawn, moved, words_of}
 
 -- the members of a list in order, each at its first place
 abbrev pub each_once : List ℕ → List ℕ
@@ -46,6 +46,11 @@ filled_by d own inner size share nominations = fold (filled d own inner size sha
 -- the nominations of a circle are gone through in order, by the words of one draw
 unfoldable pub circle_of : Drawn → ℕ → List ℕ → List (List ℕ) → ℕ → Filled
 circle_of d own inner nominated size = filled_by d own inner size (div_ceil size (length nominated)) nominated
+
+-- the draw has come as far as some of these nominations take it
+pub record HasComeTo (d : Drawn) (own : ℕ) (inner : List ℕ) (nominated : List (List ℕ)) (size : ℕ) (draws : Drawn) : Type 0 where
+  pub count : ℕ
+  pub after : draws ≡ moved d (filled_by d own inner size (div_ceil size (length nominated)) (take count nominated)).words
 
 -- some nomination names this peer
 abbrev pub is_nominee : List (List ℕ) → ℕ → Bool

@@ -1,12 +1,12 @@
 //! The outer circle of a poll.
 
-ghost use Rattle.std.specs.Prelude.{◌≡◌, ◌<◌, ◌^◌, IfOk, OnOk, OnErr, not, ◌&&◌, cond, [], ◌∷◌, ◌++◌, length, vec_len};
+ghost use Rattle.std.specs.Prelude.{◌≡◌, ◌<◌, IfOk, OnOk, OnErr, not, ◌&&◌, cond, [], ◌∷◌, ◌++◌, length};
 ghost use Rattle.std.specs.Int.{div_ceil};
 ghost use Rattle.lks_base.specs.Checking.{has_member};
 ghost use Rattle.lks_draw.specs.Picks.{picked_by, words_taken};
 ghost use Rattle.lks_draw.specs.Words.{moved};
 ghost use Rattle.lks_refs.specs.Circles as circles;
-ghost use Rattle.lks_refs.specs.Circles.{circle_of, IsLeastShare, IsOuterCircle};
+ghost use Rattle.lks_refs.specs.Circles.{circle_of, HasComeTo, IsLeastShare, IsOuterCircle};
 
 use lks_base::{Ids, OutOfMemory, PeerId, has_member};
 use lks_draw::Draws;
@@ -26,7 +26,7 @@ pub fn outer_circle(
     ensures circle { IfOk result (λ ids. ids ≡ (circle_of draws.old own inner.now nominated.now size).peers) }
     ensures law { IfOk result (λ ids. IsOuterCircle own inner.now nominated.now size ids) }
     ensures draws { OnOk result (draws.new ≡ moved draws.old (circle_of draws.old own inner.now nominated.now size).words) }
-    ensures key { draws.new.key ≡ draws.old.key }
+    ensures err { OnErr result (HasComeTo draws.old own inner.now nominated.now size draws.new) }
 {
     let mut peers = Vec::new(alloc);
     if nominated.is_empty() {
@@ -50,8 +50,7 @@ fn candidates(
     circle: &[PeerId],
     nominees: &[PeerId],
 ) -> Result<Vec<PeerId>, OutOfMemory>
-    ensures candidates { IfOk result (λ v. v.items ≡ circles.candidates own inner.now circle.now nominees.now) }
-    ensures few { IfOk result (λ v. vec_len v < 2 ^ 32) }
+    ensures { IfOk result (λ v. v.items ≡ circles.candidates own inner.now circle.now nominees.now) }
 {
     let mut those = Vec::new(alloc);
     for p in nominees {
@@ -99,7 +98,6 @@ fn pick(
     list: &[PeerId],
     n: usize,
 ) -> Result<Vec<PeerId>, OutOfMemory>
-    requires { length list.now < 2 ^ 32 }
     ensures picked { IfOk result (λ v. v.items ≡ picked_by draws.old list.now n) }
     ensures moved { OnOk result (draws.new ≡ moved draws.old (words_taken list.now n)) }
     ensures err { OnErr result (draws.new ≡ draws.old) }

@@ -28,7 +28,7 @@ pub fn draw_admission(own: &Station, poll: PollName) -> Draws
     Draws::new(&own.seed, ADMISSION, number_of(poll))
 }
 
-/// Whom the peer nominates in a poll. A reference list that no plan has counts as one that is refused memory.
+/// Whom the peer nominates in a poll.
 #[tactic(auto, unfolding(lks_law::specs::Voting::nominees))]
 pub fn pick_nominees(
     alloc: Global,
@@ -39,9 +39,6 @@ pub fn pick_nominees(
     ensures picked { IfOk result (λ ids. ids ≡ law.nominees own.now refs.now poll) }
     ensures few { IfOk result (λ ids. length ids ≤ limits.MOST_NOMINEES) }
 {
-    if refs.len() > u32::MAX as usize {
-        return Err(OutOfMemory);
-    }
     let mut draws = Draws::new(&own.seed, NOMINEES, number_of(poll));
     match draws.pick(alloc, refs, MOST_NOMINEES as usize) {
         Ok(members) => Ok(Seq::from_vec(members)),

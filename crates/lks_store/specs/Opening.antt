@@ -24,3 +24,9 @@ pub record HasCause {T : Type 0} (before now : ℕ) (result : Result T OpenStop)
   pub failed : IsErrOf result Failed → Rose before now
   pub ok : OnOk result (now ≡ before)
   pub memory : IsErrOf result Memory → now ≡ before
+
+-- what was told of a store before is told of it now
+pub record TellsTheSame (before now : Type 0) (content content_now : List ℕ) (count count_now : ℕ) : Type 0 where
+  pub told : before ↔ now
+  pub bytes : content_now ≡ content
+  pub faults : count_now ≡ count

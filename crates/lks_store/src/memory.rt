@@ -1,7 +1,7 @@
 //! An opener of a disk that is there already.
-ghost use Rattle.std.specs.Prelude.{◌≡◌, Some, IfOk, IfSome};
+ghost use Rattle.std.specs.Prelude.{◌≡◌, Some, IfOk, OnErr, IfSome};
 ghost use Rattle.lks_store.specs.Mem.{MemOpening, after_open, content_of, faults_of, given_by, tells_of};
-ghost use Rattle.lks_store.specs.Opening.{HasCause, IsIdle, IsOpened};
+ghost use Rattle.lks_store.specs.Opening.{HasCause, IsIdle, IsOpened, TellsTheSame};
 
 use crate::openers::{OpenStop, Opener};
 use lks_disk::Disk;
@@ -51,6 +51,7 @@ impl<D: Disk> Opener for MemOpener<D> {
     fn open_store(&mut self, _path: &str) -> Result<D, OpenStop>
         ensures opened { IfOk result (λ store. IsOpened D.face (tells_of D.face self.old) (content_of D.face self.old) (faults_of D.face self.old) store) }
         ensures cause { HasCause self.old.faults self.new.faults result }
+        ensures same { OnErr result (TellsTheSame (tells_of D.face self.old) (tells_of D.face self.new) (content_of D.face self.old) (content_of D.face self.new) (faults_of D.face self.old) (faults_of D.face self.new)) }
 
         ensures answer { result ≡ given_by self.old }
         ensures after { self.new ≡ after_open self.old }

@@ -1,5 +1,5 @@
 -- Steps during which the power fails, in the state of a world.
-use Rattle.std.proofs.Common.{◌≡◌, ◌≤◌, ◌<◌, ◌⊎◌, ◌∙◌, inl, inr, ap, sym, subst, ℕ, Bool, true, false, cond, eqb, List, [], ◌∷◌, ◌++◌, length, refl, arith}
+use Rattle.std.proofs.Common.{◌≡◌, ◌≤◌, ◌<◌, ◌+◌, ◌-◌, ◌⊎◌, ◌∙◌, inl, inr, ap, sym, subst, ℕ, Bool, true, false, cond, eqb, List, [], ◌∷◌, ◌++◌, length, refl, arith}
 use Rattle.std.specs.Prelude.{Option, Some, None, Result, Ok, Err, OnOk, IsErrOf, IsSome, MatchOption, is_some, filter, map, not, option_map, slice_get}
 use Rattle.std.specs.List.{range_with_len}
 use Rattle.std.proofs.lemmas.List.{append-nil}
@@ -11,6 +11,7 @@ use Rattle.lks_base.specs.declared.events.PeerStep.{PeerStep}
 use Rattle.lks_base.specs.declared.limits.TheConstants.{MOST_EVENTS}
 use Rattle.lks_base.specs.declared.plans.PeerPlan.{PeerPlan}
 use Rattle.lks_base.specs.declared.plans.Plan.{Plan}
+use Rattle.lks_base.specs.declared.reactions.Outgoing.{Outgoing}
 use Rattle.lks_base.specs.declared.records.Record.{Record}
 use Rattle.lks_disk.specs.Face.{Face}
 use Rattle.lks_host.specs.Hosted.{IsMadeBy}
@@ -22,7 +23,7 @@ use Rattle.lks_law.specs.Histories.{IsHonest, MayStep, added_by}
 use Rattle.lks_law.specs.Polls.{Station}
 use Rattle.lks_law.specs.World.{World, Standing, is_honest, station_of, honest_peer, world, happens, after_step, deed_of, actor_of, sent_by, peer_at, with_records}
 use Rattle.lks_world.proofs.CutLaws.{honest_at, some_length}
-use Rattle.lks_world.proofs.Keeping.{kept_room, kept_full, peer_there}
+use Rattle.lks_world.proofs.Keeping.{envelope_left, envelopes_left, kept_room, kept_full, peer_there}
 use Rattle.lks_world.proofs.SeatLaws.{counted_same, counted_then}
 use Rattle.lks_world.proofs.StateLaws.{became_step, became_cut}
 use Rattle.lks_world.specs.Cuts.{taker_of, FallsShort, Cuts, CutsOff}
@@ -105,6 +106,15 @@ module _ {D : Type 0} (f : Face D) (plan : Plan) where
       end.1.few,
       λ early. refl,
     )
+
+  -- what goes out of it can be numbered
+  pub ending_left : (s : State D) (p : PeerStep) (calls : ℕ) (after : List Standing) (e : Ending) → IsStateOf f plan s → 0 < MOST_EVENTS - length s.history.items
+      → PeersEnd s.tick (deed_of s.bag.items p) calls (peers_of f (hosts_of s.seats.items)) after e → length s.bag.items + length (sends_for e) ≤ 4294967295
+  unfolding sends_in
+  ending_left s p calls after (Whole done) is room end =
+      subst (λ (sends : List Outgoing). length s.bag.items + length sends ≤ 4294967295) (sym end.0) (envelopes_left f plan s p is room)
+  ending_left s p calls after (Kept notes) is room end = let low = envelope_left f plan s is in omega (arith, low)
+  ending_left s p calls after Lost is room end = let low = envelope_left f plan s is in omega (arith, low)
 
   -- What a step came to is what becomes of it by the rules.
 

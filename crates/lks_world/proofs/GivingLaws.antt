@@ -1,7 +1,7 @@
 -- What is given out is due, and what a result is taken for is ready.
-use Rattle.std.proofs.Common.{◌≡◌, ◌≢◌, ◌<◌, ◌+◌, ◌⊎◌, inl, inr, ◌∙◌, ap, sym, subst, ℕ, zero, suc, Bool, true, false, cond, eqb, List, [], ◌∷◌, ◌++◌, length, drop, get_or, refl, arith}
+use Rattle.std.proofs.Common.{◌≡◌, ◌≢◌, ◌<◌, ◌+◌, ◌⊎◌, inl, inr, ◌∙◌, ap, sym, subst, ℕ, zero, suc, Bool, true, false, cond, eqb, List, [], ◌∷◌, ◌++◌, length, drop, get_or, refl}
 use Rattle.std.specs.Prelude.{Option, Some, None, Result, Ok, Err, IfOk, All, find, is_some, map, not, slice_get, ◌&&◌}
-use Rattle.std.specs.List.{filter_map, flat_map, range_with_len}
+use Rattle.std.specs.List.{filter_map, flat_map}
 use Rattle.std.proofs.lemmas.Bool.{and_from, eq-eqb, eqb-true}
 use Rattle.std.proofs.lemmas.List.{map-append}
 use Rattle.std.proofs.lemmas.Option.{get_or_from_slice_get}
@@ -10,13 +10,11 @@ use Rattle.lks_audit.specs.Tallying.{is_ready, tag_of, tag_ready}
 use Rattle.lks_base.specs.declared.events.Due.{Due}
 use Rattle.lks_base.specs.declared.events.Due.TheVariants.{Delivery, Own}
 use Rattle.lks_base.specs.declared.events.Event.{Event}
-use Rattle.lks_base.specs.declared.events.Event.TheVariants as events
 use Rattle.lks_base.specs.declared.events.PeerStep.{PeerStep}
 use Rattle.lks_base.specs.declared.events.PeerStep.TheVariants as steps
 use Rattle.lks_base.specs.declared.memory.OutOfMemory.{OutOfMemory}
 use Rattle.lks_base.specs.declared.names.PollName.{PollName}
 use Rattle.lks_base.specs.declared.plans.Plan.{Plan}
-use Rattle.lks_base.specs.declared.records.Record.{Record}
 use Rattle.lks_disk.specs.Face.{Face}
 use Rattle.lks_host.specs.declared.hosts.Host.{Host}
 use Rattle.lks_law.proofs.Dues.{first_of_dues, turn_is_no_work}
@@ -25,8 +23,7 @@ use Rattle.lks_law.proofs.Keyed.{is_itself, same_poll}
 use Rattle.lks_law.proofs.Linking.{at_own, found_at}
 use Rattle.lks_law.proofs.Turning.{poll_there, ready_is}
 use Rattle.lks_law.proofs.Writing.{written_in}
-use Rattle.lks_law.specs.Due.{dues, first_due, first_own, is_work, is_work_event, next_to_finish, or_else, pending, ready, ready_at, turns, turns_at, IsEventOf}
-use Rattle.lks_law.specs.Journal.{opened_numbers, openings}
+use Rattle.lks_law.specs.Due.{dues, first_due, first_own, is_work_event, next_to_finish, or_else, pending, ready, ready_at, turns, turns_at, IsEventOf}
 use Rattle.lks_law.specs.Polls.{Station}
 use Rattle.lks_law.specs.State.{Poll, State as InState, poll_at, state_of}
 use Rattle.lks_law.specs.Taking.{Pinned, is_pinned_of, pinned_at}
@@ -50,10 +47,10 @@ use Rattle.lks_world.proofs.NextLaws.{delivers_first}
 use Rattle.lks_world.proofs.ReadyLaws.{front, part_is, state_is}
 use Rattle.lks_world.specs.Giving.{peer_named, seat_works, tag_by, IsExpected, IsJobIn, IsOut, TakesTurn}
 use Rattle.lks_world.specs.Worlds.{Seen}
-use Rattle.lks_world.specs.Handing.{Expects, IsBesideWork, IsExpectedAt, IsJobAt, IsNext, IsReadyAt, IsToldBy}
+use Rattle.lks_world.specs.Handing.{Expects, IsBesideWork, IsExpectedAt, IsJobAt, IsNext, IsReadyAt}
 use Rattle.lks_world.specs.Hosts.{peer_in, peers_of}
 use Rattle.lks_world.specs.Seats.{hosts_of, StandsAt}
-use Rattle.lks_world.specs.States.{events_in, own_steps, seat_steps, IsStateOf}
+use Rattle.lks_world.specs.States.{events_in, seat_steps, IsStateOf}
 use Rattle.lks_world.specs.declared.seats.Seat.{Seat}
 use Rattle.lks_world.specs.declared.seats.Seat.TheVariants as seat
 use Rattle.lks_world.specs.declared.giving.Next.TheVariants as next

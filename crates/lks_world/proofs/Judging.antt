@@ -1,6 +1,6 @@
 -- What a script makes of a history is judged as the judge says.
 use Rattle.std.proofs.Common.{◌≡◌, ◌≤◌, ◌<◌, ◌⊎◌, inl, inr, ◌-◌, ap, sym, subst, ℕ, zero, suc, Bool, true, false, cond, List, [], ◌∷◌, ◌++◌, length, refl, append_assoc}
-use Rattle.std.specs.Prelude.{Option, Some, None, is_some, min, nat_lt, option_map, slice_get}
+use Rattle.std.specs.Prelude.{Option, Some, None, is_some, min, nat_lt, option_map}
 use Rattle.std.specs.Option.{option_map_or}
 use Rattle.std.proofs.lemmas.Bool.{cases_lt}
 use Rattle.std.proofs.lemmas.List.{append-nil}
@@ -16,7 +16,7 @@ use Rattle.lks_base.specs.declared.names.Judged.TheVariants.{NotAsked, Accepted,
 use Rattle.lks_base.specs.declared.plans.Plan.{Plan}
 use Rattle.lks_effort.specs.declared.questions.Question.{Question}
 use Rattle.lks_host.proofs.Cuts.{none_or_some}
-use Rattle.lks_law.specs.Due.{pending, next_to_lose}
+use Rattle.lks_law.specs.Due.{next_to_lose}
 use Rattle.lks_law.specs.Histories.{was_judged, MayStep, MayHappen, added_by}
 use Rattle.lks_law.specs.Questions.{Verdicts, judged, question_at, question_on, asked_by, questions_from, questions, delivery_of, event_of, IsJudgedStep, IsJudged, AreJudgedFrom, AreJudged, OwnAsksNothing}
 use Rattle.lks_law.specs.World.{World, Standing, start, happens, happen_all, world, peer_at}
@@ -24,7 +24,6 @@ use Rattle.lks_saying.specs.Sayings.{Saying, said_by}
 use Rattle.lks_message.specs.Spelling.{spelling}
 use Rattle.lks_script.specs.StepRules.{is_step_of, is_cut_step}
 use Rattle.lks_script.specs.declared.steps.CutStep.{CutStep}
-use Rattle.lks_script.specs.declared.steps.CutStep.TheVariants as cut
 use Rattle.lks_script.specs.declared.steps.Step.{Step}
 use Rattle.lks_script.specs.declared.steps.Step.TheVariants as step
 use Rattle.lks_world.proofs.CountLaws.{some_is}

@@ -7,7 +7,9 @@ use Rattle.std.proofs.lemmas.List.{append-nil, length-map}
 use Rattle.std.proofs.lemmas.Option.{slice_get-map}
 use Rattle.lks_disk.specs.Face.{Face}
 use Rattle.lks_base.specs.declared.entries.Entry.{Entry}
+use Rattle.lks_base.specs.Checking.{plan_fault}
 use Rattle.lks_base.specs.declared.events.Event.{Event}
+use Rattle.lks_base.specs.declared.events.PeerStep.{PeerStep}
 use Rattle.lks_base.specs.declared.limits.TheConstants.{MOST_EVENTS, MOST_TICKS}
 use Rattle.lks_base.specs.declared.plans.Plan.{Plan}
 use Rattle.lks_host.specs.Hosted.{StandsFor}
@@ -19,15 +21,16 @@ use Rattle.lks_law.specs.Entries.{entries}
 use Rattle.lks_law.proofs.Happening.{no_events}
 use Rattle.lks_law.proofs.Writing.{written_in}
 use Rattle.lks_law.specs.Histories.{IsHistory}
-use Rattle.lks_law.specs.World.{Standing, World, world, start, standing_of, is_honest}
+use Rattle.lks_law.specs.World.{Standing, World, world, deed_of, effect_of, start, standing_of, is_honest}
 use Rattle.lks_world.proofs.HostLaws.{journal_there}
+use Rattle.lks_world.proofs.Sends.{few_envelopes, few_sent, most_sent}
 use Rattle.lks_world.specs.Begun.{HaveBegun}
 use Rattle.lks_world.specs.Hosts.{peer_in, peers_of, AreReady, IsHostAt}
 use Rattle.lks_world.specs.Follows.{done_within, done}
 use Rattle.lks_world.specs.Kept.{kept}
 use Rattle.lks_world.specs.declared.states.State.{State}
 use Rattle.lks_world.specs.Seats.{hosts_of}
-use Rattle.lks_world.specs.States.{events_of, events_in, IsStateOf, Becomes, Extends}
+use Rattle.lks_world.specs.States.{events_of, events_in, sends_in, world_in, IsStateOf, Becomes, Extends}
 
 pub kept_room : (history : List Event) (e : Event) → length history < MOST_EVENTS → kept history e ≡ history ++ e ∷ []
 kept_room history e room = rw (lt-ltb (length history) MOST_EVENTS room) refl
@@ -91,11 +94,12 @@ module _ {D : Type 0} (f : Face D) where
   extends_by plan s t more is events = record { more = more; events = events; happened = is.happened; entries = is.entries }
 
   -- the state with which a world begins
-  pub begun : (plan : Plan) (s : State D) → peers_of f (hosts_of s.seats.items) ≡ map (standing_of plan) (filter is_honest plan.peers) → s.bag.items ≡ [] → s.pending.items ≡ [] → s.history.items ≡ [] → s.tick ≡ 0
+  pub begun : (plan : Plan) (s : State D) → plan_fault plan ≡ None → peers_of f (hosts_of s.seats.items) ≡ map (standing_of plan) (filter is_honest plan.peers) → s.bag.items ≡ [] → s.pending.items ≡ [] → s.history.items ≡ [] → s.tick ≡ 0
       → ((place : ℕ) (h : Host D) → slice_get (hosts_of s.seats.items) place ≡ Some h → IsHostAt f s.pool.now (batches_at place plan []) 0 h) → IsStateOf f plan s
-  begun plan s peers bag pending history tick hosts =
+  begun plan s good peers bag pending history tick hosts =
       let events : events_in s ≡ [] = ap (map (λ (e : Entry). e.event)) history in
       record {
+        good = good;
         happened = subst (IsHistory plan) (sym events) (no_events plan);
         world = (λ i. record { peers = peers_of f (hosts_of s.seats.items); bag = bag i; tick = tick i }) ∙ begun_world plan (peers_of f (hosts_of s.seats.items)) peers ∙ ap (world plan) (sym events);
         entries = history ∙ begun_entries plan ∙ ap (entries plan) (sym events);
@@ -149,6 +153,23 @@ module _ {D : Type 0} (f : Face D) where
       let events : MOST_EVENTS ≡ 4096 = refl in
       let ticks : MOST_TICKS ≡ 1000000 = refl in
       omega (arith, is.clock, room, few, events, ticks)
+
+  -- and each message of a step can be numbered in 32 bits, as one more can
+  pub envelopes_left : (plan : Plan) (s : State D) (p : PeerStep) → IsStateOf f plan s → 0 < MOST_EVENTS - length s.history.items
+      → length s.bag.items + sends_in (world_in f s) p ≤ 4294967295
+  unfolding sends_in
+  envelopes_left plan s p is room =
+      let events : MOST_EVENTS ≡ 4096 = refl in
+      let bag : length s.bag.items ≡ length (world plan (events_in s)).bag = ap (λ (w : World). length w.bag) is.world in
+      let sends = subst (λ (w : World). length (effect_of w.tick w.peers (deed_of w.bag p)).sends ≤ most_sent) (sym is.world)
+      (few_sent plan (events_in s) is.good is.happened (deed_of (world plan (events_in s)).bag p)) in
+      omega (arith, bag, few_envelopes plan (events_in s) is.good is.happened, sends, room, count_events s, events)
+
+  pub envelope_left : (plan : Plan) (s : State D) → IsStateOf f plan s → length s.bag.items < 4294967295
+  envelope_left plan s is =
+      let events : MOST_EVENTS ≡ 4096 = refl in
+      let bag : length s.bag.items ≡ length (world plan (events_in s)).bag = ap (λ (w : World). length w.bag) is.world in
+      omega (arith, bag, few_envelopes plan (events_in s) is.good is.happened, is.happened.few, events)
 
   -- Going on by a rule: what is left to do from this state is what was to be done from the first.
   pub record Goes (next : Plan → List Event → Option Event) (times : ℕ) (plan : Plan) (first now : State D) (left : ℕ) : Type 0 where

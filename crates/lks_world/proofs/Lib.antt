@@ -26,6 +26,7 @@ mod ReadyLaws
 mod SeatEnds
 mod Remembering
 mod SeatLaws
+mod Sends
 pub mod ServingLaws
 mod StateLaws
 pub mod Stopped

@@ -15,7 +15,7 @@ use Rattle.lks_base.specs.declared.plans.Plan.{Plan}
 use Rattle.lks_effort.specs.declared.questions.Question.{Question}
 use Rattle.lks_law.proofs.Happening.{delivery_may, lose_may}
 use Rattle.lks_law.specs.Due.{ready, turns, first_due, first_own, first_waiting, next_to_settle, next_to_deliver, next_to_lose, next_to_finish}
-use Rattle.lks_law.specs.Histories.{MayHappen, WasSent}
+use Rattle.lks_law.specs.Histories.{WasSent}
 use Rattle.lks_law.specs.Questions.{Verdicts, judged, question_at, questions, delivery_of, event_of}
 use Rattle.lks_law.specs.World.{World, world}
 use Rattle.lks_script.specs.StepRules.{is_step_of}

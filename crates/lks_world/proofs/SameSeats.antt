@@ -135,6 +135,7 @@ module _ {D : Type 0} (f : Face D) where
   -- it is the state of the same history
   pub same_state : (plan : Plan) (s t : State D) → AreSameSeats s.seats.items t.seats.items → t ≡ record s { seats = t.seats } → IsStateOf f plan s → IsStateOf f plan t
   same_state plan s t same rest is = subst (IsStateOf f plan) (sym rest) (record {
+    good = is.good;
     happened = is.happened;
     world = ap (λ (ps : List Standing). the_world ps) (same_peers s.seats.items t.seats.items same) ∙ is.world;
     entries = is.entries;

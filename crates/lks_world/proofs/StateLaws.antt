@@ -137,6 +137,7 @@ module _ {D : Type 0} (f : Face D) where
       let untouched : (i : ℕ) → length (world plan (events_in s)).bag ≤ i → takes_out i e ≡ false = λ i le. h.untouched i (omega (arith, size)) in
       let here = subst (λ w. MayHappen plan w e) is.world may in
       record {
+        good = is.good;
         happened = subst (IsHistory plan) (sym events) (history_more plan (events_in s) e is.happened room here);
         world = worlds ∙ ap (world plan) (sym events);
         entries =

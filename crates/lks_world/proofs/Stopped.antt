@@ -16,6 +16,8 @@ use Rattle.lks_world.specs.Follows.{IsUpTo, first_step}
 use Rattle.lks_world.specs.States.{AreLeft, events_in, world_in, IsStateOf}
 use Rattle.lks_world.specs.Stopping.{HasStopped}
 use Rattle.lks_world.specs.Watched.{Stops, StopsBy}
+use Rattle.lks_law.specs.Histories.{MayStep}
+use Rattle.lks_law.specs.World.{world}
 use Rattle.lks_world.specs.declared.states.State.{State}
 
 pub err_then : {T F : Type 0} {P : Type 0} (r : Result T F) → P → OnErr r P
@@ -85,24 +87,32 @@ module _ {D J B : Type 0} (f : Face D) (e : Ears J B) (plan : Plan) where
   stopped_still P s t x z is up_to seats same stays = record {
     next = None;
     up_to = subst (λ h. IsUpTo P h None) (sym same) up_to;
+    may = tt;
     stops = stops_quiet s (events_in t) x z same stays;
     left = left_still f plan s t is same None seats;
   }
 
   -- in a step that was begun
-  pub stopped_in : (P : List Event → Type 0) (before : List Event) (s t : State D) (p : PeerStep) (x z : Watch J B) → IsUpTo P (events_in s) (Some p) → events_in t ≡ events_in s
+  pub stopped_in : (P : List Event → Type 0) (before : List Event) (s t : State D) (p : PeerStep) (x z : Watch J B) → IsUpTo P (events_in s) (Some p) → MayStep plan (world plan (events_in s)) p → events_in t ≡ events_in s
       → StopsBy e plan before (events_in t) (Some p) x z → AreLeft f plan (Some p) t → HasStopped f e plan P before x t z
-  stopped_in P before s t p x z up_to same stops left = record { next = Some p; up_to = subst (λ h. IsUpTo P h (Some p)) (sym same) up_to; stops = stops; left = left }
+  stopped_in P before s t p x z up_to may same stops left = record {
+    next = Some p;
+    up_to = subst (λ h. IsUpTo P h (Some p)) (sym same) up_to;
+    may = subst (λ (h : List Event). MayStep plan (world plan h) p) (sym same) may;
+    stops = stops;
+    left = left;
+  }
 
   -- on the way to a history, and so to one that goes on from it
   pub stopped_on : (P Q : List Event → Type 0) (before : List Event) (t : State D) (x z : Watch J B) → ((whole : List Event) → P whole → (more : List Event) × Q (whole ++ more)) → HasStopped f e plan P before x t z → HasStopped f e plan Q before x t z
-  stopped_on P Q before t x z on stopped = record { next = stopped.next; up_to = up_to_more P Q (events_in t) stopped.next on stopped.up_to; stops = stopped.stops; left = stopped.left }
+  stopped_on P Q before t x z on stopped = record { next = stopped.next; up_to = up_to_more P Q (events_in t) stopped.next on stopped.up_to; may = stopped.may; stops = stopped.stops; left = stopped.left }
 
   -- after what was done before
   pub stopped_then : (P : List Event → Type 0) (before mid : List Event) (t : State D) (x y z : Watch J B) → WatchesBy e plan before mid x y → HasStopped f e plan P mid y t z → HasStopped f e plan P before x t z
   stopped_then P before mid t x y z watched stopped = record {
     next = stopped.next;
     up_to = stopped.up_to;
+    may = stopped.may;
     stops = stops_then plan before mid (events_in t) stopped.next (seen_by e x) (seen_by e y) (seen_by e z) watched stopped.stops;
     left = stopped.left;
   }

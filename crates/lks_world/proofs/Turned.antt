@@ -1,6 +1,6 @@
 -- What a world keeps when something that is due was given out or done.
-use Rattle.std.proofs.Common.{◌≡◌, ◌≢◌, ◌≤◌, ◌<◌, ◌+◌, ◌∙◌, ap, sym, subst, refl, arith, ℕ, List, [], ◌∷◌, ◌++◌, length}
-use Rattle.std.specs.Prelude.{Option, Some, None, Result, Ok, Err, Vec, reverse, slice_get, is_some, true, false}
+use Rattle.std.proofs.Common.{◌≡◌, ◌<◌, ◌+◌, ◌∙◌, ap, sym, subst, refl, arith, ℕ, [], ◌∷◌, ◌++◌, length}
+use Rattle.std.specs.Prelude.{Option, Some, None, Ok, Err, Vec, reverse, slice_get, is_some, true, false}
 use Rattle.std.specs.declared.alloc.Global.{Global}
 use Rattle.std.proofs.lemmas.List.{append-nil, length-map}
 use Rattle.lks_base.specs.declared.events.Due.{Due}
@@ -26,12 +26,13 @@ use Rattle.lks_world.specs.Beside.{AreSameSeats}
 use Rattle.lks_world.specs.Doable.{IsDoable}
 use Rattle.lks_world.specs.Giving.{HasTurn, TakesTurn}
 use Rattle.lks_world.specs.Seats.{disks_at, id_at, AreSeats, Counted}
-use Rattle.lks_world.specs.States.{events_in, events_of, AreLeft, Becomes, IsStateOf}
+use Rattle.lks_world.specs.States.{events_in, events_of, AreLeft, Becomes}
 use Rattle.lks_world.specs.Watched.{StopsBy}
 use Rattle.lks_world.specs.Worlds.{HasHalted, HaveServed, IsKept, halted, seen_in}
 use Rattle.lks_world.specs.declared.faults.WorldFault.{WorldFault}
 use Rattle.lks_world.specs.declared.faults.WorldFault.TheVariants.{Memory}
 use Rattle.lks_world.specs.declared.seats.Seat.{Seat}
+use Rattle.lks_world.specs.Held.{MayBegin}
 use Rattle.lks_world.specs.declared.states.State.{State}
 use Rattle.lks_world.specs.declared.worlds.World.TheInside.{Inside}
 
@@ -46,10 +47,11 @@ halted_still (Some fault) is = refl
 
 module _ {D J B : Type 0} (f : Face D) (e : Ears J B) (a : Inside D J B) (kept : IsKept f e a) (runs : a.stopped ≡ None) where
   -- what a fault leaves in a step that was begun, or in none
-  pub halts_at : (t : State D) (w : Watch J B) (next : Option PeerStep) → StopsBy e a.plan (events_in a.state) (events_in t) next a.watch w → AreLeft f a.plan next t → AreSeats a.plan.peers t.seats.items
+  pub halts_at : (t : State D) (w : Watch J B) (next : Option PeerStep) → MayBegin a.plan (events_in t) next → StopsBy e a.plan (events_in a.state) (events_in t) next a.watch w → AreLeft f a.plan next t → AreSeats a.plan.peers t.seats.items
       → HasHalted f e a.plan a.first_limits.numbers (events_in t) (disks_at t.seats.items ++ reverse a.rest.items) w.judge w.desk
-  halts_at t w next stops left seats = record {
+  halts_at t w next may stops left seats = record {
     next = next;
+    may = may;
     heard = stops.heard (kept.watched runs).heard;
     rung = stops.bells a.first_limits.numbers (kept.watched runs).rung;
     left = disks_left f a.plan next t (reverse a.rest.items) left seats;
@@ -59,6 +61,7 @@ module _ {D J B : Type 0} (f : Face D) (e : Ears J B) (a : Inside D J B) (kept :
   pub halts_here : HasHalted f e a.plan a.first_limits.numbers (events_in a.state) (disks_at a.state.seats.items ++ reverse a.rest.items) a.watch.judge a.watch.desk
   halts_here = record {
     next = None;
+    may = tt;
     heard = (kept.watched runs).heard ∙ sym (append-nil (questions a.plan (events_in a.state)));
     rung = (kept.watched runs).rung;
     left = disks_left f a.plan None a.state (reverse a.rest.items) (left_still f a.plan a.state a.state (kept.state runs) refl None refl) kept.seats;

@@ -1,7 +1,7 @@
 -- A judge and bells watch the world of a state.
 use Rattle.std.proofs.Common.{◌≡◌, ◌<◌, ◌∙◌, ap, sym, subst, ℕ, Bool, true, false, cond, List, [], ◌∷◌, ◌++◌, length, refl, arith}
-use Rattle.std.specs.Prelude.{Option, Some, None, Result, Ok, Err, OnOk, map, filter, is_some, nat_lt, option_map, slice_get}
-use Rattle.std.specs.List.{cons_option, filter_map, flat_map, range_with_len}
+use Rattle.std.specs.Prelude.{Option, Some, None, Result, Ok, Err, OnOk, map, nat_lt, option_map, slice_get}
+use Rattle.std.specs.List.{filter_map}
 use Rattle.std.specs.Option.{option_map_or, option_to_list}
 use Rattle.std.proofs.lemmas.List.{map-append}
 use Rattle.lks_alarm.specs.declared.alarms.Alarm.{Alarm}
@@ -15,18 +15,13 @@ use Rattle.lks_base.specs.declared.events.Event.TheVariants as events
 use Rattle.lks_base.specs.declared.events.PeerStep.{PeerStep}
 use Rattle.lks_base.specs.declared.events.PeerStep.TheVariants as peers
 use Rattle.lks_base.specs.declared.limits.TheConstants.{MOST_EVENTS}
-use Rattle.lks_base.specs.declared.names.PollName.{PollName}
 use Rattle.lks_base.specs.declared.plans.Plan.{Plan}
-use Rattle.lks_base.specs.declared.records.Record.{Record}
 use Rattle.lks_disk.specs.Face.{Face}
 use Rattle.lks_effort.specs.declared.questions.Question.{Question}
 use Rattle.lks_law.specs.Alarms.{alarms_by, alarm_noted}
-use Rattle.lks_law.specs.Due.{pending, works_at, tallies_at, ready_at, ready, turn_at, turn_of, turns_at, turns, first_own, first_due, next_to_settle, next_to_deliver, next_to_lose, next_to_finish}
+use Rattle.lks_law.specs.Due.{pending, next_to_lose}
 use Rattle.lks_law.specs.Entries.{entry_for}
-use Rattle.lks_law.specs.Journal.{openings, is_running, is_voting, is_widened, unanswered}
 use Rattle.lks_law.specs.Questions.{asked_by, question_on, questions}
-use Rattle.lks_law.specs.Reaction.{may_tally}
-use Rattle.lks_law.specs.Sessions.{may_work, committed_polls}
 use Rattle.lks_law.specs.World.{World, Standing, world, deed_of, actor_of}
 use Rattle.lks_message.specs.Spelling.{spelling}
 use Rattle.lks_saying.specs.Sayings.{Saying}
@@ -45,12 +40,10 @@ use Rattle.lks_world.specs.Follows.{lost, spoken}
 use Rattle.lks_world.specs.Hosts.{peers_of}
 use Rattle.lks_world.specs.Kept.{kept}
 use Rattle.lks_world.specs.Seats.{hosts_of}
-use Rattle.lks_world.specs.States.{events_in, world_in, IsStateOf, next_of}
+use Rattle.lks_world.specs.States.{events_in, world_in, IsStateOf}
 use Rattle.lks_law.specs.Questions.{OwnAsksNothing}
 use Rattle.lks_world.specs.declared.cutting.Ending.{Ending}
 use Rattle.lks_world.specs.declared.cutting.Ending.TheVariants.{Whole, Kept, Lost}
-use Rattle.lks_world.specs.declared.settling.Course.{Course}
-use Rattle.lks_world.specs.declared.settling.Course.TheVariants.{Settling, Delivering, Finishing}
 use Rattle.lks_world.specs.declared.states.State.{State}
 
 -- What a script lets peers do of their own asks nothing.

@@ -1,8 +1,8 @@
 -- What a world gives out that is due, and what it takes back.
-use Rattle.std.specs.Prelude.{◌≡◌, ◌≢◌, ◌≤◌, ◌<◌, ◌+◌, ◌⊎◌, ℕ, Bool, true, false, not, Option, Some, None, List, [], ◌∷◌, ◌++◌, All, filter, length, slice_get}
+use Rattle.std.specs.Prelude.{◌≡◌, ◌≢◌, ◌≤◌, ◌<◌, ◌+◌, ◌⊎◌, ℕ, true, false, not, Option, Some, None, List, [], ◌∷◌, ◌++◌, All, filter, length, slice_get}
 use Rattle.lks_audit.specs.Kept.{Kept}
 use Rattle.lks_base.specs.declared.events.Due.{Due}
-use Rattle.lks_base.specs.declared.events.Due.TheVariants.{Delivery, Own}
+use Rattle.lks_base.specs.declared.events.Due.TheVariants.{Own}
 use Rattle.lks_base.specs.declared.events.Event.{Event}
 use Rattle.lks_base.specs.declared.events.Event.TheVariants.{Step}
 use Rattle.lks_base.specs.declared.limits.TheConstants.{MOST_EVENTS}

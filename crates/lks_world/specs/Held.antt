@@ -1,5 +1,5 @@
 -- What the disks of a world hold.
-use Rattle.std.specs.Prelude.{◌≡◌, ◌<◌, ◌+◌, ◌++◌, ◌∷◌, ℕ, false, [], List, Option, Some, None, drop, slice_get}
+use Rattle.std.specs.Prelude.{◌≡◌, ◌<◌, ◌+◌, ◌++◌, ◌∷◌, ℕ, false, [], List, Option, Some, None, IfSome, drop, slice_get}
 use Rattle.std.specs.List.{list_any}
 use Rattle.lks_disk.specs.Face.{Face}
 use Rattle.lks_base.specs.declared.events.Event.{Event}
@@ -11,6 +11,8 @@ use Rattle.lks_host.specs.Cutting.{Falls}
 use Rattle.lks_host.specs.Bodies.{bodies_of, AreRead}
 use Rattle.lks_host.specs.Hosted.{HasFront}
 use Rattle.lks_field.specs.Frames.{HoldsBodies}
+use Rattle.lks_law.specs.Histories.{MayStep}
+use Rattle.lks_law.specs.World.{world}
 use Rattle.lks_law.specs.Batches.{batches_at}
 use Rattle.lks_world.specs.Disks.{honest_disks}
 
@@ -28,6 +30,10 @@ HaveBatches {D} f plan history disks =
 abbrev pub with_next : List Event → Option PeerStep → List Event
 with_next history None = history
 with_next history (Some s) = history ++ Step s ∷ []
+
+-- and this step may be taken in the world of that history
+abbrev pub MayBegin : Plan → List Event → Option PeerStep → Type 0
+MayBegin plan history next = IfSome next (MayStep plan (world plan history))
 
 -- A crash leaves of it the batches of its journal, or those with the batch of a step that was begun. All but the disk of the peer
 -- that takes this step are left as they were.

@@ -1,7 +1,8 @@
 -- The state of a world, and the history that it stands for.
-use Rattle.std.specs.Prelude.{◌≡◌, ◌≤◌, ◌==◌, ◌*◌, ◌++◌, ◌∷◌, ℕ, true, not, filter, map, Option, Some, List, [], length, slice_get, Result, Ok, Err}
+use Rattle.std.specs.Prelude.{◌≡◌, ◌≤◌, ◌==◌, ◌*◌, ◌++◌, ◌∷◌, ℕ, true, not, filter, map, Option, None, Some, List, [], length, slice_get, Result, Ok, Err}
 use Rattle.std.specs.List.{flat_map}
 use Rattle.lks_disk.specs.Face.{Face}
+use Rattle.lks_base.specs.Checking.{plan_fault}
 use Rattle.lks_base.specs.Steps.{Act, act_of}
 use Rattle.lks_base.specs.declared.entries.Entry.{Entry}
 use Rattle.lks_base.specs.declared.events.Due.{Due}
@@ -50,9 +51,10 @@ events_of history = map (λ e. e.event) history
 abbrev pub events_in : {D : Type 0} → State D → List Event
 events_in s = events_of s.history.items
 
--- the events are a history of the plan, the state is that of its world, and each honest peer's disk holds the batches of
--- these events; the clock moved by at most 1,000,000 at each
+-- the events are a history of this good plan, the state is that of its world, and each honest peer's disk holds the batches
+-- of these events; the clock moved by at most 1,000,000 at each
 pub record IsStateOf {D : Type 0} (f : Face D) (plan : Plan) (s : State D) : Type 0 where
+  pub good : plan_fault plan ≡ None
   pub happened : IsHistory plan (events_in s)
   pub world : world_in f s ≡ world plan (events_in s)
   pub entries : s.history.items ≡ entries plan (events_in s)

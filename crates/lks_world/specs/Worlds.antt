@@ -17,7 +17,7 @@ use Rattle.lks_watch.specs.Watching.{Ears, Watches, watching}
 use Rattle.lks_work.specs.declared.jobs.JobName.{JobName}
 use Rattle.lks_world.specs.Counts.{fault_in, ServesHonest}
 use Rattle.lks_world.specs.Follows.{Performs}
-use Rattle.lks_world.specs.Held.{AreUnfused, HaveBatchesOrNext}
+use Rattle.lks_world.specs.Held.{AreUnfused, HaveBatchesOrNext, MayBegin}
 use Rattle.lks_world.specs.Seats.{disks_at, AreSeats}
 use Rattle.lks_world.specs.Spending.{Spends}
 use Rattle.lks_world.specs.States.{events_in, IsStateOf}
@@ -72,11 +72,13 @@ pub record HasWatched {J B : Type 0} (e : Ears J B) (plan : Plan) (limits : List
   pub judged : AreJudged (e.verdict judge) plan history
   pub rung : seen e.rung e.limit bells ≡ left_of (alarms plan history) limits
 
--- Where a fault stopped it, the judge has heard what the history asks, and what the step asks that was begun, if one was; the bells are
+-- Where a fault stopped it, a step may have been begun that may be taken there; the judge has heard what the history asks, and what
+-- this step asks; the bells are
 -- those with these limits that want more than the history's alarms, for which they rang; and a crash leaves of each honest peer's disk
 -- the batches of its journal, or of the peer which began the step these, or that step's too.
 pub record HasHalted {D J B : Type 0} (f : Face D) (e : Ears J B) (plan : Plan) (limits : List ℕ) (history : List Event) (disks : List D) (judge : J) (bells : List B) : Type 0 where
   pub next : Option PeerStep
+  pub may : MayBegin plan history next
   pub heard : e.heard judge ≡ questions plan history ++ asked_next (world plan history) next
   pub rung : seen e.rung e.limit bells ≡ left_of (alarms plan history) limits
   pub left : HaveBatchesOrNext f plan history next disks

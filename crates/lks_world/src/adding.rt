@@ -178,6 +178,7 @@ pub fn add_forgery<D: CrashDisk>(
     to: PeerId,
     bytes: Bytes,
 ) -> Result<(), OutOfMemory>
+    requires state { (plan : Plan) × IsStateOf D.face plan state.old }
     ensures becomes { (plan : Plan) → IsStateOf D.face plan state.old → has_corrupt plan.peers from ≡ true → has_peer plan.peers to ≡ true → length bytes ≤ MOST_FORGED_BYTES →
         OnOk result (Becomes D.face plan (kept (events_in state.old) (events.Forge from to bytes)) state.new) }
     ensures extends { (plan : Plan) → IsStateOf D.face plan state.old → has_corrupt plan.peers from ≡ true → has_peer plan.peers to ≡ true → length bytes ≤ MOST_FORGED_BYTES →

@@ -121,6 +121,7 @@ fn speak<D: CrashDisk>(
     said: &Option<Saying>,
 ) -> Result<(), OutOfMemory>
     requires within { IfSome said.now (λ x. IsWithin x.message) }
+    requires state { (plan : Planned) × IsStateOf D.face plan state.old }
     ensures becomes { (plan : Planned) → IsStateOf D.face plan state.old → IfSome said.now (MayBeSaid plan) →
         OnOk result (Becomes D.face plan (spoken (events_in state.old) said.now) state.new) }
     ensures extends { (plan : Planned) → IsStateOf D.face plan state.old → IfSome said.now (MayBeSaid plan) →

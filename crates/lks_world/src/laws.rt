@@ -14,7 +14,9 @@ ghost use Rattle.lks_law.specs.Batches.{batches_at};
 ghost use Rattle.lks_law.specs.Histories.{IsHistory};
 ghost use Rattle.lks_law.specs.Questions.{Verdicts, questions};
 ghost use Rattle.lks_law.specs.Snapshots.{HaveSnapshots, HasFewHolders};
-ghost use Rattle.lks_law.specs.World.{world};
+ghost use Rattle.lks_law.specs.Fitting.{has_room};
+ghost use Rattle.lks_law.specs.State.{state_of};
+ghost use Rattle.lks_law.specs.World.{Standing, world};
 ghost use Rattle.lks_message.specs.Reading.{decode_of};
 ghost use Rattle.lks_saying.specs.Bytes.{GiveBytes};
 ghost use Rattle.lks_script.specs.StepRules.{are_steps_of};
@@ -33,11 +35,15 @@ pub fn what_follows_a_script_is_a_history()
         → are_steps_of plan steps ≡ true → GiveBytes plan steps → IsHistory plan history → Follows verdict plan history steps after → IsHistory plan after }
 {}
 
-/// Limits that no history passes: before each of its events the judge was asked fewer than 4,096 questions, and its clock is at most
-/// 4,096,000,000 ticks, which 32 bits hold.
+/// Limits that no history of a good plan passes: before each of its events the judge was asked fewer than 4,096 questions; its clock
+/// is at most 4,096,000,000 ticks, and it has at most 67,239,936 envelopes, which 32 bits number; and each honest peer has numbers
+/// left for a poll, a version and a vote more.
 pub fn no_history_passes_a_limit()
     ensures asked { (plan : Plan) (history : List Event) (event : Event) → IsHistory plan (history ++ event ∷ []) → length (questions plan history) < MOST_EVENTS }
     ensures clock { (plan : Plan) (history : List Event) → IsHistory plan history → (world plan history).tick ≤ MOST_TICKS * MOST_EVENTS }
+    ensures envelopes { (plan : Plan) (history : List Event) → plan_fault plan ≡ None → IsHistory plan history → length (world plan history).bag ≤ 16416 * MOST_EVENTS }
+    ensures numbers { (plan : Plan) (history : List Event) → plan_fault plan ≡ None → IsHistory plan history
+        → (place : ℕ) (s : Standing) → slice_get (world plan history).peers place ≡ Some s → has_room (state_of s.own s.journal) ≡ true }
 {}
 
 /// What disks hold can be wrong: bytes hold the bodies of one list of batches, so disks that hold the batches of one

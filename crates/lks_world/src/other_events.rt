@@ -1,6 +1,6 @@
 //! Events in which no honest peer acts.
 
-ghost use Rattle.std.specs.Prelude.{◌≡◌, ◌≤◌, ◌+◌, ◌++◌, ◌∷◌, [], None, OnOk, OnErr, ◌==◌, length, filter, not};
+ghost use Rattle.std.specs.Prelude.{◌≡◌, ◌≤◌, ◌<◌, ◌+◌, ◌++◌, ◌∷◌, [], None, OnOk, OnErr, ◌==◌, length, filter, not};
 ghost use Rattle.lks_base.specs.declared.events.Event.TheVariants as events;
 ghost use Rattle.lks_law.specs.Entries.{entry_for, entry_of};
 ghost use Rattle.lks_law.specs.World.{happens};
@@ -34,6 +34,7 @@ pub fn forge<D: CrashDisk>(
     to: PeerId,
     bytes: Bytes,
 ) -> Result<(), OutOfMemory>
+    requires few { length state.old.bag.items < 4294967295 }
     ensures seats { state.new.seats.items ≡ state.old.seats.items }
     ensures pool { state.new.pool.now ≡ state.old.pool.now }
     ensures world { OnOk result (world_in D.face state.new ≡ happens (world_in D.face state.old) (events.Forge from to bytes)) }

@@ -1,6 +1,6 @@
 //! The state of a world, and what an event does to it.
 
-ghost use Rattle.std.specs.Prelude.{◌≡◌, ◌++◌, ◌∷◌, [], Some, IfOk, IfSome, IsErrOf, OnOk, OnErr, ◌==◌, length, filter, map, not, List};
+ghost use Rattle.std.specs.Prelude.{◌≡◌, ◌≤◌, ◌<◌, ◌+◌, ◌++◌, ◌∷◌, [], Some, IfOk, IfSome, IsErrOf, OnOk, OnErr, ◌==◌, length, filter, map, not, List};
 ghost use Rattle.std.specs.List.{filter_map, range_with_len};
 ghost use Rattle.lks_base.specs.declared.events.Event.TheVariants as events;
 ghost use Rattle.lks_base.specs.declared.records.Record.{Record as Recorded};
@@ -184,20 +184,17 @@ fn take_out(pending: &mut Vec<u32>, s: PeerStep)
     }
 }
 
-/// Puts an envelope into the bag, where it waits. More than 4,294,967,295 count as want of memory.
+/// Puts an envelope into the bag, where it waits.
 pub fn put(
     bag: &mut Vec<Envelope>,
     pending: &mut Vec<u32>,
     envelope: Envelope,
 ) -> Result<(), OutOfMemory>
+    requires { length bag.old.items < 4294967295 }
     ensures bag { OnOk result (bag.new.items ≡ bag.old.items ++ envelope ∷ []) }
     ensures pending { OnOk result (pending.new.items ≡ pending.old.items ++ length bag.old.items ∷ []) }
 {
-    let count = bag.as_slice().len();
-    if count >= u32::MAX as usize {
-        return Err(OutOfMemory);
-    }
-    pending.push(count as u32)?;
+    pending.push(bag.len() as u32)?;
     bag.push(envelope)?;
     Ok(())
 }
@@ -208,6 +205,7 @@ fn send(
     from: PeerId,
     sends: Seq<Outgoing>,
 ) -> Result<(), OutOfMemory>
+    requires { length bag.old.items + length sends ≤ 4294967295 }
     ensures bag { OnOk result (bag.new.items ≡ bag.old.items ++ map (sent_by from) sends) }
     ensures pending { OnOk result (pending.new.items ≡ pending.old.items ++ range_with_len (length bag.old.items) (length sends)) }
 {
@@ -263,6 +261,7 @@ pub fn note_step<D: CrashDisk, J: EffortJudge, B: Bell>(
     actor: PeerId,
     done: Done,
 ) -> Result<(), OutOfMemory>
+    requires { length state.old.bag.items + length done.sends ≤ 4294967295 }
     ensures seats { state.new.seats.items ≡ state.old.seats.items }
     ensures pool { state.new.pool.now ≡ state.old.pool.now }
     ensures tick { state.new.tick ≡ state.old.tick }
@@ -274,10 +273,7 @@ pub fn note_step<D: CrashDisk, J: EffortJudge, B: Bell>(
 {
     let (from, to) = ends_of(&state.bag, s);
     let Done { notes, sends } = done;
-    let count = sends.as_slice().len();
-    if count > u32::MAX as usize {
-        return Err(OutOfMemory);
-    }
+    let count = sends.as_slice().len() as u32;
     take_out(&mut state.pending, s);
     send(&mut state.bag, &mut state.pending, actor, sends)?;
     state.history.reserve(1)?;
@@ -287,7 +283,7 @@ pub fn note_step<D: CrashDisk, J: EffortJudge, B: Bell>(
         from,
         to,
         notes,
-        sends: count as u32,
+        sends: count,
     });
     Ok(())
 }
@@ -305,6 +301,7 @@ pub fn step<R: Wait, D: CrashDisk, J: EffortJudge, B: Bell>(
     done: Option<JobDone>,
 ) -> Result<(), WorldFault>
     requires ready { AreReady D.face state.old.pool.now (hosts_of state.old.seats.items) }
+    requires few { length state.old.bag.items + sends_in (world_in D.face state.old) s ≤ 4294967295 }
     requires deed { deed.now ≡ deed_of state.old.bag.items s }
     requires heard { IfSome deed.now (λ d. IsHeard d.input) }
     requires done { IfSome done (IsFor state.old.pool.now s) }

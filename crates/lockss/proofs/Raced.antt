@@ -71,6 +71,7 @@ module _ {D K J B : Type 0} (e : Senses D K J B) (s : Script) (before after : De
       let halts = subst (λ (p : Plan). HasHalted e.face e.ears p now.start.limits now.history now.disks now.judge now.bells) now_plan (runs.halted fault is) in
       record {
         next = halts.next;
+        may = halts.may;
         left = subst (HaveBatchesOrNext e.face s.plan now.history halts.next) (sym disks_back) halts.left;
         heard = halts.heard;
         rung = ap (seen e.ears.rung e.ears.limit) bells_back ∙ halts.rung ∙ ap (λ (start : Start). left_of (alarms s.plan now.history) start.limits) runs.on.start ∙ ap (left_of (alarms s.plan now.history)) limits_are;

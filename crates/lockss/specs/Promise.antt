@@ -35,7 +35,7 @@ use Rattle.lks_script.specs.declared.steps.Script.{Script}
 use Rattle.lks_world.specs.Counts.{ServesHonest, honest_ids}
 use Rattle.lks_world.specs.Disks.{honest_disks}
 use Rattle.lks_world.specs.Follows.{Follows, FollowsUpTo}
-use Rattle.lks_world.specs.Held.{HaveBatches, HaveBatchesOrNext, HaveBegunUpTo}
+use Rattle.lks_world.specs.Held.{HaveBatches, HaveBatchesOrNext, HaveBegunUpTo, MayBegin}
 use Rattle.lks_world.specs.Powers.{HavePower, power_of}
 use Rattle.lks_world.specs.Spending.{AreSpent, AreSpentUpTo}
 use Rattle.lks_world.specs.Watched.{asked_next}
@@ -163,11 +163,13 @@ module _ {D K J B : Type 0} (e : Senses D K J B) (s : Script) (before after : De
     pub judged : AreJudged (e.ears.verdict last) s.plan history
     pub rung : seen e.ears.rung e.ears.limit after.bells ≡ left_of (alarms s.plan history) (map e.ears.limit before.bells)
 
-  -- A fault stopped the threads: the judge has heard what the history asks, and what the step asks that was begun, if one was. Of the
+  -- A fault stopped the threads: a step may have been begun that may come next, and the judge has heard what the history asks, and
+  -- what this step asks. Of the
   -- bells, those are back in their order that want more alarms than the history has, and each rang for exactly these. A crash leaves
   -- of each honest peer's disk the batches of its journal; of the one whose step was begun these, or this step's too.
   pub record RacesUpTo (history : List Event) (last : J) : Type 0 where
     pub next : Option PeerStep
+    pub may : MayBegin s.plan history next
     pub left : HaveBatchesOrNext e.face s.plan history next after.disks
     pub heard : e.ears.heard last ≡ questions s.plan history ++ asked_next (world s.plan history) next
     pub rung : seen e.ears.rung e.ears.limit after.bells ≡ left_of (alarms s.plan history) (map e.ears.limit before.bells)

@@ -1,4 +1,3 @@
-use Rattle.std.proofs.Common.{◌≡◌, map}
 use Rattle.std.proofs.lemmas.Result.{IfOk-weaker}
 use Rattle.lks_farm.proofs.Batching.{asked_of_all, done_of}
 use Rattle.lks_farm.specs.Batches.{AreDone}

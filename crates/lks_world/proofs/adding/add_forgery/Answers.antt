@@ -1,9 +1,12 @@
 use Rattle.std.proofs.Common.{◌<◌, ◌≤◌, ◌-◌, ℕ, List, length, get_or, refl, subst, arith}
 use Rattle.lks_base.specs.declared.limits.TheConstants.{MOST_EVENTS}
 use Rattle.lks_base.specs.declared.events.Event.TheVariants.{Forge}
-use Rattle.lks_world.proofs.Keeping.{room_kept, full_kept, room_left, extends_same, extends_kept}
+use Rattle.lks_world.proofs.Keeping.{envelope_left, room_kept, full_kept, room_left, extends_same, extends_kept}
 use Rattle.lks_world.proofs.StateLaws.{became_forge}
 use Rattle.lks_world.proofs.adding.add_forgery.Goals as goal
+
+pub forge-requires-clause-few : goal.forge-requires-clause-few
+forge-requires-clause-few g c = λ κs lives. envelope_left g.D.Disk.face c.requires.state.0 c.args.state.now c.requires.state.1
 
 pub returns-in_ok-forge-clause-becomes : goal.returns-in_ok-forge-clause-becomes
 returns-in_ok-forge-clause-becomes g c = λ plan is corrupt known few.

@@ -5,7 +5,7 @@ use Rattle.lks_base.specs.declared.events.Event.TheVariants.{Step}
 use Rattle.lks_base.specs.declared.plans.Plan.{Plan}
 use Rattle.lks_law.specs.Histories.{MayHappen, MayStep}
 use Rattle.lks_law.specs.Questions.{event_of}
-use Rattle.lks_law.specs.World.{world}
+use Rattle.lks_law.specs.World.{World, world}
 use Rattle.lks_watch.specs.Watching.{AsksOn, ears}
 use Rattle.lks_world.proofs.Keeping.{extends_same, room_left}
 use Rattle.lks_world.proofs.PowerEnds.{power_still, seats_still}
@@ -68,7 +68,8 @@ returns-clause-stops g c = λ plan can.
     err_three c.take_step.result
     (λ same stops left.
     stopped_in f (ears g.J.EffortJudge.heard g.J.EffortJudge.verdict g.B.Bell.rung g.B.Bell.limit) plan _ (events_in s) s c.take_step.new.state p c.args.watch.now c.take_step.new.watch
-    (one_begun _ (events_in s) (events_in s ++ e ∷ []) [] e p refl refl (ap step_in (sym is))) (ap events_of same) stops left)
+    (one_begun _ (events_in s) (events_in s ++ e ∷ []) [] e p refl refl (ap step_in (sym is)))
+    (subst (λ (w : World). MayStep plan w p) can.state.world (may g at plan can)) (ap events_of same) stops left)
     did.err (did.stops plan can.state c.args.watch.now (asked g at plan can)) (did.fallen plan can.state)
 
 pub returns-clause-power : goal.returns-clause-power

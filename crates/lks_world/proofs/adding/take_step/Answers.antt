@@ -1,6 +1,6 @@
 use Rattle.lks_base.specs.declared.events.Event.TheVariants.{Step}
 use Rattle.lks_watch.specs.Watching.{ears}
-use Rattle.lks_world.proofs.Keeping.{room_left, extends_by, extends_same, can_step}
+use Rattle.lks_world.proofs.Keeping.{room_left, extends_by, extends_same, can_step, envelopes_left}
 use Rattle.lks_world.proofs.StateLaws.{became_step, more_events}
 use Rattle.lks_world.proofs.Watched.{watched_event}
 use Rattle.std.proofs.Common.{ap}
@@ -14,6 +14,9 @@ use Rattle.lks_world.proofs.adding.take_step.Goals as goal
 
 pub step-requires-clause-ready : goal.step-requires-clause-ready
 step-requires-clause-ready g c = λ κs lives. can_step g.D.Disk.face c.requires.state.0 c.args.state.now c.requires.state.1 c.requires.room
+
+pub step-requires-clause-few : goal.step-requires-clause-few
+step-requires-clause-few g c = λ κs lives. envelopes_left g.D.Disk.face c.requires.state.0 c.args.state.now c.args.s c.requires.state.1 c.requires.room
 
 pub returns-clause-becomes : goal.returns-clause-becomes
 returns-clause-becomes g c = λ plan is may.

@@ -31,7 +31,7 @@ returns-in_ok-note_outcome-in-Ok-clause-on g c =
     let ready = c.requires.ready in
     let did = c.in-Ok.ensures in
     record {
-      whole = λ e. did.back.whole;
+      whole = λ e. did.back.broken;
       room = did.end;
       unfused = did.back.unfused ∙ sym ready.unfused;
       pool = did.back.pool;

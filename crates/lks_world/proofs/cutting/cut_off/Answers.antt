@@ -7,8 +7,8 @@ use Rattle.lks_base.specs.declared.events.Event.TheVariants as events
 use Rattle.lks_base.specs.declared.plans.Plan.{Plan}
 use Rattle.lks_base.specs.declared.events.PeerStep.{PeerStep}
 use Rattle.lks_disk.specs.Face.{Face}
-use Rattle.lks_law.specs.Histories.{IsHonest}
-use Rattle.lks_law.specs.World.{peer_at, world}
+use Rattle.lks_law.specs.Histories.{IsHonest, MayStep}
+use Rattle.lks_law.specs.World.{World, peer_at, world}
 use Rattle.lks_watch.proofs.Going.{watches_then}
 use Rattle.lks_watch.specs.Watching.{Watches, ears, seen_by}
 use Rattle.lks_world.proofs.Ending.{counted_as, counted_still, cuts_alone, cuts_short, cuts_whole, no_short, nobody_there, not_short, on_ok, somebody_there, taker_honest}
@@ -211,9 +211,10 @@ returns-then-is_none-clause-stops g c = λ first asks.
     let s = c.args.state.now in
     let t = c.take_step.new.state in
     let up_to = begun g (goal.at.returns-then-is_none-clause-stops g c).After-taker-id in
+    let may = subst (λ (w : World). MayStep plan w c.args.s) c.requires.state.0.world c.requires.may in
     let did = c.take_step.ensures in
     err_three c.take_step.result
-    (λ same stops left. stopped_in g.D.Disk.face (ears g.J.EffortJudge.heard g.J.EffortJudge.verdict g.B.Bell.rung g.B.Bell.limit) plan _ (events_in s) s t c.args.s first c.take_step.new.watch up_to (ap events_of same) stops left)
+    (λ same stops left. stopped_in g.D.Disk.face (ears g.J.EffortJudge.heard g.J.EffortJudge.verdict g.B.Bell.rung g.B.Bell.limit) plan _ (events_in s) s t c.args.s first c.take_step.new.watch up_to may (ap events_of same) stops left)
     did.err (did.stops plan c.requires.state.0 first asks) (did.fallen plan c.requires.state.0)
 
 pub returns-in_err-cut_there-clause-stops : goal.returns-in_err-cut_there-clause-stops
@@ -222,7 +223,8 @@ returns-in_err-cut_there-clause-stops g c = λ first asks.
     let did = c.in_err-cut_there.ensures in
     err_then c.from_residual.result
     (stopped_in g.D.Disk.face (ears g.J.EffortJudge.heard g.J.EffortJudge.verdict g.B.Bell.rung g.B.Bell.limit) c.args.plan.now _ (events_in s) s c.cut_there.new.state c.args.s first c.cut_there.new.watch
-    (begun g (goal.at.returns-in_err-cut_there-clause-stops g c).After-taker-id) (ap events_of did.err) (did.stops first asks) did.fallen)
+    (begun g (goal.at.returns-in_err-cut_there-clause-stops g c).After-taker-id)
+    (subst (λ (w : World). MayStep c.args.plan.now w c.args.s) c.requires.state.0.world c.requires.may) (ap events_of did.err) (did.stops first asks) did.fallen)
 
 pub returns-in_err-add_crash-clause-stops : goal.returns-in_err-add_crash-clause-stops
 returns-in_err-add_crash-clause-stops g c = λ first asks.
@@ -242,6 +244,7 @@ returns-in_err-add_crash-clause-stops g c = λ first asks.
     (record {
       next = None;
       up_to = subst (λ h. IsUpTo cuts h None) (sym same) (none_begun cuts (events_in m) after is (kept_front (events_in m) (events.Crash (taker_of s.bag.items p))));
+      may = tt;
       stops =
           subst (λ h. StopsBy e plan (events_in s) h None first c.cut_there.new.watch) (sym same)
           (stops_there plan (events_in s) (events_in m) (seen_by e first) (seen_by e c.cut_there.new.watch) (c.in_ok-cut_there.ensures.watches first asks));

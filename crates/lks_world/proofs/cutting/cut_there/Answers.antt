@@ -1,4 +1,4 @@
-use Rattle.std.proofs.Common.{◌≡◌, ◌∙◌, ◌++◌, ◌∷◌, [], length, ap, sym, subst, ℕ, Bool, List, inr}
+use Rattle.std.proofs.Common.{◌≡◌, ◌≤◌, ◌+◌, ◌∙◌, ◌++◌, ◌∷◌, [], length, ap, sym, subst, ℕ, Bool, List, inr}
 use Rattle.std.specs.Prelude.{IfSome, Ok, Err, map}
 use Rattle.std.specs.List.{filter_map, range_with_len}
 use Rattle.std.proofs.lemmas.Result.{err_from_is_err_and}
@@ -11,7 +11,7 @@ use Rattle.lks_law.specs.World.{deed_of, actor_of, after_step, happens, peers_af
 use Rattle.lks_law.specs.Alarms.{alarm_noted}
 use Rattle.lks_watch.specs.Watching.{Rings, ears, seen_by}
 use Rattle.lks_world.proofs.CutLaws.{if_both, whose_deed}
-use Rattle.lks_world.proofs.Ending.{made_there, has_ended, burns_unless, counted_still}
+use Rattle.lks_world.proofs.Ending.{ending_left, made_there, has_ended, burns_unless, counted_still}
 use Rattle.lks_world.proofs.Keeping.{can_step, room_left}
 use Rattle.lks_world.specs.Cuts.{taker_of}
 use Rattle.lks_world.proofs.Watched.{events_noted, watched_ending}
@@ -60,6 +60,16 @@ cut_at-requires-clause-told g c κs within =
     let id = taker_is g at.After-taker-id in
     if_both (λ d. IsHeard d.input) (λ d. d.peer ≡ c.taker-id.result) c.args.deed.now c.requires.heard
     (subst (λ (n : ℕ). IfSome c.args.deed.now (λ d. d.peer ≡ n)) (sym id) (subst (λ o. IfSome o (λ d. d.peer ≡ taker_of bag s)) (sym deed) (whose_deed bag s)))
+
+pub note_step-requires-after_bounds : goal.note_step-requires-after_bounds
+note_step-requires-after_bounds g c κs within =
+    let f = g.D.Disk.face in
+    let s = c.args.state.now in
+    let after = peers_of f (hosts_of c.cut_at.new.seats.items) in
+    let ends =
+    subst (λ o. PeersEnd s.tick o c.args.power.calls (peers_of f (hosts_of s.seats.items)) after c.in_ok-ending.ending) c.requires.deed c.in_ok-ending.ensures.ends in
+    subst (λ (sends : List Outgoing). length s.bag.items + length sends ≤ 4294967295) (sym c.told-event.ensures.sends)
+    (ending_left f c.args.plan.now s c.args.s c.args.power.calls after c.in_ok-ending.ending c.requires.state c.requires.can.room ends)
 
 pub returns-in_err-note_step-clause-counted : goal.returns-in_err-note_step-clause-counted
 returns-in_err-note_step-clause-counted g c =

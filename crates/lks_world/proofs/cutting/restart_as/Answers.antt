@@ -14,7 +14,7 @@ returns-in-Ok-clause-on g c =
     let did = c.in-Ok.ensures in
     let stands = did.stands ready.batches ready.stands in
     record {
-      whole = λ e. did.back.whole;
+      whole = λ e. did.back.broken;
       room = omega (arith, stands.disk.end, ready.stands.disk.end);
       unfused = did.back.unfused ∙ sym ready.unfused;
       pool = did.back.pool;

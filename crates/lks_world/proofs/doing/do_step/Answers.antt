@@ -190,6 +190,7 @@ returns-in-Crash-clause-stops g c =
     (λ same left again. record {
       next = None;
       up_to = subst (λ h. IsUpTo performs h None) (sym (ap events_of same)) (not_begun (e.verdict x.judge) plan (events_in s) c.args.step.now);
+      may = tt;
       stops = stops_quiet f e plan s (events_in c.crash.new.state) x x (ap events_of same) refl;
       left = left;
     })

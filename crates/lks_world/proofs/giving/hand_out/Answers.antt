@@ -2,7 +2,7 @@ use Rattle.std.proofs.Common.{◌∙◌, sym, subst}
 use Rattle.std.proofs.lemmas.Option.{get_or_from_slice_get, slice_get_within}
 use Rattle.lks_world.proofs.SameSeats.{same_set}
 use Rattle.lks_world.specs.Beside.{IsPooled}
-use Rattle.lks_world.specs.Handing.{IsJobAt, IsReadyAt}
+use Rattle.lks_world.specs.Handing.{IsJobAt}
 use Rattle.lks_world.proofs.giving.hand_out.Goals as goal
 
 pub returns-in_err-job-clause-same : goal.returns-in_err-job-clause-same

@@ -1,21 +1,30 @@
-use Rattle.std.proofs.Common.{List, ap, inr, subst, sym, ◌∙◌}
+use Rattle.std.proofs.Common.{◌+◌, ◌≤◌, length, List, ap, inr, subst, sym, ◌∙◌}
 use Rattle.std.specs.List.{filter_map}
 use Rattle.lks_alarm.specs.declared.alarms.Alarm.{Alarm}
 use Rattle.lks_base.specs.declared.events.Event.TheVariants.{Step}
+use Rattle.lks_base.specs.declared.reactions.Outgoing.{Outgoing}
 use Rattle.lks_law.specs.Entries.{notes_of}
-use Rattle.lks_law.specs.World.{actor_of, after_step, deed_of, happens, peers_after}
+use Rattle.lks_law.specs.World.{actor_of, effect_of, after_step, deed_of, happens, peers_after}
 use Rattle.lks_watch.proofs.Noted.{noted}
 use Rattle.lks_law.specs.Alarms.{alarm_noted}
 use Rattle.lks_watch.specs.Watching.{Rings, ears, seen_by}
 use Rattle.lks_world.specs.Hosts.{HaveGoneOn, peers_of}
 use Rattle.lks_world.specs.Seats.{hosts_of}
-use Rattle.lks_world.specs.States.{world_in}
+use Rattle.lks_world.specs.States.{sends_in, world_in}
 use Rattle.lks_world.specs.declared.seats.Seat.{Seat}
 use Rattle.lks_world.proofs.Fallen.{fallen_on}
 use Rattle.lks_world.proofs.Named.{result_of_step}
 use Rattle.lks_world.proofs.Stopped.{err_then}
 use Rattle.lks_world.specs.Hosts.{HaveFallen}
 use Rattle.lks_world.proofs.states.step.Goals as goal
+
+pub note_step-requires-after_bounds : goal.note_step-requires-after_bounds
+unfolding sends_in
+note_step-requires-after_bounds g c κs within =
+    let f = g.D.Disk.face in
+    let s = c.args.state.now in
+    let sends = c.in_ok-done.ensures.sends ∙ ap (λ o. (effect_of s.tick (peers_of f (hosts_of s.seats.items)) o).sends) c.requires.deed in
+    subst (λ (xs : List Outgoing). length s.bag.items + length xs ≤ 4294967295) (sym sends) c.requires.few
 
 pub returns-clause-on : goal.returns-clause-on
 returns-clause-on g c =

@@ -1,4 +1,4 @@
-use Rattle.std.proofs.Common.{◌≡◌, [], length, refl, rules}
+use Rattle.std.proofs.Common.{◌≡◌, length, refl, rules}
 use Rattle.lks_farm.proofs.Piling.{all_gathered, one_gathered}
 use Rattle.lks_farm.proofs.piles.Pile.into_results.Goals as goal
 

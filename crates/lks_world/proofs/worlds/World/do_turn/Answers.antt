@@ -36,7 +36,7 @@ invariant_of-self-in-Err g c =
     let at : slice_get (dues a.plan (events_in a.state)) c.requires.due.0 ≡ Some c.args.due = subst (λ (v : Seen g.row.D.Denot g.row.J.Denot g.row.B.Denot). slice_get (dues v.plan v.history) c.requires.due.0 ≡ Some c.args.due) (sym c.self.view_is) c.requires.due.1 in
     let did = c.in-Err.ensures in
     let had = did.stops a.plan (due_here f e a c.self.invariant runs c.requires.due.0 c.args.due at) in
-    let halts = halts_at f e a c.self.invariant runs c.do_due.new.state c.do_due.new.watch had.next had.stops had.left (did.counted.ids ∙ c.self.invariant.seats) in
+    let halts = halts_at f e a c.self.invariant runs c.do_due.new.state c.do_due.new.watch had.next had.may had.stops had.left (did.counted.ids ∙ c.self.invariant.seats) in
     kept_faulted f e a c.self.invariant runs c.do_due.new.state c.do_due.new.watch c.in-Err.stop did.err did.counted halts a.out
 
 pub returns-in-Ok-clause-takes : goal.returns-in-Ok-clause-takes

@@ -1,7 +1,6 @@
 use Rattle.std.proofs.Common.{◌≡◌, ◌∙◌, ap, rules, subst, sym}
-use Rattle.std.specs.Prelude.{Some, slice_get}
+use Rattle.std.specs.Prelude.{Some}
 use Rattle.lks_base.specs.declared.events.Due.TheVariants.{Own}
-use Rattle.lks_law.specs.Due.{dues}
 use Rattle.lks_law.specs.World.{world}
 use Rattle.lks_work.specs.Names.{step_named}
 use Rattle.lks_world.proofs.GivingLaws.{expected_due}

@@ -1,11 +1,11 @@
-use Rattle.std.proofs.Common.{◌≡◌, ◌∙◌, ap, sym, subst}
-use Rattle.std.specs.Prelude.{Some, None}
+use Rattle.std.proofs.Common.{◌≡◌, ◌∙◌, ap, subst}
+use Rattle.std.specs.Prelude.{None}
 use Rattle.lks_law.specs.World.{world}
 use Rattle.lks_watch.specs.Watching.{ears}
 use Rattle.lks_world.proofs.GivingLaws.{expected_there}
 use Rattle.lks_world.proofs.Turned.{kept_refused, kept_still, seen_still}
 use Rattle.lks_world.specs.Giving.{IsExpected}
-use Rattle.lks_world.specs.Worlds.{Seen, seen_in}
+use Rattle.lks_world.specs.Worlds.{Seen}
 use Rattle.lks_world.proofs.worlds.World.expected.Goals as goal
 
 pub invariant_of-self : goal.invariant_of-self

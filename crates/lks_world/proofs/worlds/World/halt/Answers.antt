@@ -1,5 +1,5 @@
 use Rattle.std.proofs.Common.{◌≡◌, ◌∙◌, ap, sym, subst, refl}
-use Rattle.std.specs.Prelude.{Option, Some, None, is_some}
+use Rattle.std.specs.Prelude.{Option, Some, is_some}
 use Rattle.lks_watch.specs.Watching.{ears}
 use Rattle.lks_world.proofs.Turned.{halted_still, kept_refused, none_there}
 use Rattle.lks_world.specs.Worlds.{Seen, halted, seen_in}

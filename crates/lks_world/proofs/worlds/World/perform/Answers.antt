@@ -78,7 +78,7 @@ invariant_of-self-in-Err g c =
       entries = did.extends.entries;
       state = λ running. absurd cc;
       watched = λ running. absurd cc;
-      halted = λ fault is. halts_at f e a kept runs c.perform.new.state c.perform.new.watch did.stops.next did.stops.stops did.stops.left (did.counted.ids ∙ kept.seats);
+      halted = λ fault is. halts_at f e a kept runs c.perform.new.state c.perform.new.watch did.stops.next did.stops.may did.stops.stops did.stops.left (did.counted.ids ∙ kept.seats);
       seats = did.counted.ids ∙ kept.seats;
       unfused = same_fuses f (disks_at before ++ reverse a.rest.items) (disks_at after ++ reverse a.rest.items) (fuses_joined f (disks_at before) (disks_at after) (reverse a.rest.items) did.counted.fuses) kept.unfused;
       room = omega (arith, kept.room, ap length did.counted.ids, length-map before id_at, length-map after id_at);
@@ -98,7 +98,7 @@ returns-in-Err-clause-stops g c =
     let had = c.in-Err.ensures.stops in
     let new : Seen g.row.D.Denot g.row.J.Denot g.row.B.Denot = seen_in (record { alloc = a.alloc; plan = a.plan; state = t; watch = w; rest = a.rest; stopped = Some c.in-Err.fault; turns = a.turns; out = a.out; first_limits = a.first_limits; first_faults = a.first_faults }) in
     let left = disks_left f a.plan had.next t (reverse a.rest.items) had.left (c.in-Err.ensures.counted.ids ∙ c.self.invariant.seats) in
-    subst (λ (v : Seen g.row.D.Denot g.row.J.Denot g.row.B.Denot). StopsIn f e c.args.step.now v new) c.self.view_is (record { next = had.next; up_to = had.up_to; stops = had.stops; left = left })
+    subst (λ (v : Seen g.row.D.Denot g.row.J.Denot g.row.B.Denot). StopsIn f e c.args.step.now v new) c.self.view_is (record { next = had.next; up_to = had.up_to; may = had.may; stops = had.stops; left = left })
 
 pub returns-in-Ok-clause-power : goal.returns-in-Ok-clause-power
 returns-in-Ok-clause-power g c =

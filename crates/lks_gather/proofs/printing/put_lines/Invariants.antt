@@ -1,7 +1,7 @@
 use Rattle.std.proofs.Common.{◌≡◌, ◌++◌, take}
 use Rattle.std.specs.List.{flat_map}
 use Rattle.lks_gather.specs.Texts.{journal_text, AreFiles}
-use Rattle.lks_gather.proofs.printing.put_journals.Given as goal
+use Rattle.lks_gather.proofs.printing.put_lines.Given as goal
 
 abbrev pub invariant-loop-journal : goal.invariant-loop-journal
 invariant-loop-journal l = record {
