@@ -5,6 +5,7 @@ ghost use Rattle.lks_blocks.specs.Block.{AllOf};
 ghost use Rattle.lks_farm.specs.Entries.{asked_of, entry_done, job_of, refs_of};
 ghost use Rattle.lks_farm.specs.Seats.{AreSeatsOf};
 
+use crate::same::same;
 use lks_base::{HashKind, Hashes, OutOfMemory, PollName};
 use lks_blocks::{BlockPool, BlockRef, Refs};
 use lks_farm::{Farm, FarmDone, FarmJob, FarmSet, JobNumber, Seat};
@@ -220,30 +221,58 @@ fn closed<R: Wait>(
     Ok([end.jobs.len(), end.done.len()])
 }
 
+/// Which offers of three jobs are accepted by way of a seat, and the three counts there.
+fn offers_and_counts<R: Wait>(
+    rt: &R,
+    alloc: Global,
+    pool: &BlockPool,
+    farm: &Farm,
+    seat: &mut Seat,
+    refs: &Refs,
+) -> Result<([bool; 3], [u32; 3]), OutOfMemory>
+    requires pool { pool.now ≡ farm.now.name.pool }
+    requires of { seat.old.badge.farm ≡ farm.now.name }
+    requires refs { AllOf farm.now.name.pool refs.now × (length refs.now ≤ 65535) }
+    requires fresh { seat.old.offered ≡ [] }
+    requires free { seat.old.held ≡ None }
+    ensures { seat.new.badge ≡ seat.old.badge }
+{
+    let offers = three_offers(rt, farm, seat, refs)?;
+    let counts = three_counts(rt, alloc, pool, farm, seat)?;
+    Ok((offers, counts))
+}
+
 /// What happens on a farm of room two, and how many jobs and results are left.
 fn room_two<R: Wait>(
     rt: &R,
     alloc: Global,
     pool: &BlockPool,
     refs: &Refs,
-) -> Result<([bool; 3], [u32; 3], [usize; 2]), OutOfMemory>
+) -> Result<(([bool; 3], [u32; 3]), [usize; 2]), OutOfMemory>
     requires { AllOf pool.now refs.now × (length refs.now ≤ 65535) }
 {
     let FarmSet { farm, mut seats } = Farm::new(alloc, pool, 2, 1)?;
-    let offers = three_offers(rt, &farm, &mut seats[0], refs)?;
-    let counts = three_counts(rt, alloc, pool, &farm, &mut seats[0])?;
-    Ok((offers, counts, closed(rt, alloc, farm, seats)?))
+    let answers = offers_and_counts(rt, alloc, pool, &farm, &mut seats[0], refs)?;
+    Ok((answers, closed(rt, alloc, farm, seats)?))
+}
+
+/// The same over a block in this pool.
+fn room_two_in<R: Wait>(
+    rt: &R,
+    alloc: Global,
+    pool: &BlockPool,
+) -> Result<(([bool; 3], [u32; 3]), [usize; 2]), OutOfMemory> {
+    let refs = block_in(rt, alloc, pool)?;
+    room_two(rt, alloc, pool, &refs)
 }
 
 /// The third offer comes back. One result is collected, and the other one is left.
 #[test]
 fn a_farm_of_room_two(rt: HostRuntime) -> Result<(), Fail> {
     let pool = BlockPool::new(rt.alloc())?;
-    let refs = block_in(&rt, rt.alloc(), &pool)?;
-    let (offers, counts, left) = room_two(&rt, rt.alloc(), &pool, &refs)?;
-    assert!(rt; offers == [true, true, false]);
-    assert_eq!(rt; counts, [0, 1, 9]);
-    assert_eq!(rt; left, [0, 1]);
+    let found = room_two_in(&rt, rt.alloc(), &pool)?;
+    let wanted = (([true, true, false], [0, 1, 9]), [0, 1]);
+    same(&rt, &found, &wanted, &"offers, counts and what is left");
     Ok(())
 }
 
@@ -494,7 +523,7 @@ fn counted_in<R: Threads + Wait + Sync>(
 fn four_threads_on_a_farm(rt: HostRuntime) -> Result<(), Fail> {
     let pool = BlockPool::new(rt.alloc())?;
     let counts = counted_in(&rt, rt.alloc(), &pool, 64)?;
-    assert_eq!(rt; counts, [200, 200, 0, 0]);
+    same(&rt, &counts, &[200, 200, 0, 0], &64);
     Ok(())
 }
 
@@ -503,6 +532,6 @@ fn four_threads_on_a_farm(rt: HostRuntime) -> Result<(), Fail> {
 fn four_threads_on_a_farm_of_room_one(rt: HostRuntime) -> Result<(), Fail> {
     let pool = BlockPool::new(rt.alloc())?;
     let counts = counted_in(&rt, rt.alloc(), &pool, 1)?;
-    assert_eq!(rt; counts, [200, 200, 0, 0]);
+    same(&rt, &counts, &[200, 200, 0, 0], &1);
     Ok(())
 }

@@ -4,4 +4,6 @@
 #[cfg(test)]
 mod farm;
 #[cfg(test)]
+mod same;
+#[cfg(test)]
 mod versions;

@@ -178,17 +178,21 @@ fn a_pinned_version_stays(rt: HostRuntime) -> Result<(), Fail> {
     Ok(())
 }
 
-/// The bytes that a poll reads once the deposit's second block was replaced.
-fn prepared_text<R: Wait>(rt: &R, alloc: Global, pool: &BlockPool) -> Result<Vec<u8>, Fail> {
+/// Whether a poll reads these bytes once the deposit's second block was replaced.
+fn reads_replaced<R: Wait>(
+    rt: &R,
+    alloc: Global,
+    pool: &BlockPool,
+    bytes: &[u8],
+) -> Result<bool, Fail> {
     let versions = prepared(rt, alloc, pool)?;
-    newest_text(alloc, pool, &versions)
+    Ok(newest_text(alloc, pool, &versions)?.as_slice() == bytes)
 }
 
 #[test]
 fn a_poll_reads_each_block_once(rt: HostRuntime) -> Result<(), Fail> {
     let pool = BlockPool::new(rt.alloc())?;
-    let text = prepared_text(&rt, rt.alloc(), &pool)?;
-    assert!(rt; text.as_slice() == b"AD".as_slice());
+    assert!(rt; reads_replaced(&rt, rt.alloc(), &pool, b"AD")?);
     assert!(rt; pool.reads() == 2);
     Ok(())
 }

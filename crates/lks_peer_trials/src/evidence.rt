@@ -5,6 +5,7 @@ ghost use Rattle.std.specs.Prelude.{IfOk};
 ghost use Rattle.lks_hash.specs.Counting.{Opens};
 ghost use Rattle.lks_evidence.specs.Sizes.{IsShort};
 
+use crate::same::same;
 use lks_base::{
     AuPlan, Blocks, Bytes, HashKind, Hashes, Ids, OutOfMemory, PeerId, PeerPlan, Plan, PollName,
     Record, Rules, Seq,
@@ -368,15 +369,19 @@ const ROWS: [(&[Line], PeerId, &[Line], Option<(PeerId, u32, Why)>); 23] = [
     ),
 ];
 
+/// The finding that has this doubt, or none.
+fn finding_of(doubt: Option<(PeerId, u32, Why)>) -> Finding {
+    match doubt {
+        Some((peer, place, why)) => Finding::No(Doubt { peer, place, why }),
+        None => Finding::Yes { replaced: 1 },
+    }
+}
+
 #[test]
 fn findings(rt: HostRuntime) -> Result<(), OutOfMemory> {
-    let alloc = rt.alloc();
-    for (lines, other, others, doubt) in ROWS {
-        let finding = match doubt {
-            Some((peer, place, why)) => Finding::No(Doubt { peer, place, why }),
-            None => Finding::Yes { replaced: 1 },
-        };
-        assert_eq!(rt; found(alloc, lines, other, others)?, finding);
+    for (row, (lines, other, others, doubt)) in ROWS.iter().enumerate() {
+        let finding = found(rt.alloc(), lines, *other, others)?;
+        same(&rt, &finding, &finding_of(*doubt), &row);
     }
     Ok(())
 }

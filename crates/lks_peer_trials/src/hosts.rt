@@ -50,15 +50,39 @@ fn recover<R: Wait>(
     host.recover(rt, pool, plan)
 }
 
+// Whether the first call is refused, and the second one finds the deposit.
+fn recovers_later<R: Wait>(
+    rt: &R,
+    pool: &BlockPool,
+    plan: &Plan,
+    host: &mut Host<MemDisk>,
+) -> Result<bool, HostFault>
+    requires can { CanRecover mem_face pool.now host.old }
+    requires made { IsMadeBy plan.now host.old.peer.own }
+{
+    let first = recover(rt, pool, plan, host);
+    let is_refused = matches!(first, Err(HostFault::Failed)) && host.broken();
+    let found = recover(rt, pool, plan, host)?;
+    Ok(is_refused && found.count == 1 && !host.broken())
+}
+
+fn cut_and_recovered<R: Wait>(
+    alloc: Global,
+    rt: &R,
+    pool: &BlockPool,
+    plan: &Plan,
+) -> Result<bool, Fail>
+    requires good { plan_fault plan.now ≡ None }
+    requires honest { IsSome (honest_peer 1 plan.now) }
+{
+    let mut host = cut_host(alloc, rt, pool, plan)?;
+    Ok(recovers_later(rt, pool, plan, &mut host)?)
+}
+
 #[test]
 fn recovers_at_a_second_call(rt: HostRuntime) -> Result<(), Fail> {
-    let alloc = rt.alloc();
-    let plan = plan_of(alloc)?;
-    let pool = BlockPool::new(alloc)?;
-    let mut host = cut_host(alloc, &rt, &pool, &plan)?;
-    let first = recover(&rt, &pool, &plan, &mut host);
-    assert!(rt; matches!(first, Err(HostFault::Failed)) && host.broken());
-    let found = recover(&rt, &pool, &plan, &mut host)?;
-    assert!(rt; found.count == 1 && !host.broken());
+    let plan = plan_of(rt.alloc())?;
+    let pool = BlockPool::new(rt.alloc())?;
+    assert!(rt; cut_and_recovered(rt.alloc(), &rt, &pool, &plan)?);
     Ok(())
 }

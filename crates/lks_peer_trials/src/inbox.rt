@@ -4,6 +4,7 @@ ghost use Rattle.std.specs.Prelude.{◌≡◌, ◌≤◌, IfOk, IfSome, length, 
 ghost use Rattle.lks_effort.specs.Verdicts.{first_byte};
 ghost use Rattle.lks_law.specs.Facts.{IsHeard};
 
+use crate::same::same;
 use lks_base::{Bytes, HashKind, Input, Judged, Message, OutOfMemory, PeerId, Seq};
 use lks_effort::{EffortJudge, FirstByteJudge, Question};
 use lks_inbox::{receive, receive_judged, verdict_on};
@@ -137,38 +138,68 @@ const ROWS: [(Sent, bool, Option<Asked>, Judged); 9] = [
     ),
 ];
 
+/// Whether these bytes are heard of peer 2 where they are a message, and nothing is where they aren't.
+fn is_whole(
+    alloc: Global,
+    input: &Option<Input>,
+    bytes: &[u8],
+    is_message: bool,
+) -> Result<bool, OutOfMemory>
+    requires { IfSome input.now IsHeard }
+{
+    Ok(match heard(alloc, input)? {
+        Some((from, again)) => is_message && from == 2 && again.as_slice() == bytes,
+        None => !is_message,
+    })
+}
+
+/// The verdict on what is sent, what the judge is asked last and how often, and whether what is heard is whole.
+fn received(
+    alloc: Global,
+    sent: Sent,
+    is_message: bool,
+) -> Result<(Judged, Option<Asked>, u32, bool), OutOfMemory> {
+    let bytes = bytes_of(alloc, sent)?;
+    let mut judge = make_judge(alloc)?;
+    let input = receive(alloc, 2, 1, &bytes, &mut judge)?;
+    let whole = is_whole(alloc, &input, &bytes, is_message)?;
+    Ok((verdict_on(&input), judge.last, judge.count, whole))
+}
+
 #[test]
 fn messages_received(rt: HostRuntime) -> Result<(), OutOfMemory> {
-    let alloc = rt.alloc();
-    for (sent, is_message, asked, judged) in ROWS {
-        let bytes = bytes_of(alloc, sent)?;
-        let mut judge = make_judge(alloc)?;
-        let input = receive(alloc, 2, 1, &bytes, &mut judge)?;
-        assert_eq!(rt; verdict_on(&input), judged);
-        assert_eq!(rt; judge.last, asked);
-        assert_eq!(rt; judge.count, u32::from(asked.is_some()));
-        let whole = is_message.then_some((2, bytes));
-        assert_eq!(rt; heard(alloc, &input)?, whole);
+    for (row, (sent, is_message, asked, judged)) in ROWS.iter().enumerate() {
+        let found = received(rt.alloc(), *sent, *is_message)?;
+        let count = u32::from(asked.is_some());
+        same(&rt, &found, &(*judged, *asked, count, true), &row);
     }
     Ok(())
+}
+
+/// The verdict on what was refused before, and whether what is heard is whole.
+fn refused_before(
+    alloc: Global,
+    sent: Sent,
+    is_message: bool,
+) -> Result<(Judged, bool), OutOfMemory> {
+    let bytes = bytes_of(alloc, sent)?;
+    let input = receive_judged(alloc, 2, &bytes, Judged::Refused)?;
+    let whole = is_whole(alloc, &input, &bytes, is_message)?;
+    Ok((verdict_on(&input), whole))
 }
 
 /// The verdict that is known is the input's, whatever the message is.
 #[test]
 fn messages_judged_before(rt: HostRuntime) -> Result<(), OutOfMemory> {
-    let alloc = rt.alloc();
-    for (sent, is_message, _, _) in ROWS {
-        let bytes = bytes_of(alloc, sent)?;
-        let input = receive_judged(alloc, 2, &bytes, Judged::Refused)?;
-        let judged = if is_message {
+    for (row, (sent, is_message, _, _)) in ROWS.iter().enumerate() {
+        let judged = if *is_message {
             Judged::Refused
         } else {
             Judged::NotAsked
         };
-        assert_eq!(rt; verdict_on(&input), judged);
-        let whole = is_message.then_some((2, bytes));
-        assert_eq!(rt; heard(alloc, &input)?, whole);
+        let found = refused_before(rt.alloc(), *sent, *is_message)?;
+        same(&rt, &found, &(judged, true), &row);
     }
-    assert_eq!(rt; verdict_on(&Some(Input::Check)), Judged::NotAsked);
+    assert!(rt; verdict_on(&Some(Input::Check)) == Judged::NotAsked);
     Ok(())
 }

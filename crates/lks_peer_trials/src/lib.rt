@@ -16,6 +16,10 @@ mod jobs;
 #[cfg(test)]
 mod restore;
 #[cfg(test)]
+mod same;
+#[cfg(test)]
+mod scene;
+#[cfg(test)]
 mod sessions;
 #[cfg(test)]
 mod sort;

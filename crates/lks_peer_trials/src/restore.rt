@@ -1,19 +1,16 @@
 //! Peer 1 restored from a journal whose openings lack their numbers, as journals from before any could be tuned do, and from one
-//! that has them: it holds the blocks `41` and `42` of AU 1, polls 2, 3 and 4 on it, and has committed to vote in poll 1 of 5.
+//! that has them.
 
 ghost use Rattle.std.specs.Prelude.{◌≡◌, None, IfOk, IsSome};
 ghost use Rattle.lks_base.specs.Checking.{plan_fault};
 ghost use Rattle.lks_law.specs.Facts.{IsHeard};
 ghost use Rattle.lks_law.specs.World.{honest_peer};
-ghost use Rattle.lks_peer_trials.specs.Opened.{deposit, opened, journal_of};
 
-use lks_base::{
-    AuPlan, Bytes, HashKind, Ids, Input, Judged, Limits, OutOfMemory, PeerPlan, PeerStep, Plan,
-    PollName, Record, Rules, Seq,
-};
+use crate::same::same;
+use crate::scene::{CAST, THEIRS, got, plan_of, restored};
+use lks_base::{Input, Judged, Limits, PeerStep, Plan, Reaction, Record, Rules};
 use lks_blocks::BlockPool;
-use lks_inbox::receive_judged;
-use lks_peer::{Peer, find_honest};
+use lks_peer::Peer;
 use std::alloc::Global;
 use std::sync::Wait;
 use std::test::*;
@@ -31,113 +28,6 @@ const RULES: Rules = Rules {
     debt_pct: 100,
     churn: 0,
 };
-
-const NONCE: [u8; 32] = [9; 32];
-
-const THEIRS: PollName = PollName {
-    poller: 5,
-    number: 1,
-};
-
-fn peer_of(alloc: Global, id: u16) -> Result<PeerPlan, OutOfMemory> {
-    let honest = id == 1;
-    let refs: &[u16] = if honest { &[2, 3, 4] } else { &[] };
-    Ok(PeerPlan {
-        id,
-        corrupt: !honest,
-        seed: [1; 32],
-        proof: Bytes::from_vec(vec![in alloc; 1]?),
-        refs: Ids::from_vec(refs.to_vec(alloc)?),
-        friends: Seq::from_vec(Vec::new(alloc)),
-        copies: Seq::from_vec(Vec::new(alloc)),
-        hash: HashKind::Sha256,
-    })
-}
-
-fn plan_of(alloc: Global) -> Result<Plan, OutOfMemory> {
-    let mut peers = Vec::new(alloc);
-    for id in 1..6 {
-        peers.push(peer_of(alloc, id)?)?;
-    }
-    Ok(Plan {
-        rules: RULES,
-        turns: 0,
-        aus: Seq::from_vec(vec![in alloc; AuPlan { id: 1, count: 2 }]?),
-        peers: Seq::from_vec(peers),
-    })
-}
-
-fn deposit(alloc: Global) -> Result<Record, OutOfMemory>
-    ensures { IfOk result (λ r. r ≡ deposit) }
-{
-    let first = Bytes::from_vec(b"A".to_vec(alloc)?);
-    let second = Bytes::from_vec(b"B".to_vec(alloc)?);
-    Ok(Record::Deposit {
-        au: 1,
-        blocks: Seq::from_vec(vec![in alloc; first, second]?),
-    })
-}
-
-fn opened(alloc: Global, nonce: [u8; 32], limits: Option<Limits>) -> Result<Record, OutOfMemory>
-    ensures { IfOk result (λ r. r ≡ opened nonce limits) }
-{
-    Ok(Record::PollOpened {
-        number: 1,
-        au: 1,
-        nonce,
-        inner: Ids::from_vec(vec![in alloc; 2, 3, 4]?),
-        tick: 0,
-        limits,
-        kind: HashKind::Sha256,
-    })
-}
-
-/// The journal with these numbers, or without.
-fn journal(
-    alloc: Global,
-    nonce: [u8; 32],
-    limits: Option<Limits>,
-    repairs: Option<u16>,
-) -> Result<Vec<Record>, OutOfMemory>
-    ensures { IfOk result (λ v. v.items ≡ journal_of nonce limits repairs) }
-{
-    let joined = Record::Joined {
-        poll: THEIRS,
-        au: 1,
-        tick: 0,
-        low: true,
-        repairs,
-    };
-    let committed = Record::Committed {
-        poll: THEIRS,
-        nonce,
-        version: 0,
-        kind: HashKind::Sha256,
-    };
-    Ok(vec![in alloc;
-        deposit(alloc)?,
-        opened(alloc, nonce, limits)?,
-        joined,
-        committed,
-    ]?)
-}
-
-#[tactic(auto, using(crate::proofs::Openings::journal_fits, crate::proofs::Openings::pool_of))]
-fn restored<R: Wait>(
-    alloc: Global,
-    rt: &R,
-    pool: &BlockPool,
-    plan: &Plan,
-    limits: Option<Limits>,
-    repairs: Option<u16>,
-) -> Result<Peer, Fail>
-    requires good { plan_fault plan.now ≡ None }
-    requires honest { IsSome (honest_peer 1 plan.now) }
-    ensures { IfOk result (λ peer. peer.pool ≡ pool.now) }
-{
-    let list = journal(alloc, NONCE, limits, repairs)?;
-    Ok(Peer::restore(alloc, rt, pool, plan, 1, &list)?)
-}
 
 /// The word of a record, as reports have it.
 fn word_of(item: &Record) -> &'static str {
@@ -180,21 +70,17 @@ fn step_of(step: Option<PeerStep>) -> &'static str {
     }
 }
 
+/// The words of the first step for which the peer is ready, and of its first turn.
+fn coming(peer: &Peer) -> (&'static str, &'static str) {
+    (step_of(peer.ready(0)), step_of(peer.turn(0)))
+}
+
 /// What the peer does, or what it gets, from whom and with which verdict.
 #[derive(Clone, Copy)]
 enum Deed {
     Work,
     Shut,
     Got(u16, Judged, &'static [u8]),
-}
-
-fn got(alloc: Global, from: u16, judged: Judged, bytes: &[u8]) -> Result<Input, Fail>
-    ensures { IfOk result IsHeard }
-{
-    match receive_judged(alloc, from, bytes, judged)? {
-        Some(input) => Ok(input),
-        None => Err("no message".into()),
-    }
 }
 
 fn input_of(alloc: Global, deed: Deed) -> Result<Input, Fail>
@@ -211,6 +97,16 @@ fn input_of(alloc: Global, deed: Deed) -> Result<Input, Fail>
 /// peer is then ready and of its first turn; `-` for none.
 type Told = (usize, &'static str, usize, &'static str, &'static str);
 
+/// The part of it that the reaction says.
+fn added(reaction: &Reaction) -> (usize, &'static str, usize) {
+    let records = reaction.records.as_slice();
+    let word = match records.last() {
+        Some(item) => word_of(item),
+        None => "-",
+    };
+    (records.len(), word, reaction.sends.as_slice().len())
+}
+
 fn told<R: Wait>(
     alloc: Global,
     rt: &R,
@@ -223,20 +119,12 @@ fn told<R: Wait>(
 {
     let input = input_of(alloc, deed)?;
     let reaction = peer.step(rt, pool, 1, &input)?;
-    let records = reaction.records.as_slice();
-    let word = match records.last() {
-        Some(item) => word_of(item),
-        None => "-",
-    };
-    let sends = reaction.sends.as_slice().len();
-    let ready = step_of(peer.ready(0));
-    Ok((records.len(), word, sends, ready, step_of(peer.turn(0))))
+    let (count, word, sends) = added(&reaction);
+    let (ready, turn) = coming(peer);
+    Ok((count, word, sends, ready, turn))
 }
 
-/// A vote in poll 1 for two blocks, whatever they are, and what poller 5 asks for: the first block, and the second one.
-const VOTE: &[u8] =
-    b"\x01\x05\0\0\0\x01\0\x02AAAAAAAAAAAAAAAAAAAAAAAAAAAAAAAABBBBBBBBBBBBBBBBBBBBBBBBBBBBBBBB\x01\x01";
-
+/// What poller 5 asks for: the first block, and the second one.
 const FIRST: &[u8] = b"\x01\x06\0\0\0\x01\0\0";
 
 const SECOND: &[u8] = b"\x01\x06\0\0\0\x01\0\x01";
@@ -245,7 +133,7 @@ const SECOND: &[u8] = b"\x01\x06\0\0\0\x01\0\x01";
 /// and larger ones (quorum 1 and two blocks).
 const ROWS: [(Deed, Told, Told); 5] = [
     (
-        Deed::Got(2, Judged::Accepted, VOTE),
+        Deed::Got(2, Judged::Accepted, CAST),
         (1, "vote-in", 0, "work", "outer"),
         (1, "vote-in", 0, "work", "outer"),
     ),
@@ -311,17 +199,45 @@ const JOURNALS: [(Option<Limits>, Option<u16>, bool); 3] = [
     ),
 ];
 
+/// The same for a peer that is restored over a journal with these numbers.
+fn play_restored<R: Wait>(
+    alloc: Global,
+    rt: &R,
+    pool: &BlockPool,
+    plan: &Plan,
+    limits: Option<Limits>,
+    repairs: Option<u16>,
+    rules: bool,
+) -> Result<Option<usize>, Fail>
+    requires good { plan_fault plan.now ≡ None }
+    requires honest { IsSome (honest_peer 1 plan.now) }
+{
+    let mut peer = restored(alloc, rt, pool, plan, limits, repairs)?;
+    play(alloc, rt, pool, &mut peer, rules)
+}
+
+/// The same on a pool of its own.
+fn play_alone<R: Wait>(
+    alloc: Global,
+    rt: &R,
+    plan: &Plan,
+    limits: Option<Limits>,
+    repairs: Option<u16>,
+    rules: bool,
+) -> Result<Option<usize>, Fail>
+    requires good { plan_fault plan.now ≡ None }
+    requires honest { IsSome (honest_peer 1 plan.now) }
+{
+    let pool = BlockPool::new(alloc)?;
+    play_restored(alloc, rt, &pool, plan, limits, repairs, rules)
+}
+
 #[test]
 fn openings_without_numbers(rt: HostRuntime) -> Result<(), Fail> {
-    let alloc = rt.alloc();
-    let plan = plan_of(alloc)?;
-    if plan.check().is_err() || find_honest(plan.peers.as_slice(), 1).is_none() {
-        return Err("no good plan".into());
-    }
-    for (limits, repairs, rules) in JOURNALS {
-        let pool = BlockPool::new(alloc)?;
-        let mut peer = restored(alloc, &rt, &pool, &plan, limits, repairs)?;
-        assert_eq!(rt; play(alloc, &rt, &pool, &mut peer, rules)?, None);
+    let plan = plan_of(rt.alloc(), RULES, b"\x01")?;
+    for (row, (limits, repairs, rules)) in JOURNALS.iter().enumerate() {
+        let found = play_alone(rt.alloc(), &rt, &plan, *limits, *repairs, *rules)?;
+        same(&rt, &found, &None, &row);
     }
     Ok(())
 }

@@ -9,6 +9,7 @@ ghost use Rattle.lks_sessions.specs.Sendable.{IsSendable};
 ghost use Rattle.lks_versions.specs.Each.{EachOf};
 ghost use Rattle.lks_versions.specs.Shelf.{newest_of};
 
+use crate::same::same;
 use lks_audit::{Held, Station};
 use lks_base::{
     Bytes, HashKind, Judged, MOST_BLOCKS, OutOfMemory, PeerId, PeerStep, PollName, Reaction,
@@ -512,7 +513,7 @@ const ROWS: &[Row] = &[
 #[test]
 fn polls_of_others(rt: HostRuntime) -> Result<(), Fail> {
     let pool = BlockPool::new(rt.alloc())?;
-    assert_eq!(rt; play(rt.alloc(), &rt, &pool, ROWS)?, None);
+    same(&rt, &play(rt.alloc(), &rt, &pool, ROWS)?, &None, &"rows");
     Ok(())
 }
 
@@ -622,19 +623,29 @@ const FIRST: PollName = PollName {
     number: 1,
 };
 
-/// By hashes that another implementation of FIPS 180-4 computed.
+/// Hashes that another implementation of FIPS 180-4 computed.
+const PUBLISHED: [(HashKind, [[u8; 32]; 2]); 2] = [
+    (
+        HashKind::Sha256,
+        [
+            *b"\xb2\x5b\xcb\x74\x73\x3d\x96\x81\x81\x48\x94\x3c\x6c\x09\x77\xad\xd8\x53\x31\x1a\x4d\x9c\xfe\x27\x80\xfa\x25\xb2\x06\x91\x36\x04",
+            *b"\x1c\xc0\x9c\x4e\x0a\x7e\xaf\x35\x6b\xc7\x82\x44\x6c\x15\xc9\xca\x4a\x24\x0a\x4b\x7b\x46\x03\x74\xbd\x05\xc9\x74\x4e\x4c\x24\xa7",
+        ],
+    ),
+    (
+        HashKind::Sha512_256,
+        [
+            *b"\xfd\x58\x26\xcd\x71\x04\x22\x7a\xec\xff\x33\xcc\x6f\xb2\xad\x18\x14\xf3\x14\x15\xfc\x9f\x73\x8b\x17\xd3\x51\x67\x86\x12\x23\x1e",
+            *b"\x87\x4a\xb5\xcf\x6f\x41\xe1\xad\x2e\xed\x1d\x66\x80\x56\x2e\x76\xa0\x0b\x1b\xad\x56\xa9\x86\x84\xae\x17\x4b\xa0\xa9\x62\xb8\x03",
+        ],
+    ),
+];
+
 #[test]
 fn published_votes(rt: HostRuntime) -> Result<(), Fail> {
-    let first = [
-        *b"\xb2\x5b\xcb\x74\x73\x3d\x96\x81\x81\x48\x94\x3c\x6c\x09\x77\xad\xd8\x53\x31\x1a\x4d\x9c\xfe\x27\x80\xfa\x25\xb2\x06\x91\x36\x04",
-        *b"\x1c\xc0\x9c\x4e\x0a\x7e\xaf\x35\x6b\xc7\x82\x44\x6c\x15\xc9\xca\x4a\x24\x0a\x4b\x7b\x46\x03\x74\xbd\x05\xc9\x74\x4e\x4c\x24\xa7",
-    ];
-    let second = [
-        *b"\xfd\x58\x26\xcd\x71\x04\x22\x7a\xec\xff\x33\xcc\x6f\xb2\xad\x18\x14\xf3\x14\x15\xfc\x9f\x73\x8b\x17\xd3\x51\x67\x86\x12\x23\x1e",
-        *b"\x87\x4a\xb5\xcf\x6f\x41\xe1\xad\x2e\xed\x1d\x66\x80\x56\x2e\x76\xa0\x0b\x1b\xad\x56\xa9\x86\x84\xae\x17\x4b\xa0\xa9\x62\xb8\x03",
-    ];
     let pool = BlockPool::new(rt.alloc())?;
-    assert!(rt; votes(rt.alloc(), &rt, &pool, FIRST, HashKind::Sha256, &first)?);
-    assert!(rt; votes(rt.alloc(), &rt, &pool, FIRST, HashKind::Sha512_256, &second)?);
+    for (kind, want) in PUBLISHED {
+        assert!(rt; votes(rt.alloc(), &rt, &pool, FIRST, kind, &want)?);
+    }
     Ok(())
 }

@@ -8,6 +8,7 @@ ghost use Rattle.lks_host.specs.Adopting.{IsReadAs};
 ghost use Rattle.lks_law.specs.World.{honest_peer, station_of};
 ghost use Rattle.lks_sort.specs.Owners.{Owns};
 
+use crate::same::same;
 use lks_base::{Bytes, Plan, Record};
 use lks_blocks::BlockPool;
 use lks_disk::{Disk, MemDisk};
@@ -176,17 +177,27 @@ fn sorted<R: Wait>(
     Ok(told(&sort_journal(alloc, rt, &pool, plan, 1, batches)?))
 }
 
+/// What so many batches of the journal are, and behind them another one, if any.
+fn sorted_with<R: Wait>(
+    alloc: Global,
+    rt: &R,
+    plan: &Plan,
+    count: usize,
+    other: Option<Vec<u8>>,
+) -> Result<(&'static str, usize), Fail>
+    requires good { plan_fault plan.now ≡ None }
+    requires honest { IsSome (honest_peer 1 plan.now) }
+{
+    let batches = batches_of(alloc, count, other)?;
+    sorted(alloc, rt, plan, &batches)
+}
+
 #[test]
 fn fronts_of_a_journal(rt: HostRuntime) -> Result<(), Fail> {
-    let alloc = rt.alloc();
-    let plan = plan_of(alloc)?;
+    let plan = plan_of(rt.alloc())?;
     for count in 0..BATCHES + 1 {
-        let batches = batches_of(alloc, count, None)?;
-        assert_eq!(rt;
-            sorted(alloc, &rt, &plan, &batches)?,
-            wanted(count),
-            "{count}"
-        );
+        let found = sorted_with(rt.alloc(), &rt, &plan, count, None)?;
+        same(&rt, &found, &wanted(count), &count);
     }
     Ok(())
 }
@@ -259,23 +270,22 @@ const TURNED: [(usize, usize, u8, bool); 49] = [
     (23, 54, 3, false),
 ];
 
+/// What so many batches of the journal are with one more, which the peer would write, or wouldn't.
+fn wanted_with(count: usize, own: bool) -> (&'static str, usize) {
+    if own {
+        wanted(count.saturating_add(1))
+    } else {
+        ("foreign", count)
+    }
+}
+
 #[test]
 fn turned_batches(rt: HostRuntime) -> Result<(), Fail> {
-    let alloc = rt.alloc();
-    let plan = plan_of(alloc)?;
+    let plan = plan_of(rt.alloc())?;
     for (count, place, byte, own) in TURNED {
-        let batch = turned(alloc, count, place, byte)?;
-        let batches = batches_of(alloc, count, Some(batch))?;
-        let want = if own {
-            wanted(count.saturating_add(1))
-        } else {
-            ("foreign", count)
-        };
-        assert_eq!(rt;
-            sorted(alloc, &rt, &plan, &batches)?,
-            want,
-            "{count} {place}"
-        );
+        let batch = turned(rt.alloc(), count, place, byte)?;
+        let found = sorted_with(rt.alloc(), &rt, &plan, count, Some(batch))?;
+        same(&rt, &found, &wanted_with(count, own), &(count, place));
     }
     Ok(())
 }
@@ -381,29 +391,36 @@ const OTHERS: [(usize, &str, &str, usize); 26] = [
 
 #[test]
 fn other_batches(rt: HostRuntime) -> Result<(), Fail> {
-    let alloc = rt.alloc();
-    let plan = plan_of(alloc)?;
+    let plan = plan_of(rt.alloc())?;
     for (count, line, what, number) in OTHERS {
-        let batches = batches_of(alloc, count, Some(bytes_of(alloc, line)?))?;
-        assert_eq!(rt;
-            sorted(alloc, &rt, &plan, &batches)?,
-            (what, number),
-            "{count} {line}"
-        );
+        let batch = bytes_of(rt.alloc(), line)?;
+        let found = sorted_with(rt.alloc(), &rt, &plan, count, Some(batch))?;
+        same(&rt, &found, &(what, number), &(count, line));
     }
     Ok(())
 }
 
-/// A disk with so many batches of the journal, in frames.
-fn disk_of(alloc: Global, count: usize) -> Result<MemDisk, Fail> {
+fn add_frame(file: &mut Vec<u8>, batch: &[u8]) -> Result<(), Fail> {
+    let count = u32::try_from(batch.len())?;
+    file.push(0xa5)?;
+    file.extend_from_slice(count.to_be_bytes().as_slice())?;
+    file.extend_from_slice(batch)?;
+    Ok(())
+}
+
+/// So many batches of the journal, in frames.
+fn file_of(alloc: Global, count: usize) -> Result<Vec<u8>, Fail> {
     let mut file = Vec::new(alloc);
     for line in JOURNAL.lines().take(count) {
-        let batch = bytes_of(alloc, line)?;
-        file.push(0xa5)?;
-        file.extend_from_slice(u32::try_from(batch.len())?.to_be_bytes().as_slice())?;
-        file.extend_from_slice(&batch)?;
+        add_frame(&mut file, &bytes_of(alloc, line)?)?;
     }
     file.push(0)?;
+    Ok(file)
+}
+
+/// A disk with so many batches of the journal.
+fn disk_of(alloc: Global, count: usize) -> Result<MemDisk, Fail> {
+    let file = file_of(alloc, count)?;
     let mut disk = MemDisk::new(alloc, Vec::new(alloc));
     disk.write_at(0, &file)?;
     Ok(disk)
@@ -450,7 +467,10 @@ fn host_of<D: Disk + Drop>(
     if list.len() > 1_000_000_000 {
         return Err("at most 1,000,000,000 records".into());
     }
-    Ok(Host::adopt(alloc, plan, 1, peer, journal, list).map_err(|e| e.1)?)
+    match Host::adopt(alloc, plan, 1, peer, journal, list) {
+        Ok(host) => Ok(host),
+        Err((_disk, fault)) => Err(Fail::from(fault)),
+    }
 }
 
 /// The host of peer 1 over what the disk holds.
@@ -475,20 +495,66 @@ fn adopted<R: Wait, D: Disk + Drop>(
     }
 }
 
+/// How many batches the host over what the disk holds has, and the disk afterwards.
+fn disk_after<R: Wait>(
+    alloc: Global,
+    rt: &R,
+    pool: &BlockPool,
+    plan: &Plan,
+    disk: MemDisk,
+) -> Result<(u64, MemDisk), Fail>
+    requires good { plan_fault plan.now ≡ None }
+    requires honest { IsSome (honest_peer 1 plan.now) }
+{
+    let host = adopted(alloc, rt, pool, plan, disk)?;
+    Ok((host.count(), host.into_disk()))
+}
+
+/// Whether a disk has what one with so many batches of the journal has.
+fn holds(alloc: Global, disk: &MemDisk, count: usize) -> Result<bool, Fail> {
+    Ok(disk.bytes() == disk_of(alloc, count)?.bytes())
+}
+
+/// How many batches there are once a disk with so many was adopted, whether these are the first of the journal, and how many
+/// there are once it was adopted again.
+fn adopted_twice<R: Wait>(
+    alloc: Global,
+    rt: &R,
+    pool: &BlockPool,
+    plan: &Plan,
+    count: usize,
+) -> Result<(u64, bool, u64), Fail>
+    requires good { plan_fault plan.now ≡ None }
+    requires honest { IsSome (honest_peer 1 plan.now) }
+{
+    let (first, disk) = disk_after(alloc, rt, pool, plan, disk_of(alloc, count)?)?;
+    let whole = holds(alloc, &disk, count.max(DEPOSITS))?;
+    let (second, _disk) = disk_after(alloc, rt, pool, plan, disk)?;
+    Ok((first, whole, second))
+}
+
+/// The same on a pool of its own.
+fn adopted_alone<R: Wait>(
+    alloc: Global,
+    rt: &R,
+    plan: &Plan,
+    count: usize,
+) -> Result<(u64, bool, u64), Fail>
+    requires good { plan_fault plan.now ≡ None }
+    requires honest { IsSome (honest_peer 1 plan.now) }
+{
+    let pool = BlockPool::new(alloc)?;
+    adopted_twice(alloc, rt, &pool, plan, count)
+}
+
 // What is missing of the deposits is there afterwards, and nothing else is written; adopted again, it is a whole journal.
 #[test]
 fn adopted_journals(rt: HostRuntime) -> Result<(), Fail> {
-    let alloc = rt.alloc();
-    let plan = plan_of(alloc)?;
+    let plan = plan_of(rt.alloc())?;
     for count in [0, 1, 2, DEPOSITS, BATCHES] {
-        let pool = BlockPool::new(alloc)?;
-        let whole = count.max(DEPOSITS);
-        let host = adopted(alloc, &rt, &pool, &plan, disk_of(alloc, count)?)?;
-        assert_eq!(rt; host.count(), whole as u64, "{count}");
-        let disk = host.into_disk();
-        assert_eq!(rt; disk.bytes(), disk_of(alloc, whole)?.bytes(), "{count}");
-        let host = adopted(alloc, &rt, &pool, &plan, disk)?;
-        assert_eq!(rt; host.count(), whole as u64, "{count}");
+        let found = adopted_alone(rt.alloc(), &rt, &plan, count)?;
+        let whole = count.max(DEPOSITS) as u64;
+        same(&rt, &found, &(whole, true, whole), &count);
     }
     Ok(())
 }
