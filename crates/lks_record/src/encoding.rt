@@ -1,8 +1,9 @@
 //! Batches to bytes.
 
 ghost use Rattle.std.specs.Prelude.{◌≡◌, ◌≤◌, ◌++◌, length, OnOk, IfOk, All};
+ghost use Rattle.std.specs.List.{flat_map};
 ghost use Rattle.lks_base.specs.declared.limits.TheConstants.{MOST_BLOCKS, MOST_BLOCK_BYTES, MOST_CIRCLE, MOST_NOMINEES};
-ghost use Rattle.lks_record.specs.Spelling.{opening_form, joined_form, committed_form, spelling, batch_spelling, IsWithin, IsSized, IsCounted};
+ghost use Rattle.lks_record.specs.Spelling.{opening_form, joined_form, committed_form, spelling, batch_spelling, content_bytes, IsWithin, IsSized, IsCounted};
 ghost use Rattle.lks_record.specs.Reading.{decode_of};
 ghost use Rattle.lks_record.specs.Sizes.{most_batch_bytes};
 
@@ -355,8 +356,10 @@ fn put_batch(out: &mut Vec<u8>, list: &[Record]) -> Written
     Ok(())
 }
 
-/// The bytes of a deposit's blocks, with the length before each.
-fn bytes_of_blocks(blocks: &[Bytes]) -> usize {
+/// As many bytes as the blocks are spelled in, each behind its length.
+fn bytes_of_blocks(blocks: &[Bytes]) -> usize
+    ensures { result ≤ length (flat_map content_bytes blocks.now) }
+{
     let mut bytes: usize = 0;
     for block in blocks {
         bytes = bytes.saturating_add(block.as_slice().len().saturating_add(2));
@@ -365,7 +368,10 @@ fn bytes_of_blocks(blocks: &[Bytes]) -> usize {
 }
 
 /// As many bytes as the record is spelled in, where it holds blocks.
-fn bytes_of(r: &Record) -> usize {
+#[tactic(auto, unfolding(crate::specs::Spelling::spelling))]
+fn bytes_of(r: &Record) -> usize
+    ensures { result ≤ length (spelling r.now) }
+{
     match r {
         Record::Deposit { blocks, .. } => bytes_of_blocks(blocks.as_slice()).saturating_add(6),
         Record::Replaced { bytes, .. } => bytes.as_slice().len().saturating_add(12),
@@ -387,14 +393,15 @@ fn bytes_of(r: &Record) -> usize {
     }
 }
 
-/// Room for the batch's count and for the records that hold blocks, so that these aren't moved while they are written. A batch
-/// that has a record is no shorter: with the shortest one it has 8 bytes.
-fn room_for(list: &[Record]) -> usize {
+/// Room for the batch's count and for the records that hold blocks, so that these aren't moved while they are written.
+fn room_for(list: &[Record]) -> usize
+    ensures { result ≤ length (batch_spelling list.now) }
+{
     let mut bytes: usize = 2;
     for item in list {
         bytes = bytes.saturating_add(bytes_of(item));
     }
-    bytes.max(8)
+    bytes
 }
 
 /// The one spelling of the batch.

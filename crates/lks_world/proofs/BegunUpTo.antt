@@ -1,5 +1,5 @@
 -- The disks of a world that was to begin, where a host was refused.
-use Rattle.std.proofs.Common.{◌≡◌, ◌<◌, ◌∙◌, ap, sym, subst, ℕ, zero, suc, Bool, true, false, cond, List, [], ◌∷◌, ◌++◌, length, drop, refl, arith, add-one}
+use Rattle.std.proofs.Common.{◌≡◌, ◌<◌, ◌≤◌, ◌∙◌, ap, sym, subst, ℕ, zero, suc, Bool, true, false, cond, List, [], ◌∷◌, ◌++◌, length, drop, refl, arith, add-one}
 use Rattle.std.specs.Prelude.{Option, Some, None, filter, map, option_map, reverse, slice_get}
 use Rattle.std.specs.Option.{option_map_or}
 use Rattle.std.proofs.lemmas.List.{length-map, map-append}
@@ -8,7 +8,7 @@ use Rattle.std.proofs.lemmas.Option.{slice_get-map}
 use Rattle.lks_base.specs.declared.plans.PeerPlan.{PeerPlan}
 use Rattle.lks_base.specs.declared.plans.Plan.{Plan}
 use Rattle.lks_disk.specs.Face.{Face}
-use Rattle.lks_field.specs.Frames.{HoldsBodies}
+use Rattle.lks_field.specs.Frames.{frames, HoldsBodies}
 use Rattle.lks_host.proofs.Fronts.{front_none}
 use Rattle.lks_host.specs.Bodies.{bodies_of, AreRead}
 use Rattle.lks_host.specs.Hosted.{HasFront}
@@ -121,6 +121,7 @@ module _ {D : Type 0} (f : Face D) (pool : List ℕ) (plan : Plan) (first : List
         holds = subst (λ bs. HoldsBodies (bodies_of bs) (f.seen h.journal.disk)) (sym is) has.stands.disk.holds;
         durable = has.stands.disk.durable;
         read = subst AreRead (sym is) has.stands.read;
+        room = subst (λ bs. length (frames (bodies_of bs)) ≤ 33558580) (sym is) (omega (arith, has.room, has.stands.disk.end));
       }
 
   earlier : (i : ℕ) (disk : D) → slice_get (disks_of hosts) i ≡ Some disk → HoldsBatches f plan [] i disk

@@ -266,7 +266,7 @@ disks_hold {D = D} f plan s rest is are place disk at =
     by_host (Some h) e there =
         let host = is.hosts place h e in
         let same : disk_in h ≡ disk = some_is there in
-        subst (HoldsBatches f plan (events_in s) place) same (record { holds = host.stands.disk.holds; durable = host.stands.disk.durable; read = host.stands.read })
+        subst (HoldsBatches f plan (events_in s) place) same (record { holds = host.stands.disk.holds; durable = host.stands.disk.durable; read = host.stands.read; room = omega (arith, host.room, host.stands.disk.end, length-map) })
 
 module _ {D : Type 0} (f : Face D) where
   serves_behind : (p : PeerPlan) (ps : List PeerPlan) (x : D) (xs ys : List D) (fault : Option WorldFault) → ServesHonest f ps xs ys fault → ServesHonest f (p ∷ ps) (x ∷ xs) (x ∷ ys) fault

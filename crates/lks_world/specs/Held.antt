@@ -1,5 +1,5 @@
 -- What the disks of a world hold.
-use Rattle.std.specs.Prelude.{◌≡◌, ◌<◌, ◌+◌, ◌++◌, ◌∷◌, ℕ, false, [], List, Option, Some, None, IfSome, drop, slice_get}
+use Rattle.std.specs.Prelude.{◌≡◌, ◌<◌, ◌≤◌, ◌+◌, ◌*◌, ◌++◌, ◌∷◌, ℕ, false, [], List, Option, Some, None, IfSome, length, drop, slice_get}
 use Rattle.std.specs.List.{list_any}
 use Rattle.lks_disk.specs.Face.{Face}
 use Rattle.lks_base.specs.declared.events.Event.{Event}
@@ -10,17 +10,19 @@ use Rattle.lks_disk.specs.Device.{Only}
 use Rattle.lks_host.specs.Cutting.{Falls}
 use Rattle.lks_host.specs.Bodies.{bodies_of, AreRead}
 use Rattle.lks_host.specs.Hosted.{HasFront}
-use Rattle.lks_field.specs.Frames.{HoldsBodies}
+use Rattle.lks_field.specs.Frames.{frames, HoldsBodies}
 use Rattle.lks_law.specs.Histories.{MayStep}
 use Rattle.lks_law.specs.World.{world}
 use Rattle.lks_law.specs.Batches.{batches_at}
 use Rattle.lks_world.specs.Disks.{honest_disks}
 
--- the disk of the honest peer at each place holds the batches of its journal, which read back, and every crash leaves it so
+-- The disk of the honest peer at each place holds the batches of its journal, which read back, and every crash leaves it so. It
+-- has at most 33,558,580 bytes of deposits, and 32,768 more for each event: it is never full, since a journal may have 2^31 - 1.
 pub record HoldsBatches {D : Type 0} (f : Face D) (plan : Plan) (history : List Event) (place : ℕ) (disk : D) : Type 0 where
   pub holds : HoldsBodies (bodies_of (batches_at place plan history)) (f.seen disk)
   pub durable : Only (f.seen disk) (f.may_leave disk)
   pub read : AreRead (batches_at place plan history)
+  pub room : length (frames (bodies_of (batches_at place plan history))) ≤ 33558580 + 32768 * length history
 
 abbrev pub HaveBatches : {D : Type 0} → Face D → Plan → List Event → List D → Type 0
 HaveBatches {D} f plan history disks =

@@ -164,6 +164,7 @@ module _ {D : Type 0} (f : Face D) where
         holds = subst (HoldsBodies (bodies_of (batches_at place plan history))) (sym pair.2.bytes) had.holds;
         durable = λ c leaves. had.durable c (pair.2.crash c leaves) ∙ sym pair.2.bytes;
         read = had.read;
+        room = had.room;
       }
 
   -- the journals on the disks are those of the history
