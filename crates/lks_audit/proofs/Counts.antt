@@ -1,38 +1,33 @@
 -- The rules of a poll over what is kept of it.
-use Rattle.std.proofs.Common.{◌≡◌, ◌≤◌, ◌-◌, ◌∙◌, ap, sym, subst, ℕ, Bool, true, false, cond, not, List, [], ◌∷◌, length, refl, arith}
-use Rattle.std.specs.Prelude.{Option, Some, None, is_some, ◌==◌, ◌&&◌, ◌||◌, find, map, option_map, slice_set}
-use Rattle.std.specs.List.{list_any}
+use Rattle.std.proofs.Common.{◌≡◌, ◌≤◌, ◌-◌, ◌∙◌, ap, sym, subst, ℕ, Bool, true, false, cond, List, [], ◌∷◌, length, refl, arith}
+use Rattle.std.specs.Prelude.{Option, Some, None, is_some, slice_set}
 use Rattle.std.proofs.lemmas.List.{length-set}
 use Rattle.lks_base.specs.declared.limits.TheConstants.{MOST_BLOCKS}
-use Rattle.lks_law.specs.Journal.{Request}
 use Rattle.lks_law.specs.Polls.{Station, ballot_of, is_win}
-use Rattle.lks_law.specs.Reacting.{if_may, verdict_of, was_asked_of, supplier, asked_for, tallied_as, said_of}
+use Rattle.lks_law.specs.Reacting.{if_may, verdict_of, supplier, asked_for, tallied_as, repair_over, said_of}
 use Rattle.lks_law.specs.Reaction.{is_request}
 use Rattle.lks_base.specs.declared.names.Limits.{Limits}
 use Rattle.lks_base.specs.declared.records.Record.TheVariants as records
 use Rattle.lks_law.specs.State.{Poll, leavers, comers}
 use Rattle.lks_tally.specs.declared.ballots.Vote.{Vote}
-use Rattle.lks_audit.specs.Counted.{IsCountedOn, IsDecided, IsSmall, done, answered_by, repair_over}
-use Rattle.lks_audit.specs.Seen.{request_of, poll_of}
+use Rattle.lks_audit.specs.Counted.{IsCountedOn, IsDecided, IsSmall, done, answered_by}
+use Rattle.lks_audit.specs.Seen.{poll_of}
 use Rattle.lks_poller.specs.Polling as polling
 use Rattle.lks_poller.specs.Polling.{Polled}
-use Rattle.lks_poller.specs.Rules.{outer_for, candidate, asking, next_of, AsksWithin, names, is_asked, said, judgment, answer_of}
+use Rattle.lks_poller.specs.Rules.{outer_for, candidate, next_of, AsksWithin, said, judgment, answer_of}
 use Rattle.lks_poller.specs.declared.stages.Answer.{Answer}
 use Rattle.lks_poller.specs.declared.stages.Answer.TheVariants.{NotAsked}
 use Rattle.lks_poller.specs.declared.stages.Next.{Next}
 use Rattle.lks_poller.specs.declared.stages.Next.TheVariants.{Close, Ask}
-use Rattle.lks_repair.specs.Asking.{Asked, was_asked, awaited}
+use Rattle.lks_repair.specs.Asking.{Asked, awaited}
 use Rattle.lks_tally.specs.Counting.{verdict_on, verdict_at, voters_for, voters_against}
 use Rattle.lks_tally.specs.Keeping.{IsCacheOf, IsSame}
+use Rattle.lks_tally.specs.Running.{first_unasked, supplied_by}
 use Rattle.lks_tally.specs.declared.ballots.At.{At}
 use Rattle.lks_tally.specs.declared.ballots.At.TheVariants as at
 use Rattle.lks_tally.specs.declared.ballots.Ballot.{Ballot}
 use Rattle.lks_tally.specs.declared.ballots.Verdict.{Verdict}
 use Rattle.lks_tally.specs.declared.ballots.Verdict.TheVariants as verdict
-
-asked_seen : (asked : List (ℕ × ℕ)) (b v : ℕ) → list_any (λ (r : Request). r.block == b && r.voter == v) (map request_of asked) ≡ was_asked asked b v
-asked_seen [] b v = refl
-asked_seen (a ∷ asked) b v = ap (λ rest. (a.0 == b && a.1 == v) || rest) (asked_seen asked b v)
 
 module _ (own : Station) (blocks : List (List ℕ)) (s : Polled) (on : IsCountedOn own.id blocks s) where
   ballot_is : ballot_of own (poll_of s).number (poll_of s).opening (length blocks) ≡ s.tally.ballot
@@ -49,13 +44,13 @@ module _ (own : Station) (blocks : List (List ℕ)) (s : Polled) (on : IsCounted
   verdict_is = ap (λ q. verdict_on s.tally.limits.quorum s.tally.limits.minority q s.tally.votes blocks) ballot_is
 
   supplier_is : (b : ℕ) → supplier own (poll_of s) b blocks ≡ candidate s blocks b
-  unfolding supplier was_asked_of
-  supplier_is b = λ i. find (λ v. not (asked_seen s.suppliers.asked b v i)) (voters_against (ballot_is i) s.tally.votes blocks b)
+  unfolding supplier
+  supplier_is b = λ i. first_unasked (poll_of s) b (voters_against (ballot_is i) s.tally.votes blocks b)
 
   pub tallied_seen : (tick : ℕ) (v : Verdict) (next : Next) → IsDecided v → next ≡ next_of s v blocks → tallied_as own (poll_of s) tick blocks v ≡ done (poll_of s) tick next
   tallied_seen tick v next decided is = by_verdict v decided ∙ ap (done (poll_of s) tick) (sym is)
     where
-      by_voter : (b : ℕ) (o : Option ℕ) → asked_for (poll_of s) tick b o ≡ done (poll_of s) tick (asking b o)
+      by_voter : (b : ℕ) (o : Option ℕ) → asked_for (poll_of s) tick b o ≡ done (poll_of s) tick (supplied_by Close Ask b o)
       by_voter b None = refl
       by_voter b (Some v) = refl
 
@@ -72,17 +67,12 @@ module _ (own : Station) (blocks : List (List ℕ)) (s : Polled) (on : IsCounted
       ∙ ap (λ q. is_win (verdict_at s.tally.limits.minority q s.tally.votes (slice_set blocks b bytes) b)) ballot_is
 
   repair_is : (from b : ℕ) (bytes : List ℕ) → repair_over own from b bytes blocks (poll_of s) ≡ answered_by (poll_of s) from b bytes (answer_of s from b bytes blocks)
-  unfolding is_asked
   repair_is from b bytes =
-      (λ i. if_may (asked (awaited s.suppliers) i) (cond (said_is b bytes i)
+      (λ i. if_may (is_request b from (poll_of s).request) (cond (said_is b bytes i)
       (record { records = records.Replaced (poll_of s).number (poll_of s).opening.au b bytes ∷ []; sends = [] })
       (record { records = records.RepairBad (poll_of s).number b from ∷ []; sends = [] })))
-      ∙ by_answer (names (awaited s.suppliers) b from) (said s b bytes blocks)
+      ∙ by_answer (is_request b from (poll_of s).request) (said s b bytes blocks)
     where
-      asked : (o : Option (ℕ × ℕ)) → is_request b from (option_map request_of o) ≡ names o b from
-      asked None = refl
-      asked (Some a) = refl
-
       by_answer : (t : Bool) (said : At) → if_may t (cond (is_win said)
           (record { records = records.Replaced (poll_of s).number (poll_of s).opening.au b bytes ∷ []; sends = [] })
           (record { records = records.RepairBad (poll_of s).number b from ∷ []; sends = [] }))

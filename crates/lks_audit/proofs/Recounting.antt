@@ -5,13 +5,14 @@ use Rattle.std.proofs.lemmas.Int.{clamps}
 use Rattle.lks_audit.proofs.Counts.{verdict_is}
 use Rattle.lks_audit.specs.Kept.{kept_tallied}
 use Rattle.lks_audit.specs.Seen.{poll_of, IsOn}
-use Rattle.lks_audit.specs.Tallying.{IsSameTally, is_ready}
+use Rattle.lks_audit.specs.Tallying.{IsSameTally}
 use Rattle.lks_law.specs.Polls.{Station}
 use Rattle.lks_law.specs.Reacting.{verdict_of}
 use Rattle.lks_law.specs.State.{Copy, blocks_at}
 use Rattle.lks_poller.specs.Polling.{Polled}
 use Rattle.lks_tally.specs.Counting.{verdict_on}
 use Rattle.lks_tally.specs.Keeping.{kept_after}
+use Rattle.lks_tally.specs.Running.{may_tally}
 use Rattle.lks_tally.specs.declared.ballots.Verdict.{Verdict}
 use Rattle.lks_tally.specs.declared.ballots.Verdict.TheVariants as verdict
 use Rattle.lks_work.specs.declared.results.TallyDone.{TallyDone}
@@ -28,7 +29,7 @@ module _ (own : Station) (copies : List Copy) (s : Polled) (done : TallyDone) (o
   told : done.verdict ≡ verdict_of own (poll_of s) (blocks_at s.tally.ballot.au copies)
   told = done.told ∙ (λ i. verdict_on (same.tally.1 i).quorum (same.tally.1 i).minority (same.tally.0 i) (same.tally.2 i) (same.blocks i)) ∙ sym (verdict_is own (blocks_at s.tally.ballot.au copies) s on)
 
-  pub kept_elsewhere : is_ready (poll_of s) ≡ true → kept_tallied own copies (poll_of s) done.job.tally.kept ≡ kept_tallied own copies (poll_of s) s.tally.kept
+  pub kept_elsewhere : may_tally (poll_of s) ≡ true → kept_tallied own copies (poll_of s) done.job.tally.kept ≡ kept_tallied own copies (poll_of s) s.tally.kept
   kept_elsewhere ready =
       let blocks = blocks_at s.tally.ballot.au copies in
       let v = verdict_of own (poll_of s) blocks in

@@ -3,9 +3,9 @@ use Rattle.std.proofs.Common.{◌≡◌, ◌∙◌, ap, sym, subst, ℕ, suc, Bo
 use Rattle.std.proofs.Common.{inl, inr}
 use Rattle.lks_audit.proofs.Sessions.{last_pushed}
 use Rattle.lks_repair.specs.Asking.{Asked, awaited}
-use Rattle.std.specs.Prelude.{Some, is_some, ◌⊎◌, ◌==◌, slice_set, All}
+use Rattle.std.specs.Prelude.{Option, Some, IfSome, is_some, ◌⊎◌, ◌==◌, [], ◌∷◌, find, slice_set, All}
 use Rattle.std.specs.List.{position, remove}
-use Rattle.std.proofs.lemmas.List.Elements.{All-set, All-append, All-take, All-drop}
+use Rattle.std.proofs.lemmas.List.Elements.{All-head, All-tail, All-set, All-append, All-take, All-drop}
 use Rattle.std.proofs.lemmas.List.Quantifiers.{position-Some}
 use Rattle.lks_base.specs.Checking.{has_member}
 use Rattle.lks_law.specs.State.{Copy, Poll, blocks_at}
@@ -82,6 +82,19 @@ on_gone ss i id copies all = All-append (IsOn id copies) (take i ss) (drop (suc 
 -- where a poll is seen as before, it runs over the same copy
 pub on_still : (id : ℕ) (copies : List Copy) (old new : Polled) → poll_of new ≡ poll_of old → IsCountedOn id (blocks_at old.tally.ballot.au copies) new → IsOn id copies new
 on_still id copies old new seen on = subst (λ au. IsCountedOn id (blocks_at au copies) new) (sym (ap (λ (p : Poll). p.opening.au) seen)) on
+
+-- the one that is found is one of them
+pub on_found : (n : ℕ) (ss : List Polled) (found : Option Polled) → found ≡ find (λ (s : Polled). s.tally.ballot.poll.number == n) ss
+    → (id : ℕ) (copies : List Copy) → All (IsOn id copies) ss → IfSome found (IsOn id copies)
+on_found n ss found is id copies all = subst (λ o. IfSome o (IsOn id copies)) (sym is) (among ss all)
+  where
+    among : (ss : List Polled) → All (IsOn id copies) ss → IfSome (find (λ (s : Polled). s.tally.ballot.poll.number == n) ss) (IsOn id copies)
+    among [] all = tt
+    among (s ∷ ss) all = by_test (s.tally.ballot.poll.number == n) (among ss (All-tail (IsOn id copies) s ss all))
+      where
+        by_test : (b : Bool) → IfSome (find (λ (s : Polled). s.tally.ballot.poll.number == n) ss) (IsOn id copies) → IfSome (cond b (Some s) (find (λ (s : Polled). s.tally.ballot.poll.number == n) ss)) (IsOn id copies)
+        by_test true rest = All-head (IsOn id copies) s ss all
+        by_test false rest = rest
 
 -- the poll at a place, and another there
 pub on_place : (id : ℕ) (copies : List Copy) (ss : List Polled) (i : ℕ) (d : Polled) → i < length ss → d ≡ get_or ss i d → All (IsOn id copies) ss → IsOn id copies d

@@ -9,7 +9,7 @@ use Rattle.lks_law.specs.Fitting.{Where}
 use Rattle.lks_law.specs.Polls.{Station}
 use Rattle.lks_law.specs.Reacting.{verdict_of}
 use Rattle.lks_tally.specs.declared.ballots.Verdict.TheVariants as verdict
-use Rattle.lks_law.specs.State.{Copy, blocks_at, Poll, poll_at, changed, without_poll, nominated_by, first_circle, widened_to, voted_by, shut_now, asking, answered}
+use Rattle.lks_law.specs.State.{Copy, blocks_at, Poll, poll_at, changed, without_poll, nominated_by, widened_to, voted_by, shut_now, asking, answered}
 use Rattle.lks_audit.specs.Seen.{AreAgreed, request_of, nomination_of, poll_of, polls_of}
 use Rattle.lks_tally.specs.declared.ballots.Vote.{Vote}
 use Rattle.lks_poller.specs.Polling as polling
@@ -35,11 +35,7 @@ module _ (n : ℕ) (ss : List Polled) (i : ℕ) (old new : Polled) (at : positio
       put (nominated_by voter nominees) (ap poll_of is ∙ ap (λ ns. record (poll_of old) { nominations = ns }) (map_push nomination_of old.nominations (record { voter = voter; nominees = nominees })))
 
   pub put_widened : (outer : List ℕ) → new ≡ polling.widened old outer → map poll_of (slice_set ss i new) ≡ changed n (widened_to outer) (map poll_of ss)
-  put_widened outer is = put (widened_to outer) (ap poll_of is ∙ ap (λ o. record (poll_of old) { outer = o }) (circle old.outer))
-    where
-      circle : (o : Option (List ℕ)) → polling.first_circle o outer ≡ first_circle o outer
-      circle None = refl
-      circle (Some before) = refl
+  put_widened outer is = put (widened_to outer) (ap poll_of is)
 
   pub put_shut : new ≡ polling.shut_now old → map poll_of (slice_set ss i new) ≡ changed n shut_now (map poll_of ss)
   put_shut is = put shut_now (ap poll_of is)

@@ -1,12 +1,10 @@
 -- A poll of a peer whose hashes are kept over the peer's copy.
-use Rattle.std.specs.Prelude.{◌≡◌, ◌<◌, ◌≤◌, ◌&&◌, not, ℕ, true, false, if◌then◌else◌, is_some, List, [], ◌∷◌, length}
+use Rattle.std.specs.Prelude.{◌≡◌, ◌<◌, ◌≤◌, ℕ, true, false, is_some, List, [], ◌∷◌, length}
 use Rattle.lks_base.specs.declared.limits.TheConstants.{MOST_BLOCKS}
-use Rattle.lks_base.specs.declared.messages.Message.TheVariants as message
 use Rattle.lks_base.specs.declared.reactions.Reaction.{Reaction}
 use Rattle.lks_base.specs.declared.records.Record.TheVariants as records
-use Rattle.lks_law.specs.Polls.{Station}
-use Rattle.lks_law.specs.Reacting.{if_may, closed_as, verdict_of, tallied_as, said_of}
-use Rattle.lks_law.specs.Reaction.{nothing, letter, is_request}
+use Rattle.lks_law.specs.Reacting.{asked_of, closed_as}
+use Rattle.lks_law.specs.Reaction.{nothing}
 use Rattle.lks_law.specs.State.{Poll}
 use Rattle.lks_poller.specs.Polling.{Polled}
 use Rattle.lks_poller.specs.declared.stages.Answer.{Answer}
@@ -39,10 +37,6 @@ abbrev pub IsSmall : Next → Type 0
 IsSmall (Close outcome) = Unit {0}
 IsSmall (Ask block voter) = block < MOST_BLOCKS
 
--- a voter is asked for a block
-abbrev pub asked_of : Poll → ℕ → ℕ → Reaction
-asked_of p block voter = record { records = records.Asked p.number block voter ∷ []; sends = letter (message.RepairRequest p.number block) voter ∷ [] }
-
 -- what the peer adds and sends for what follows from a verdict
 abbrev pub done : Poll → ℕ → Next → Reaction
 done p tick (Close outcome) = closed_as p tick outcome
@@ -53,15 +47,3 @@ abbrev pub answered_by : Poll → ℕ → ℕ → List ℕ → Answer → Reacti
 answered_by p from b bytes Replace = record { records = records.Replaced p.number p.opening.au b bytes ∷ []; sends = [] }
 answered_by p from b bytes Bad = record { records = records.RepairBad p.number b from ∷ []; sends = [] }
 answered_by p from b bytes NotAsked = nothing
-
--- what the rules do about a verdict on these blocks, where it may be asked for
-abbrev pub tally_over : Station → ℕ → List (List ℕ) → Poll → Reaction
-tally_over own tick blocks p = if_may (p.shut && not (is_some p.request)) (tallied_as own p tick blocks (verdict_of own p blocks))
-
--- and about a block that comes
-abbrev pub repair_over : Station → ℕ → ℕ → List ℕ → List (List ℕ) → Poll → Reaction
-repair_over own from b bytes blocks p =
-    if_may (is_request b from p.request)
-    (if said_of own p b bytes blocks
-    then record { records = records.Replaced p.number p.opening.au b bytes ∷ []; sends = [] }
-    else record { records = records.RepairBad p.number b from ∷ []; sends = [] })

@@ -1,11 +1,12 @@
 -- For how many blocks each running poll keeps the running hashes of its votes.
-use Rattle.std.specs.Prelude.{ℕ, Bool, ◌==◌, ◌&&◌, not, if◌then◌else◌, min, Option, None, Some, option_map, is_some, List, length, map, find}
+use Rattle.std.specs.Prelude.{ℕ, Bool, ◌==◌, if◌then◌else◌, min, Option, None, Some, option_map, List, length, map, find}
 use Rattle.lks_law.specs.Polls.{Station}
 use Rattle.lks_law.specs.Reacting.{verdict_of}
 use Rattle.lks_law.specs.Firsts.{changed_first, without_first}
 use Rattle.lks_law.specs.State.{Copy, Poll, blocks_at}
 use Rattle.lks_poller.specs.Polling.{Polled}
 use Rattle.lks_tally.specs.Keeping.{kept_after}
+use Rattle.lks_tally.specs.Running.{may_tally}
 
 -- a running poll's number and AU, and for how many blocks, from the first one on, its running hashes are kept
 pub record Kept : Type 0 where
@@ -46,7 +47,7 @@ kept_before au b k = if k.au == au then recounted (min b) k else k
 
 -- how many a poll keeps once its votes were counted over these blocks, where they may be
 abbrev pub kept_over : Station → List (List ℕ) → Poll → ℕ → ℕ
-kept_over own blocks p count = if p.shut && not (is_some p.request) then kept_after (verdict_of own p blocks) count (length blocks) else count
+kept_over own blocks p count = if may_tally p then kept_after (verdict_of own p blocks) count (length blocks) else count
 
 -- over the copy that is held
 abbrev pub kept_tallied : Station → List Copy → Poll → ℕ → ℕ

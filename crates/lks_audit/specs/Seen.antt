@@ -1,43 +1,18 @@
 -- How the polls that a peer keeps are seen, and the peer.
-use Rattle.std.specs.Prelude.{◌≡◌, ◌<◌, ◌==◌, ℕ, true, false, if◌then◌else◌, Some, option_map, List, length, map, get_or, All}
+use Rattle.std.specs.Prelude.{◌≡◌, ◌<◌, ◌==◌, ℕ, true, false, if◌then◌else◌, Some, List, length, map, get_or, All}
 use Rattle.std.specs.List.{position}
 use Rattle.lks_base.specs.Checking.{has_member}
 use Rattle.lks_law.specs.Fitting.{Where}
-use Rattle.lks_law.specs.Journal.{Request}
 use Rattle.lks_law.specs.Polls.{Station}
 use Rattle.lks_law.specs.Reacting.{verdict_of}
-use Rattle.lks_law.specs.State.{Nomination, Poll, Copy, poll_at, blocks_at}
+use Rattle.lks_law.specs.State.{Poll, Copy, poll_at, blocks_at}
 use Rattle.lks_audit.specs.Copied.{copies_of}
 use Rattle.lks_audit.specs.declared.copies.Held.{Held}
 use Rattle.lks_audit.specs.Counted.{IsCountedOn}
 use Rattle.lks_poller.specs.Polling.{Polled}
-use Rattle.lks_poller.specs.declared.stages.Nomination.{Nomination as Nominated}
-use Rattle.lks_repair.specs.Asking.{awaited}
+pub use Rattle.lks_poller.specs.Running.{request_of, nomination_of, poll_of}
 use Rattle.lks_tally.specs.Keeping.{forgotten}
 use Rattle.lks_tally.specs.declared.ballots.Verdict.TheVariants as verdict
-
--- the block and the voter that was asked for it
-abbrev pub request_of : ℕ × ℕ → Request
-request_of asked = record { block = asked.0; voter = asked.1 }
-
-abbrev pub nomination_of : Nominated → Nomination
-nomination_of n = record { voter = n.voter; nominees = n.nominees }
-
--- a poll, but for the running hashes that are kept
-abbrev pub poll_of : Polled → Poll
-poll_of s =
-    record {
-      number = s.tally.ballot.poll.number;
-      opening = record { au = s.tally.ballot.au; nonce = s.tally.ballot.nonce; inner = s.inner; limits = Some s.tally.limits; kind = s.tally.ballot.kind };
-      nominations = map nomination_of s.nominations;
-      outer = s.outer;
-      inner_votes = s.tally.votes;
-      outer_votes = s.outer_votes;
-      voters = s.voters;
-      shut = s.shut;
-      asked = map request_of s.suppliers.asked;
-      request = option_map request_of (awaited s.suppliers);
-    }
 
 -- the polls
 abbrev pub polls_of : List Polled → List Poll

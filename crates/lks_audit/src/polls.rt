@@ -4,7 +4,7 @@ ghost use Rattle.std.specs.Prelude.{◌≡◌, ◌==◌, ◌++◌, ◌∷◌, []
 ghost use Rattle.std.specs.List.{position};
 ghost use Rattle.std.specs.Option.{option_copied};
 ghost use Rattle.lks_blocks.specs.Block.{AllOf};
-ghost use Rattle.lks_law.specs.State.{poll_at, refs_agreed, changed, without_poll, nominated_by, widened_to, voted_by, shut_now, asking, answered};
+ghost use Rattle.lks_law.specs.State.{Copy, poll_at, refs_agreed, changed, without_poll, nominated_by, widened_to, voted_by, shut_now, asking, answered};
 ghost use Rattle.lks_law.specs.Reacting.{for_poll, tally_in, repair_in};
 ghost use Rattle.lks_law.specs.Turning.{has_inner_of};
 ghost use Rattle.lks_audit.specs.Copied.{copies_of, IsOf, HasBlocks};
@@ -38,6 +38,7 @@ fn find(polls: &[PollSession], number: u32) -> Option<&PollSession>
 pub fn find_poll(polls: &[PollSession], number: u32) -> Option<&PollSession>
     ensures seen { poll_at number (polls_of polls.now) ≡ option_map poll_of (option_copied result) }
     ensures kept { kept_at number (kept_of polls.now) ≡ option_map (λ s. s.tally.kept) (option_copied result) }
+    ensures on { (id : ℕ) (copies : List Copy) → All (IsOn id copies) polls.now → IfSome (option_copied result) (IsOn id copies) }
 {
     find(polls, number)
 }

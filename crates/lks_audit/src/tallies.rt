@@ -2,8 +2,8 @@
 
 ghost use Rattle.std.specs.Prelude.{◌≡◌, ◌≤◌, ◌<◌, ℕ, List, IfOk, All, length};
 ghost use Rattle.lks_base.specs.declared.limits.TheConstants.{MOST_BLOCKS};
-ghost use Rattle.lks_law.specs.Reacting.{tallied_as, verdict_of, tally_in, repair_in};
-ghost use Rattle.lks_audit.specs.Counted.{IsCountedOn, IsSmall, asked_of, done, answered_by, tally_over, repair_over};
+ghost use Rattle.lks_law.specs.Reacting.{asked_of, tallied_as, tally_over, verdict_of, tally_in, repair_over, repair_in};
+ghost use Rattle.lks_audit.specs.Counted.{IsCountedOn, IsSmall, done, answered_by};
 ghost use Rattle.lks_audit.specs.Copied.{copies_of, IsOf, HasBlocks};
 ghost use Rattle.lks_audit.specs.Kept.{kept_over, kept_tallied};
 ghost use Rattle.lks_audit.specs.Seen.{poll_of, IsOn};
@@ -104,7 +104,7 @@ pub fn tally<C: Contents>(
     ensures seen { poll_of poll.new ≡ poll_of poll.old }
     ensures kept { poll.new.tally.kept ≡ kept_over own.now (C.blocks copy.now) (poll_of poll.old) poll.old.tally.kept }
 {
-    if !poll.is_shut() || poll.unanswered().is_some() {
+    if !poll.may_tally() {
         return Ok(no_reaction(alloc));
     }
     let verdict = count(own, poll, copy);

@@ -20,13 +20,6 @@ use lks_versions::{PinTag, Place, tag_at};
 use lks_work::{TallyDone, TallyJob};
 use std::alloc::Global;
 
-/// Whether the votes of a poll may be counted: it is shut, and waits for nothing.
-pub fn is_ready(poll: &PollSession) -> bool
-    ensures { result ≡ tallying.is_ready (poll_of poll.now) }
-{
-    poll.is_shut() && poll.unanswered().is_none()
-}
-
 fn tag_of(copies: &Copies, places: &[Place], poll: &PollSession) -> PinTag
     ensures { result ≡ tallying.tag_of places.now (copies_of copies.now) (poll_of poll.now) }
 {
@@ -38,7 +31,7 @@ fn tag_of(copies: &Copies, places: &[Place], poll: &PollSession) -> PinTag
 pub fn tag_ready(copies: &Copies, places: &[Place], poll: &PollSession) -> Option<PinTag>
     ensures { result ≡ tallying.tag_ready places.now (copies_of copies.now) (Some (poll_of poll.now)) }
 {
-    if is_ready(poll) {
+    if poll.may_tally() {
         Some(tag_of(copies, places, poll))
     } else {
         None
@@ -58,7 +51,7 @@ pub fn job_held(
     ensures kept { IfOk result (λ o. IfSome o (λ j. j.tally.kept ≡ poll.now.tally.kept)) }
     ensures of { IfOk result (λ o. IfSome o (λ j. (pool : List ℕ) → All (IsOf pool) copies.now → AllOf pool j.refs)) }
 {
-    if !is_ready(poll) {
+    if !poll.may_tally() {
         return Ok(None);
     }
     let refs = refer(alloc, copies.as_slice(), poll.au())?;
@@ -101,7 +94,7 @@ fn take(own: &Station, pool: &BlockPool, copies: &Copies, poll: &mut PollSession
     ensures on { IsOn own.now.id (copies_of copies.now) poll.new }
     ensures kept { kept_tallied own.now (copies_of copies.now) (poll_of poll.old) poll.new.tally.kept ≡ kept_tallied own.now (copies_of copies.now) (poll_of poll.old) poll.old.tally.kept }
 {
-    if is_ready(poll) && is_same(own, pool, copies, poll, &done) {
+    if poll.may_tally() && is_same(own, pool, copies, poll, &done) {
         poll.put_tally(done.job.tally);
     }
 }

@@ -1,25 +1,22 @@
 //! What a peer adds and sends in a poll of its own, while votes are open.
 
-ghost use Rattle.std.specs.Prelude.{◌≡◌, ◌≤◌, IfOk, length, ◌==◌, unwrap_or, [], ◌∷◌};
-ghost use Rattle.std.specs.List.{list_any};
+ghost use Rattle.std.specs.Prelude.{◌≡◌, ◌≤◌, ℕ, List, IfOk, length, unwrap_or, [], ◌∷◌};
 ghost use Rattle.lks_base.specs.declared.names.Outcome.TheVariants as outcome;
 ghost use Rattle.lks_base.specs.declared.records.Record.TheVariants as record_of;
 ghost use Rattle.lks_base.specs.declared.limits.TheConstants.{MOST_PROOF_BYTES};
 ghost use Rattle.lks_law.specs.Reaction.{is_accepted as accepted};
-ghost use Rattle.lks_law.specs.Reacting.{outer_of_poll, widen_in, shut_in, receipts_of, closed_as, silent_in, is_invited_to, challenge_in, has_nominated_in, nominate_in, vote_in_poll};
-ghost use Rattle.lks_audit.specs.Copied.{copies_of};
-ghost use Rattle.lks_audit.specs.Seen.{poll_of};
+ghost use Rattle.lks_law.specs.Reacting.{outer_of_poll, widen_in, shut_in, receipts_of, closed_as, challenge_in, nominate_in, vote_in_poll};
+ghost use Rattle.lks_law.specs.State.{Copy};
+ghost use Rattle.lks_audit.specs.Seen.{poll_of, IsOn};
 
-use crate::copies::{Held, count_blocks};
 use crate::letters::{give_receipts, invite, write};
 use crate::reactions::{adding, no_reaction, no_sends, sending};
 use crate::samples::sample_outer;
 use crate::stations::Station;
 use lks_base::{
     Hashes, Ids, Judged, Message, OutOfMemory, Outcome, Outgoing, PeerId, Reaction, Record, Seq,
-    has_member,
 };
-use lks_poller::{Nomination, PollSession};
+use lks_poller::PollSession;
 use std::alloc::Global;
 
 /// The outer circle of a poll, once it is invited.
@@ -50,7 +47,7 @@ fn sample(alloc: Global, own: &Station, poll: &PollSession) -> Result<Ids, OutOf
 pub fn widen(alloc: Global, own: &Station, poll: &PollSession) -> Result<Reaction, OutOfMemory>
     ensures { IfOk result (λ r. r ≡ widen_in own.now (poll_of poll.now)) }
 {
-    if poll.is_shut() || poll.outer().is_some() {
+    if !poll.may_widen() {
         return Ok(no_reaction(alloc));
     }
     let number = poll.poll().number;
@@ -122,13 +119,6 @@ pub fn shut(
     Ok(Reaction { records, sends })
 }
 
-#[tactic(auto, unfolding(lks_law::specs::Reacting::is_invited_to))]
-fn is_invited(poll: &PollSession, voter: PeerId) -> bool
-    ensures { result ≡ is_invited_to (poll_of poll.now) voter }
-{
-    has_member(poll.inner(), voter) || has_member(outer_of(poll), voter)
-}
-
 /// Answers a challenge by the proof of effort.
 #[tactic(auto, unfolding(lks_law::specs::Reacting::challenge_in))]
 pub fn prove(
@@ -141,7 +131,7 @@ pub fn prove(
     requires { length own.now.proof ≤ MOST_PROOF_BYTES }
     ensures { IfOk result (λ r. r ≡ challenge_in own.now from yes (poll_of poll.now)) }
 {
-    if !(yes && !poll.is_shut() && is_invited(poll, from) && !has_member(poll.voters(), from)) {
+    if !(yes && poll.may_prove(from)) {
         return Ok(no_reaction(alloc));
     }
     let message = Message::PollProof {
@@ -151,18 +141,6 @@ pub fn prove(
         proof: own.proof.clone()?,
     };
     sending(alloc, write(alloc, &message, from)?)
-}
-
-fn names(nominations: &[Nomination], voter: PeerId) -> bool
-    ensures { result ≡ list_any (λ n. n.voter == voter) nominations.now }
-{
-    nominations.iter().any(|n| n.voter == voter)
-}
-
-fn has_nominated(poll: &PollSession, voter: PeerId) -> bool
-    ensures { result ≡ has_nominated_in (poll_of poll.now) voter }
-{
-    names(poll.nominations(), voter)
 }
 
 /// Takes an inner peer's nomination, its first one, until the outer circle is invited.
@@ -175,11 +153,7 @@ pub fn nominate(
 ) -> Result<Reaction, OutOfMemory>
     ensures { IfOk result (λ r. r ≡ nominate_in from nominees.now (poll_of poll.now)) }
 {
-    if poll.is_shut()
-        || poll.outer().is_some()
-        || !has_member(poll.inner(), from)
-        || has_nominated(poll, from)
-    {
+    if !poll.may_nominate(from) {
         return Ok(no_reaction(alloc));
     }
     let item = Record::Nominated {
@@ -201,19 +175,13 @@ fn is_accepted(judged: Judged) -> bool
 pub fn vote(
     alloc: Global,
     poll: &PollSession,
-    copies: &[Held],
     from: PeerId,
     hashes: &Hashes,
     judged: Judged,
 ) -> Result<Reaction, OutOfMemory>
-    ensures { IfOk result (λ r. r ≡ vote_in_poll from hashes.now judged (copies_of copies.now) (poll_of poll.now)) }
+    ensures { (id : ℕ) (copies : List Copy) → IsOn id copies poll.now → IfOk result (λ r. r ≡ vote_in_poll from hashes.now judged copies (poll_of poll.now)) }
 {
-    let may = is_accepted(judged)
-        && !poll.is_shut()
-        && is_invited(poll, from)
-        && !has_member(poll.voters(), from)
-        && hashes.as_slice().len() == count_blocks(copies, poll.au());
-    if !may {
+    if !(is_accepted(judged) && poll.may_vote(from, hashes.as_slice().len())) {
         return Ok(no_reaction(alloc));
     }
     let item = Record::VoteIn {

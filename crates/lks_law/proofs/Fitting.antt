@@ -31,7 +31,7 @@ use Rattle.lks_law.specs.Answering.{is_open, open_sessions, was_ended, may_join_
 use Rattle.lks_law.specs.Facts.{IsHeard}
 use Rattle.lks_law.specs.Journal.{Request, numbers_after}
 use Rattle.lks_law.specs.Polls.{Station, limits_of, ballot_of}
-use Rattle.lks_law.specs.Reacting.{for_poll, if_may, may_open_copy, may_open_in, inner_of, opened_as, open_in, widen_in, silent_in, nudge_in, give_up_in, receipts_of, shut_once, shut_in, closed_as, asked_for, verdict_of, supplier, tallied_as, tally_in, must_note_copy, overdue_of, check_in, is_invited_to, challenge_in, has_nominated_in, nominate_in, vote_in_poll, said_of, repair_in}
+use Rattle.lks_law.specs.Reacting.{for_poll, if_may, may_open_copy, may_open_in, inner_of, opened_as, open_in, widen_in, silent_in, nudge_in, give_up_in, receipts_of, shut_once, shut_in, closed_as, asked_for, verdict_of, supplier, tallied_as, tally_in, must_note_copy, overdue_of, check_in, is_invited_to, challenge_in, nominate_in, vote_in_poll, said_of, repair_in}
 use Rattle.lks_law.specs.Reaction.{nothing, letter, asked_again, given_up, is_accepted, is_request}
 use Rattle.lks_law.specs.State.{Poll, Copy, State, poll_at, copy_at, blocks_in, blocks_at, nominated_by, widened_to, voted_by, shut_now, asking, answered, changed, without_poll, deposited, opened_at, replaced_in, agreed_at, noted, copy_changed, agreed_on, copies_after, polls_after, after}
 use Rattle.lks_law.specs.Sessions.{Commitment}
@@ -44,6 +44,7 @@ use Rattle.lks_base.specs.declared.names.PollName.{PollName}
 use Rattle.lks_message.specs.Spelling.{IsWithin}
 use Rattle.lks_tally.proofs.Deciding.{loss_first}
 use Rattle.lks_tally.specs.PollRules as poll
+use Rattle.lks_tally.specs.Running.{may_nominate, may_prove, may_vote}
 use Rattle.lks_tally.specs.declared.ballots.Verdict.{Verdict}
 use Rattle.lks_tally.specs.declared.ballots.Verdict.TheVariants as verdict
 
@@ -462,7 +463,8 @@ module _ (own : Station) (s : State) (few : own.rules.inner ≤ MOST_CIRCLE) (ro
   vote_fits from hashes judged n p is =
       where_may _ (record { records = records.VoteIn p.number from hashes ∷ []; sends = [] })
       (λ may.
-      let parts = and_parts (is_accepted judged && not p.shut) (poll.may_vote (is_invited_to p from) (has_member p.voters from) (length hashes) (length (blocks_at p.opening.au s.copies))) may in
+      let taken = and_parts (is_accepted judged) (may_vote p from (length hashes) (length (blocks_at p.opening.au s.copies))) may in
+      let parts = and_parts (not p.shut) (poll.may_vote (is_invited_to p from) (has_member p.voters from) (length hashes) (length (blocks_at p.opening.au s.copies))) taken.1 in
       let rule = and_parts (is_invited_to p from && not (has_member p.voters from)) (eqb (length hashes) (length (blocks_at p.opening.au s.copies))) parts.1 in
       let new = (and_parts (is_invited_to p from) (not (has_member p.voters from)) rule.0).1 in (
         (
@@ -493,7 +495,7 @@ module _ (own : Station) (s : State) (few : own.rules.inner ≤ MOST_CIRCLE) (ro
 
   challenge_fits : (from : ℕ) (agrees : Bool) (n : ℕ) (p : Poll) → poll_at n s.polls ≡ Some p → AreFitting own s (challenge_in own from agrees p).records
   unfolding challenge_in
-  challenge_fits from agrees n p is = by_rule (agrees && not p.shut && is_invited_to p from && not (has_member p.voters from))
+  challenge_fits from agrees n p is = by_rule (agrees && may_prove p from)
     where
       by_rule : (b : Bool) → AreFitting own s (if_may b (record { records = []; sends = letter (message.PollProof p.number p.opening.nonce p.opening.kind own.proof) from ∷ [] })).records
       by_rule true = tt
@@ -502,7 +504,7 @@ module _ (own : Station) (s : State) (few : own.rules.inner ≤ MOST_CIRCLE) (ro
   nominate_fits : (from : ℕ) (nominees : List ℕ) (n : ℕ) (p : Poll) → poll_at n s.polls ≡ Some p → AreFitting own s (nominate_in from nominees p).records
   unfolding nominate_in
   nominate_fits from nominees n p is =
-      where_may (poll.may_widen (not p.shut) (is_some p.outer) && poll.may_nominate (has_member p.opening.inner from) (has_nominated_in p from))
+      where_may (may_nominate p from)
       (record { records = records.Nominated p.number from nominees ∷ []; sends = [] }) (λ may. (tt, tt))
 
   -- The rows of a voter.

@@ -1,5 +1,5 @@
 -- A history and one event more.
-use Rattle.std.proofs.Common.{◌≡◌, ◌+◌, ◌≤◌, ◌<◌, ◌∙◌, ap, sym, ℕ, zero, suc, Bool, true, false, cond, List, [], ◌∷◌, ◌++◌, length, get_or, refl, arith}
+use Rattle.std.proofs.Common.{◌≡◌, ◌+◌, ◌≤◌, ◌<◌, ◌∙◌, ap, ℕ, zero, suc, Bool, true, false, cond, List, [], ◌∷◌, ◌++◌, length, refl, arith}
 use Rattle.std.specs.Prelude.{not, filter, map, ◌||◌, ◌&&◌}
 use Rattle.std.specs.List.{list_any, range_with_len}
 use Rattle.std.proofs.lemmas.List.Folds.{list_any-append}
@@ -106,10 +106,6 @@ first_below q a (suc n) end i is le e =
 pub waiting_stands : (plan : Plan) (history : List Event) (i : ℕ) (is : List ℕ) → pending plan history ≡ i ∷ is → i < length (world plan history).bag
 unfolding pending
 waiting_stands plan history i is e = first_below (is_pending history) 0 (length (world plan history).bag) (length (world plan history).bag) i is (omega arith) e
-
-pub first_waits : (plan : Plan) (history : List Event) (is : List ℕ) → is ≡ pending plan history → 1 ≤ length is → get_or is 0 0 < length (world plan history).bag
-first_waits plan history [] e some = absurd (omega arith)
-first_waits plan history (i ∷ is) e some = waiting_stands plan history i is (sym e)
 
 pub entry_event : (w : World) (e : Event) → (entry_of w e).event ≡ e
 unfolding entry_of

@@ -26,9 +26,9 @@ use Rattle.lks_law.proofs.Scans.{voted_is, nominated_is, asked_is, nominees_are,
 use Rattle.lks_law.proofs.Standing.{Stands, poll_is, blocks_is}
 use Rattle.lks_refs.specs.Circles.{circle_of}
 use Rattle.lks_tally.specs.PollRules as poll
+use Rattle.lks_tally.specs.Running as running
 use Rattle.lks_tally.specs.Counting.{voters_against}
 use Rattle.lks_tally.specs.declared.ballots.Verdict.{Verdict}
-use Rattle.lks_tally.specs.declared.ballots.Verdict.TheVariants as verdict
 use Rattle.lks_tally.specs.declared.ballots.Vote.{Vote}
 
 never : (b : Bool) → cond b nothing nothing ≡ nothing
@@ -57,18 +57,16 @@ module _ (own : Station) (js : List Record) (s : State) (is : Stands own js s) w
   -- A tally.
 
   asked_are : (tick n b : ℕ) (o : Opening) (v : Option ℕ) → asked_for (poll_as n (settled own.rules o) js) tick b v ≡ asked js tick n b v
-  asked_are tick n b o None = closed_is tick n o (outcome.NoSupplier b)
-  asked_are tick n b o (Some v) = refl
+  asked_are tick n b o v = λ i. running.supplied_by (λ how. closed_is tick n o how i) (λ b v. record { records = records.Asked n b v ∷ []; sends = letter (message.RepairRequest n b) v ∷ [] }) b v
 
   supplier_is : (n b : ℕ) (o : Opening) → supplier own (poll_as n (settled own.rules o) js) b (contents_of o.au js) ≡ candidate own n o b js
   unfolding supplier was_asked_of candidate
   supplier_is n b o = λ i. find (λ v. not (asked_is n b v js i)) (voters_against (ballot_of own n o (length (contents_of o.au js))) (inner_votes n o.inner js) (contents_of o.au js) b)
 
   tallied_is : (tick n : ℕ) (o : Opening) (v : Verdict) → tallied_as own (poll_as n (settled own.rules o) js) tick (contents_of o.au js) v ≡ tallied own js tick n o v
-  tallied_is tick n o verdict.Inquorate = refl
-  tallied_is tick n o verdict.Agreed = closed_is tick n o outcome.Agreed
-  tallied_is tick n o (verdict.Split b) = closed_is tick n o (outcome.Split b)
-  tallied_is tick n o (verdict.Loss b) = ap (asked_for (poll_as n (settled own.rules o) js) tick b) (supplier_is n b o) ∙ asked_are tick n b o (candidate own n o b js)
+  tallied_is tick n o v =
+      let lost : (b : ℕ) → _ ≡ _ = λ b. ap (asked_for (poll_as n (settled own.rules o) js) tick b) (supplier_is n b o) ∙ asked_are tick n b o (candidate own n o b js) in
+      λ i. running.follows (λ how. closed_is tick n o how i) nothing (λ b. lost b i) v
 
   pub tally_is : (tick n : ℕ) → for_poll (poll_at n s.polls) (tally_in own tick s.copies) ≡ on_tally own js tick n
   unfolding tally_in verdict_of on_tally may_tally is_running verdict_in
@@ -178,7 +176,7 @@ module _ (own : Station) (js : List Record) (s : State) (is : Stands own js s) w
   vote_row from n hashes judged = ap (λ p. for_poll p (vote_in_poll from hashes judged s.copies)) (poll_is own js s is n) ∙ by_opening (is_accepted judged) (opening_of n js) (is_closed n js)
     where
       by_opening : (a : Bool) (o : Option Opening) (c : Bool) → for_poll (running_by own.rules n js o c) (λ p.
-          if_may (a && not p.shut && poll.may_vote (is_invited_to p from) (has_member p.voters from) (length hashes) (length (blocks_at p.opening.au s.copies)))
+          if_may (a && running.may_vote p from (length hashes) (length (blocks_at p.opening.au s.copies)))
           (record { records = records.VoteIn p.number from hashes ∷ []; sends = [] }))
           ≡ cond (a && (is_some o && not c && not (is_shut n js))) (for_opening o (counted js from n hashes)) nothing
       by_opening true None c = refl

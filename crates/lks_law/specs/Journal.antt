@@ -2,22 +2,13 @@
 use Rattle.std.specs.Prelude.{◌≡◌, ℕ, Bool, true, false, ◌==◌, ◌-◌, ◌&&◌, nat_lt, not, if◌then◌else◌, Option, Some, None, is_some, unwrap_or, option_map, option_and_then, List, [], ◌∷◌, ◌++◌, slice_get, slice_set, take, count_by}
 use Rattle.std.specs.List.{list_any, filter_map}
 use Rattle.std.specs.Option.{option_map_or}
-use Rattle.lks_base.specs.declared.names.HashKind.{HashKind}
-use Rattle.lks_base.specs.declared.names.Limits.{Limits}
 use Rattle.lks_base.specs.declared.names.Numbers.{Numbers}
 use Rattle.lks_base.specs.declared.names.Outcome.{Outcome}
 use Rattle.lks_base.specs.declared.names.Outcome.TheVariants.{Agreed, Inquorate, Split, NoSupplier}
 use Rattle.lks_base.specs.declared.records.Record.{Record}
 use Rattle.lks_base.specs.declared.records.Record.TheVariants.{Deposit, PollOpened, Nominated, OuterOpened, VoteIn, Shut, Asked, RepairBad, Replaced, Closed, Overdue, Joined, Committed, Voted, Served, Ended, Tuned}
+pub use Rattle.lks_tally.specs.Running.{Opening, Request}
 use Rattle.lks_tally.specs.declared.ballots.Vote.{Vote}
-
--- what a poll keeps from its opening
-pub record Opening : Type 0 where
-  pub au : ℕ
-  pub nonce : List ℕ
-  pub inner : List ℕ
-  pub limits : Option Limits
-  pub kind : HashKind
 
 -- a block's number and its new bytes
 pub record Replacement : Type 0 where
@@ -30,11 +21,6 @@ pub record Repair : Type 0 where
   pub au : ℕ
   pub block : ℕ
   pub bytes : List ℕ
-
--- the block and the voter of a request for a repair
-pub record Request : Type 0 where
-  pub block : ℕ
-  pub voter : ℕ
 
 -- a voter and whom it nominates
 pub record Named : Type 0 where

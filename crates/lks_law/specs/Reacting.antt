@@ -1,8 +1,7 @@
 -- What a peer in a state adds and sends, one definition for each thing that it does or receives. Each says of the state what
 -- the rule of that name says of the journal.
-use Rattle.std.specs.Prelude.{ℕ, Bool, false, not, ◌&&◌, ◌==◌, ◌+◌, ◌-◌, nat_lt, if◌then◌else◌, Option, Some, None, is_some, unwrap_or, List, [], ◌∷◌, ◌++◌, length, map, filter, find, slice_set}
+use Rattle.std.specs.Prelude.{ℕ, Bool, false, not, ◌&&◌, ◌==◌, ◌+◌, ◌-◌, nat_lt, if◌then◌else◌, Option, Some, None, List, [], ◌∷◌, length, map, slice_set}
 use Rattle.std.specs.List.{list_any, filter_map}
-use Rattle.lks_base.specs.Checking.{has_member}
 use Rattle.lks_base.specs.declared.messages.Message.TheVariants as message
 use Rattle.lks_base.specs.declared.names.Judged.{Judged}
 use Rattle.lks_base.specs.declared.names.Limits.{Limits}
@@ -16,15 +15,15 @@ use Rattle.lks_base.specs.declared.records.Record.TheVariants as records
 use Rattle.lks_draw.specs.Picks.{picked_by}
 use Rattle.lks_draw.specs.Words.{drawn_from}
 use Rattle.lks_hash.specs.Hashes.{nonce_from}
-use Rattle.lks_law.specs.Journal.{Request}
 use Rattle.lks_law.specs.Polls.{Station, limits_of, ballot_of, is_win}
 use Rattle.lks_law.specs.Reaction.{nothing, letter, is_accepted, is_request, given_up, asked_again}
 use Rattle.lks_law.specs.State.{Nomination, Poll, Copy, State, copy_at, blocks_at}
 use Rattle.lks_refs.specs.Circles.{circle_of}
 use Rattle.lks_tally.specs.PollRules as poll
+use Rattle.lks_tally.specs.Running.{may_widen, may_nominate, may_prove, may_vote, may_tally, first_unasked, supplied_by, follows}
+unfoldable pub use Rattle.lks_tally.specs.Running.{is_invited_to, has_nominated_in, silent_in, was_asked_of}
 use Rattle.lks_tally.specs.Counting.{verdict_at, verdict_on, voters_against}
 use Rattle.lks_tally.specs.declared.ballots.Verdict.{Verdict}
-use Rattle.lks_tally.specs.declared.ballots.Verdict.TheVariants as verdict
 
 -- what a poll that runs makes the peer do
 abbrev pub for_poll : Option Poll → (Poll → Reaction) → Reaction
@@ -81,17 +80,13 @@ outer_of_poll own p =
 
 unfoldable pub widen_in : Station → Poll → Reaction
 widen_in own p =
-    if_may (poll.may_widen (not p.shut) (is_some p.outer))
+    if_may (may_widen p)
     (record {
       records = records.OuterOpened p.number (outer_of_poll own p) ∷ [];
       sends = map (letter (message.Poll p.number p.opening.au)) (outer_of_poll own p);
     })
 
 -- A reminder: whoever hasn't voted is invited again while votes are open, else the request is sent again.
-
--- the invited peers that haven't voted
-unfoldable pub silent_in : Poll → List ℕ
-silent_in p = filter (λ v. not (has_member p.voters v)) (p.opening.inner ++ unwrap_or p.outer [])
 
 unfoldable pub nudge_in : Poll → Reaction
 nudge_in p =
@@ -126,10 +121,13 @@ shut_in own tick p = if_may (not p.shut) (shut_once own p tick)
 unfoldable pub closed_as : Poll → ℕ → Outcome → Reaction
 closed_as p tick how = record { records = records.Closed p.number how tick ∷ []; sends = receipts_of p }
 
--- this voter is asked for block b, or the poll ends where there is none
+-- a voter is asked for block b
+abbrev pub asked_of : Poll → ℕ → ℕ → Reaction
+asked_of p b v = record { records = records.Asked p.number b v ∷ []; sends = letter (message.RepairRequest p.number b) v ∷ [] }
+
+-- this voter, or the poll ends where there is none
 abbrev pub asked_for : Poll → ℕ → ℕ → Option ℕ → Reaction
-asked_for p tick b None = closed_as p tick (outcome.NoSupplier b)
-asked_for p tick b (Some v) = record { records = records.Asked p.number b v ∷ []; sends = letter (message.RepairRequest p.number b) v ∷ [] }
+asked_for p tick b voter = supplied_by (closed_as p tick) (asked_of p) b voter
 
 -- the verdict of the inner votes on these blocks
 unfoldable pub verdict_of : Station → Poll → List (List ℕ) → Verdict
@@ -137,25 +135,20 @@ verdict_of own p blocks =
     let limits = limits_of own.rules p.opening in
     verdict_on limits.quorum limits.minority (ballot_of own p.number p.opening (length blocks)) p.inner_votes blocks
 
--- whether the voter was asked for block b
-unfoldable pub was_asked_of : Poll → ℕ → ℕ → Bool
-was_asked_of p b v = list_any (λ (r : Request). r.block == b && r.voter == v) p.asked
-
 -- the first of the inner voters against these blocks at b that wasn't asked for it yet
 unfoldable pub supplier : Station → Poll → ℕ → List (List ℕ) → Option ℕ
-supplier own p b blocks = find (λ v. not (was_asked_of p b v)) (voters_against (ballot_of own p.number p.opening (length blocks)) p.inner_votes blocks b)
+supplier own p b blocks = first_unasked p b (voters_against (ballot_of own p.number p.opening (length blocks)) p.inner_votes blocks b)
 
 -- what follows from a verdict
 abbrev pub tallied_as : Station → Poll → ℕ → List (List ℕ) → Verdict → Reaction
-tallied_as own p tick blocks verdict.Inquorate = nothing
-tallied_as own p tick blocks verdict.Agreed = closed_as p tick outcome.Agreed
-tallied_as own p tick blocks (verdict.Split b) = closed_as p tick (outcome.Split b)
-tallied_as own p tick blocks (verdict.Loss b) = asked_for p tick b (supplier own p b blocks)
+tallied_as own p tick blocks v = follows (closed_as p tick) nothing (λ b. asked_for p tick b (supplier own p b blocks)) v
+
+-- over these blocks
+abbrev pub tally_over : Station → ℕ → List (List ℕ) → Poll → Reaction
+tally_over own tick blocks p = if_may (may_tally p) (tallied_as own p tick blocks (verdict_of own p blocks))
 
 unfoldable pub tally_in : Station → ℕ → List Copy → Poll → Reaction
-tally_in own tick copies p =
-    let blocks = blocks_at p.opening.au copies in
-    if_may (p.shut && not (is_some p.request)) (tallied_as own p tick blocks (verdict_of own p blocks))
+tally_in own tick copies p = tally_over own tick (blocks_at p.opening.au copies) p
 
 -- AUs that are held and overdue are noted.
 
@@ -173,27 +166,19 @@ check_in own copies tick = record { records = filter_map (overdue_of own copies 
 
 -- Messages: a challenge is answered by the proof of effort, a nomination and a vote are taken, and a repair is tried.
 
--- whether the peer was invited to the poll
-unfoldable pub is_invited_to : Poll → ℕ → Bool
-is_invited_to p v = poll.is_invited p.opening.inner (unwrap_or p.outer []) v
-
 unfoldable pub challenge_in : Station → ℕ → Bool → Poll → Reaction
 challenge_in own from agrees p =
-    if_may (agrees && not p.shut && is_invited_to p from && not (has_member p.voters from))
+    if_may (agrees && may_prove p from)
     (record { records = []; sends = letter (message.PollProof p.number p.opening.nonce p.opening.kind own.proof) from ∷ [] })
-
--- whether the voter nominated already
-unfoldable pub has_nominated_in : Poll → ℕ → Bool
-has_nominated_in p v = list_any (λ (n : Nomination). n.voter == v) p.nominations
 
 unfoldable pub nominate_in : ℕ → List ℕ → Poll → Reaction
 nominate_in from nominees p =
-    if_may (poll.may_widen (not p.shut) (is_some p.outer) && poll.may_nominate (has_member p.opening.inner from) (has_nominated_in p from))
+    if_may (may_nominate p from)
     (record { records = records.Nominated p.number from nominees ∷ []; sends = [] })
 
 unfoldable pub vote_in_poll : ℕ → List (List ℕ) → Judged → List Copy → Poll → Reaction
 vote_in_poll from hashes judged copies p =
-    if_may (is_accepted judged && not p.shut && poll.may_vote (is_invited_to p from) (has_member p.voters from) (length hashes) (length (blocks_at p.opening.au copies)))
+    if_may (is_accepted judged && may_vote p from (length hashes) (length (blocks_at p.opening.au copies)))
     (record { records = records.VoteIn p.number from hashes ∷ []; sends = [] })
 
 -- whether the inner votes are for these blocks at b once they have these bytes there
@@ -202,9 +187,13 @@ said_of own p b bytes blocks =
     let after = slice_set blocks b bytes in
     is_win (verdict_at (limits_of own.rules p.opening).minority (ballot_of own p.number p.opening (length after)) p.inner_votes after b)
 
-unfoldable pub repair_in : Station → ℕ → ℕ → List ℕ → List Copy → Poll → Reaction
-repair_in own from b bytes copies p =
+-- a block that comes is taken or passed over, where it answers the request
+abbrev pub repair_over : Station → ℕ → ℕ → List ℕ → List (List ℕ) → Poll → Reaction
+repair_over own from b bytes blocks p =
     if_may (is_request b from p.request)
-    (if said_of own p b bytes (blocks_at p.opening.au copies)
+    (if said_of own p b bytes blocks
     then record { records = records.Replaced p.number p.opening.au b bytes ∷ []; sends = [] }
     else record { records = records.RepairBad p.number b from ∷ []; sends = [] })
+
+unfoldable pub repair_in : Station → ℕ → ℕ → List ℕ → List Copy → Poll → Reaction
+repair_in own from b bytes copies p = repair_over own from b bytes (blocks_at p.opening.au copies) p

@@ -1,6 +1,6 @@
 -- What a peer adds to its journal and sends as a poller, one definition for each thing that it does or receives. Where a
 -- condition doesn't hold, nothing is added and nothing sent.
-use Rattle.std.specs.Prelude.{ℕ, Bool, true, false, not, ◌&&◌, ◌==◌, ◌+◌, nat_lt, if◌then◌else◌, Option, Some, None, is_some, List, [], ◌∷◌, ◌++◌, length, map, filter, count_by}
+use Rattle.std.specs.Prelude.{ℕ, Bool, true, false, not, ◌&&◌, ◌+◌, nat_lt, if◌then◌else◌, Option, Some, None, is_some, List, [], ◌∷◌, ◌++◌, length, map, filter, count_by}
 use Rattle.std.specs.List.{list_any, filter_map}
 use Rattle.lks_base.specs.Checking.{has_member}
 use Rattle.lks_base.specs.declared.messages.Message.{Message}
@@ -20,8 +20,9 @@ use Rattle.lks_law.specs.Polls.{Station, limits_in_force, limits_of, votes, inne
 use Rattle.lks_law.specs.References.{inner_circle, outer_circle}
 use Rattle.lks_message.specs.Spelling.{spelling}
 use Rattle.lks_tally.specs.PollRules as poll
+use Rattle.lks_tally.specs.Running.{supplied_by, follows}
+pub use Rattle.lks_tally.specs.Running.{is_request}
 use Rattle.lks_tally.specs.declared.ballots.Verdict.{Verdict}
-use Rattle.lks_tally.specs.declared.ballots.Verdict.TheVariants as verdict
 
 abbrev pub nothing : Reaction
 nothing = record { records = []; sends = [] }
@@ -124,15 +125,11 @@ unfoldable pub closed : List Record → ℕ → ℕ → Outcome → Reaction
 closed journal tick n how = record { records = records.Closed n how tick ∷ []; sends = receipts n journal }
 
 abbrev pub asked : List Record → ℕ → ℕ → ℕ → Option ℕ → Reaction
-asked journal tick n b None = closed journal tick n (outcome.NoSupplier b)
-asked journal tick n b (Some v) =
-    record { records = records.Asked n b v ∷ []; sends = letter (message.RepairRequest n b) v ∷ [] }
+asked journal tick n b voter =
+    supplied_by (closed journal tick n) (λ b v. record { records = records.Asked n b v ∷ []; sends = letter (message.RepairRequest n b) v ∷ [] }) b voter
 
 abbrev pub tallied : Station → List Record → ℕ → ℕ → Opening → Verdict → Reaction
-tallied own journal tick n opening verdict.Inquorate = nothing
-tallied own journal tick n opening verdict.Agreed = closed journal tick n outcome.Agreed
-tallied own journal tick n opening (verdict.Split b) = closed journal tick n (outcome.Split b)
-tallied own journal tick n opening (verdict.Loss b) = asked journal tick n b (candidate own n opening b journal)
+tallied own journal tick n opening v = follows (closed journal tick n) nothing (λ b. asked journal tick n b (candidate own n opening b journal)) v
 
 unfoldable pub on_tally : Station → List Record → ℕ → ℕ → Reaction
 on_tally own journal tick n =
@@ -202,10 +199,6 @@ on_vote journal from n hashes judged =
 
 -- A repair answers the request that its poll waits for. It is taken where a landslide of the votes is for the copy with
 -- the new block in place, whoever sent it; else it is passed over, and the poll waits no more.
-
-abbrev pub is_request : ℕ → ℕ → Option Request → Bool
-is_request b v None = false
-is_request b v (Some r) = r.block == b && r.voter == v
 
 unfoldable pub may_repair : List Record → ℕ → ℕ → ℕ → Bool
 may_repair journal from n b = is_request b from (unanswered n journal)

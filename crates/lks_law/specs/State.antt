@@ -1,37 +1,18 @@
 -- The state of a peer: all that its journal says to it, and what one record more makes of that.
-use Rattle.std.specs.Prelude.{ℕ, Bool, true, false, ◌==◌, ◌+◌, ◌-◌, if◌then◌else◌, Option, Some, None, is_some, List, [], ◌∷◌, ◌++◌, slice_set, length, find}
-use Rattle.lks_base.specs.Checking.{has_member}
+use Rattle.std.specs.Prelude.{ℕ, true, false, ◌==◌, ◌+◌, ◌-◌, if◌then◌else◌, Option, Some, None, is_some, List, [], ◌∷◌, ◌++◌, slice_set, length, find}
 use Rattle.lks_base.specs.declared.names.Numbers.{Numbers}
 use Rattle.lks_base.specs.declared.names.Outcome.TheVariants.{Agreed, Inquorate, Split, NoSupplier}
 use Rattle.lks_base.specs.declared.plans.Rules.{Rules}
 use Rattle.lks_base.specs.declared.records.Record.{Record}
 use Rattle.lks_base.specs.declared.records.Record.TheVariants.{Deposit, PollOpened, Nominated, OuterOpened, VoteIn, Shut, Asked, RepairBad, Replaced, Closed, Overdue, Joined, Committed, Voted, Served, Ended, Tuned}
-use Rattle.lks_law.specs.Journal.{Opening, Request, Audit, is_opening, agreed_in, numbers_after, later}
+use Rattle.lks_law.specs.Journal.{Opening, Audit, is_opening, agreed_in, numbers_after, later}
 use Rattle.lks_law.specs.Polls.{Station, limits_of, ballot_of}
 use Rattle.lks_law.specs.References.{picked_friends}
 use Rattle.lks_law.specs.Firsts.{changed_first, without_first}
 use Rattle.lks_law.specs.Taking.{Voter, newcomer, voter_after}
 use Rattle.lks_refs.specs.Lists.{list_after}
 use Rattle.lks_tally.specs.Counting.{voters_for, voters_against}
-use Rattle.lks_tally.specs.declared.ballots.Vote.{Vote}
-
--- whom a voter nominated
-pub record Nomination : Type 0 where
-  pub voter : ℕ
-  pub nominees : List ℕ
-
--- a poll that runs
-pub record Poll : Type 0 where
-  pub number : ℕ
-  pub opening : Opening
-  pub nominations : List Nomination
-  pub outer : Option (List ℕ)  -- the outer circle, once it is invited
-  pub inner_votes : List Vote
-  pub outer_votes : List Vote
-  pub voters : List ℕ  -- of both circles, in order of their votes
-  pub shut : Bool
-  pub asked : List Request
-  pub request : Option Request  -- the one that is unanswered
+pub use Rattle.lks_tally.specs.Running.{Nomination, Poll, begun, nominated_by, first_circle, widened_to, voted_by, shut_now, asking, answered}
 
 -- an AU that is held
 pub record Copy : Type 0 where
@@ -55,54 +36,6 @@ pub record State : Type 0 where
 -- the opening with the numbers of its poll, which may be the rules'
 abbrev pub settled : Rules → Opening → Opening
 settled rules o = record o { limits = Some (limits_of rules o) }
-
--- a poll that was opened just now
-abbrev pub begun : ℕ → Opening → Poll
-begun n opening =
-    record {
-      number = n;
-      opening = opening;
-      nominations = [];
-      outer = None;
-      inner_votes = [];
-      outer_votes = [];
-      voters = [];
-      shut = false;
-      asked = [];
-      request = None;
-    }
-
--- a voter nominated these
-abbrev pub nominated_by : ℕ → List ℕ → Poll → Poll
-nominated_by voter nominees p = record p { nominations = p.nominations ++ record { voter = voter; nominees = nominees } ∷ [] }
-
--- the circle that was invited first stays
-abbrev pub first_circle : Option (List ℕ) → List ℕ → Option (List ℕ)
-first_circle None outer = Some outer
-first_circle (Some before) outer = Some before
-
--- the outer circle is invited
-abbrev pub widened_to : List ℕ → Poll → Poll
-widened_to outer p = record p { outer = first_circle p.outer outer }
-
--- a vote came, of the inner circle or of the outer one
-abbrev pub voted_by : Vote → Poll → Poll
-voted_by v p =
-    if has_member p.opening.inner v.voter
-    then record p { inner_votes = p.inner_votes ++ v ∷ []; voters = p.voters ++ v.voter ∷ [] }
-    else record p { outer_votes = p.outer_votes ++ v ∷ []; voters = p.voters ++ v.voter ∷ [] }
-
--- voting ended
-abbrev pub shut_now : Poll → Poll
-shut_now p = record p { shut = true }
-
--- a voter was asked for a block
-abbrev pub asking : Request → Poll → Poll
-asking r p = record p { asked = p.asked ++ r ∷ []; request = Some r }
-
--- the request was answered, or given up
-abbrev pub answered : Poll → Poll
-answered p = record p { request = None }
 
 -- the running poll of this number
 abbrev pub poll_at : ℕ → List Poll → Option Poll

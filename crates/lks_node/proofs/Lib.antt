@@ -1,5 +1,6 @@
 mod Again
 mod Beginnings
+mod Completing
 mod FrameLaws
 mod HowFar
 mod Moving

@@ -1,6 +1,7 @@
 pub mod Again
 pub mod Being
 pub mod Codes
+pub mod Complete
 pub mod Ending
 pub mod Framing
 pub mod Going

@@ -4,6 +4,7 @@ ghost use Rattle.std.specs.Prelude.{◌≡◌, ◌≤◌, [], false, None, Some,
 ghost use Rattle.lks_base.specs.Checking.{plan_fault};
 ghost use Rattle.lks_base.specs.declared.plans.PeerPlan.{PeerPlan as Planned};
 ghost use Rattle.lks_law.specs.World.{honest_peer};
+ghost use Rattle.lks_node.specs.Complete.{Completes, HasWork};
 ghost use Rattle.lks_node.specs.Promise.{ComesOver, HasEnded, IsScripted, IsUnscripted, Promise, Serves};
 ghost use Rattle.lks_outside.specs.Counts.{Rose};
 
@@ -129,6 +130,10 @@ pub fn node<R: Wait, S: Source, K: Sink, O: Opener, J: EffortJudge>(
     ensures write { result.0 ≡ NodeStatus.WriteFault → Rose (K.faults sink.old) (K.faults sink.new) }
     ensures open { result.0 ≡ NodeStatus.OpenFault → Rose (O.faults opener.old) (O.faults opener.new) }
     ensures disk { result.0 ≡ NodeStatus.DiskFault → IfSome result.1 (λ store. Rose (O.store_faults opener.old) (O.Store.face.faults store)) }
+    // With work to do, and where no fault is counted, all of it is done, or memory is wanting.
+    ensures complete { HasWork (J.verdict judge.old) (record { tells = O.tells opener.old; content = O.content opener.old; faults = O.store_faults opener.old }) (map string_bytes words.now) (S.left source.old)
+        → IfSome result.1 O.Store.face.told → (Rose (S.faults source.old) (S.faults source.new) → ⊥) → (Rose (K.faults sink.old) (K.faults sink.new) → ⊥) → (Rose (O.faults opener.old) (O.faults opener.new) → ⊥)
+        → IfSome result.1 (λ store. Rose (O.store_faults opener.old) (O.Store.face.faults store) → ⊥) → Completes result.0 }
     ensures source_count { S.faults source.old ≤ S.faults source.new }
     ensures sink_count { K.faults sink.old ≤ K.faults sink.new }
     ensures opener_count { O.faults opener.old ≤ O.faults opener.new }

@@ -2,7 +2,8 @@
 use Rattle.std.specs.Prelude.{◌≡◌, ◌≢◌, ◌==◌, ◌&&◌, ◌++◌, ℕ, Bool, false, not, if◌then◌else◌, Option, Some, None, is_some, List, [], map}
 use Rattle.std.specs.List.{filter_map}
 use Rattle.lks_audit.specs.Kept.{Kept, kept_at}
-use Rattle.lks_audit.specs.Tallying.{IsTallyIn, is_ready, tag_ready}
+use Rattle.lks_audit.specs.Tallying.{IsTallyIn, tag_ready}
+use Rattle.lks_tally.specs.Running.{may_tally}
 use Rattle.lks_versions.specs.declared.places.Place.{Place}
 use Rattle.lks_audit.specs.declared.copies.Held.{Held}
 use Rattle.lks_base.specs.declared.reactions.Input.{Input}
@@ -41,7 +42,7 @@ StaysTold old new = old ≢ [] → new ≡ old
 -- whether the votes of a poll may be counted, if it runs
 abbrev pub is_poll_ready : Option Poll → Bool
 is_poll_ready None = false
-is_poll_ready (Some p) = is_ready p
+is_poll_ready (Some p) = may_tally p
 
 -- whether this peer is ready for the work of this name
 abbrev pub is_ready_for : Station → State → JobName → Bool

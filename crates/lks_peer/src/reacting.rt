@@ -66,7 +66,7 @@ fn hear(
             )
         }
         Message::Vote { number, hashes, .. } => {
-            vote(alloc, polls, copies, *number, from, hashes, judged)
+            vote(alloc, polls, *number, from, hashes, judged)
         }
         Message::Repair {
             number,

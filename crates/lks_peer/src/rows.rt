@@ -1,15 +1,14 @@
 //! What a peer adds and sends in one of its polls, if it runs.
 
-ghost use Rattle.std.specs.Prelude.{◌≡◌, ◌≤◌, IfOk, length};
+ghost use Rattle.std.specs.Prelude.{◌≡◌, ◌≤◌, ℕ, List, All, IfOk, length};
 ghost use Rattle.lks_base.specs.declared.limits.TheConstants.{MOST_PROOF_BYTES};
 ghost use Rattle.lks_law.specs.Reacting.{for_poll, widen_in, shut_in, nudge_in, give_up_in, challenge_in, nominate_in, vote_in_poll};
-ghost use Rattle.lks_law.specs.State.{poll_at};
-ghost use Rattle.lks_audit.specs.Copied.{copies_of};
-ghost use Rattle.lks_audit.specs.Seen.{polls_of};
+ghost use Rattle.lks_law.specs.State.{Copy, poll_at};
+ghost use Rattle.lks_audit.specs.Seen.{polls_of, IsOn};
 ghost use Rattle.lks_peer.specs.Knows.{AsksSmall};
 
 use lks_audit::reactions::no_reaction;
-use lks_audit::{Held, Station, find_poll, reminders, voting};
+use lks_audit::{Station, find_poll, reminders, voting};
 use lks_base::{Hashes, Ids, Judged, OutOfMemory, PeerId, Reaction};
 use lks_poller::PollSession;
 use std::alloc::Global;
@@ -105,16 +104,16 @@ pub fn nominate(
 pub fn vote(
     alloc: Global,
     polls: &[PollSession],
-    copies: &[Held],
     number: u32,
     from: PeerId,
     hashes: &Hashes,
     judged: Judged,
 ) -> Result<Reaction, OutOfMemory>
-    ensures { IfOk result (λ r. r ≡ for_poll (poll_at number (polls_of polls.now)) (vote_in_poll from hashes.now judged (copies_of copies.now))) }
+    ensures { (id : ℕ) (copies : List Copy) → All (IsOn id copies) polls.now
+        → IfOk result (λ r. r ≡ for_poll (poll_at number (polls_of polls.now)) (vote_in_poll from hashes.now judged copies)) }
 {
     match find_poll(polls, number) {
-        Some(poll) => voting::vote(alloc, poll, copies, from, hashes, judged),
+        Some(poll) => voting::vote(alloc, poll, from, hashes, judged),
         None => Ok(no_reaction(alloc)),
     }
 }

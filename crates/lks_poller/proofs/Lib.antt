@@ -1,3 +1,4 @@
 pub mod Laws
 pub mod Members
+pub mod Running
 pub mod Soundness

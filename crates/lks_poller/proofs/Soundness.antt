@@ -10,46 +10,27 @@ use Rattle.lks_tally.specs.Distinct.{AreDistinct}
 use Rattle.lks_tally.specs.Keeping as keeping
 use Rattle.lks_tally.specs.Keeping.{Tallied, IsReserved, IsSame}
 use Rattle.lks_tally.specs.declared.ballots.Ballot.{Ballot}
-use Rattle.lks_tally.specs.PollRules as poll
+use Rattle.lks_tally.specs.Running.{Poll, is_invited_to, may_vote}
 use Rattle.lks_poller.specs.Polling.{Polled, voted_inner, voted_outer}
-use Rattle.lks_poller.specs.Rules.{is_voting, is_invited, has_voted, may_vote, names}
 use Rattle.lks_poller.specs.Sound.{IsSound}
 use Rattle.lks_poller.proofs.Members.{distinct_more, voted_more, member_more, votes_more}
 
 -- The parts of the rules.
 
-pub voting_parts : (s : Polled) → is_voting s ≡ true → (s.closed ≡ false) × (s.shut ≡ false)
-unfolding is_voting
-voting_parts s h =
-    let parts : (not s.closed ≡ true) × (not s.shut ≡ true) = and_parts (not s.closed) (not s.shut) h in
-    (not-true s.closed parts.0, not-true s.shut parts.1)
-
 -- a peer that hasn't voted has a vote in neither list
-pub unvoted_parts : (s : Polled) → IsSound s → (v : ℕ) → has_voted s v ≡ false
+pub unvoted_parts : (s : Polled) → IsSound s → (v : ℕ) → has_member s.voters v ≡ false
     → (keeping.has_voted s.tally.votes v ≡ false) × (keeping.has_voted s.outer_votes v ≡ false)
-unfolding has_voted
 unvoted_parts s sound v new = or_parts (keeping.has_voted s.tally.votes v) (keeping.has_voted s.outer_votes v) (sym (sound.noted v) ∙ new)
 
 -- a vote that may be taken is its peer's first, with a hash for each block
-pub vote_new : (s : Polled) (from hashes : ℕ) → may_vote s from hashes ≡ true → has_voted s from ≡ false
-unfolding may_vote
-vote_new s from hashes h =
-    let open_to = and_parts (is_voting s) (poll.may_vote (is_invited s from) (has_voted s from) hashes s.tally.ballot.count) h in
-    let whole = and_parts (is_invited s from && not (has_voted s from)) (hashes == s.tally.ballot.count) open_to.1 in
-    not-true (has_voted s from) (and_parts (is_invited s from) (not (has_voted s from)) whole.0).1
+pub vote_new : (p : Poll) (from hashes count : ℕ) → may_vote p from hashes count ≡ true → has_member p.voters from ≡ false
+vote_new p from hashes count h =
+    let whole = and_parts (is_invited_to p from && not (has_member p.voters from)) (hashes == count) (and_parts (not p.shut) _ h).1 in
+    not-true (has_member p.voters from) (and_parts (is_invited_to p from) (not (has_member p.voters from)) whole.0).1
 
-pub vote_whole : (s : Polled) (from hashes : ℕ) → may_vote s from hashes ≡ true → hashes ≡ s.tally.ballot.count
-unfolding may_vote
-vote_whole s from hashes h =
-    let open_to = and_parts (is_voting s) (poll.may_vote (is_invited s from) (has_voted s from) hashes s.tally.ballot.count) h in
-    let whole = and_parts (is_invited s from && not (has_voted s from)) (hashes == s.tally.ballot.count) open_to.1 in
-    eqb-true hashes s.tally.ballot.count whole.1
-
-pub is_named : (request : Option (ℕ × ℕ)) (b voter : ℕ) → names request b voter ≡ true → request ≡ Some (b, voter)
-is_named None b voter h = absurd cc
-is_named (Some r) b voter h =
-    let parts = and_parts (r.0 == b) (r.1 == voter) h in
-    λ i. Some (eqb-true r.0 b parts.0 i, eqb-true r.1 voter parts.1 i)
+pub vote_whole : (p : Poll) (from hashes count : ℕ) → may_vote p from hashes count ≡ true → hashes ≡ count
+vote_whole p from hashes count h =
+    eqb-true hashes count (and_parts (is_invited_to p from && not (has_member p.voters from)) (hashes == count) (and_parts (not p.shut) _ h).1).1
 
 -- An inner circle casts at most one vote a member.
 
@@ -117,7 +98,7 @@ grouped : (a o x : Bool) → (a || o) || x ≡ a || (o || x)
 grouped true o x = refl
 grouped false o x = refl
 
-pub sound_inner : (s : Polled) (v : Vote) → IsSound s → has_voted s v.voter ≡ false → has_member s.inner v.voter ≡ true → IsSound (voted_inner s v)
+pub sound_inner : (s : Polled) (v : Vote) → IsSound s → has_member s.voters v.voter ≡ false → has_member s.inner v.voter ≡ true → IsSound (voted_inner s v)
 sound_inner s v sound unvoted member = record {
   few = sound.few;
   reserved = sound.reserved;
@@ -137,7 +118,7 @@ sound_inner s v sound unvoted member = record {
   of_either w (inl before) = sound.of_inner w before
   of_either w (inr here) = subst (λ x. has_member s.inner x ≡ true) here member
 
-pub sound_outer : (s : Polled) (v : Vote) → IsSound s → has_voted s v.voter ≡ false → has_member s.inner v.voter ≡ false → IsSound (voted_outer s v)
+pub sound_outer : (s : Polled) (v : Vote) → IsSound s → has_member s.voters v.voter ≡ false → has_member s.inner v.voter ≡ false → IsSound (voted_outer s v)
 sound_outer s v sound unvoted member = record {
   few = sound.few;
   reserved = sound.reserved;
@@ -158,7 +139,7 @@ sound_outer s v sound unvoted member = record {
   of_either w (inr here) = subst (λ x. has_member s.inner x ≡ false) here member
 
 -- while an inner peer hasn't voted there is room for its vote
-pub place_left : (s : Polled) (v : Vote) → IsSound s → has_voted s v.voter ≡ false → has_member s.inner v.voter ≡ true
+pub place_left : (s : Polled) (v : Vote) → IsSound s → has_member s.voters v.voter ≡ false → has_member s.inner v.voter ≡ true
     → length s.tally.votes < s.tally.vote_room
 place_left s v sound unvoted member =
     let few = few_votes (voted_inner s v) (sound_inner s v sound unvoted member) in

@@ -1,5 +1,5 @@
 -- What contracts see of a poll that its poller runs, and what each call leaves of it.
-use Rattle.std.specs.Prelude.{ℕ, Bool, true, false, if◌then◌else◌, Option, Some, None, List, [], ◌∷◌, ◌++◌, length}
+use Rattle.std.specs.Prelude.{ℕ, Bool, true, false, if◌then◌else◌, Option, None, List, [], ◌∷◌, ◌++◌, length}
 use Rattle.lks_base.specs.Checking.{has_member}
 use Rattle.lks_base.specs.declared.names.Limits.{Limits}
 use Rattle.lks_repair.specs.Asking.{Asked}
@@ -8,6 +8,7 @@ use Rattle.lks_tally.specs.declared.ballots.Vote.{Vote}
 use Rattle.lks_tally.specs.Keeping as keeping
 use Rattle.lks_tally.specs.Keeping.{Tallied, forgotten}
 use Rattle.lks_tally.specs.PollRules as poll
+use Rattle.lks_tally.specs.Running.{first_circle}
 use Rattle.lks_poller.specs.declared.stages.Answer.{Answer}
 use Rattle.lks_poller.specs.declared.stages.Answer.TheVariants.{Replace, Bad, NotAsked}
 use Rattle.lks_poller.specs.declared.stages.Next.{Next}
@@ -46,11 +47,6 @@ begun ballot limits inner room vote_room =
 -- one nomination more
 abbrev pub nominated : Polled → ℕ → List ℕ → Polled
 nominated s from list = record s { nominations = s.nominations ++ record { voter = from; nominees = list } ∷ [] }
-
--- the circle that was invited first stays
-abbrev pub first_circle : Option (List ℕ) → List ℕ → Option (List ℕ)
-first_circle None outer = Some outer
-first_circle (Some before) outer = Some before
 
 -- the outer circle is invited
 abbrev pub widened : Polled → List ℕ → Polled

@@ -1,17 +1,21 @@
 //! The state of a poll.
 
-ghost use Rattle.std.specs.Prelude.{◌≡◌, ◌<◌, ◌≤◌, ◌↔◌, IsTrue, ℕ, List, [], true, false, length, unwrap_or, option_copied, if◌then◌else◌, IfOk, OnOk, OnErr, IsNone};
+ghost use Rattle.std.specs.Prelude.{◌≡◌, ◌==◌, not, ◌<◌, ◌≤◌, ◌↔◌, IsTrue, ℕ, List, [], true, false, length, unwrap_or, option_copied, if◌then◌else◌, IfOk, OnOk, OnErr, IsNone};
+ghost use Rattle.std.specs.List.{list_any};
 ghost use Rattle.lks_base.specs.Checking.{has_member as is_member};
 ghost use Rattle.lks_base.specs.declared.limits.TheConstants.{MOST_CIRCLE};
 ghost use Rattle.lks_base.specs.declared.names.Limits.{Limits as LimitsOf};
 ghost use Rattle.lks_repair.specs.Asking.{awaited};
 ghost use Rattle.lks_tally.specs.Counting.{verdict_on, voters_against};
 ghost use Rattle.lks_tally.specs.declared.ballots.Ballot.{Ballot as BallotOf};
+ghost use Rattle.lks_tally.specs.Running.{has_nominated_in, is_invited_to, is_request, may_nominate, may_prove, may_tally, may_vote, may_widen, supplied_by};
 ghost use Rattle.lks_tally.specs.Keeping.{IsCacheOf, IsReserved, IsSame, forgotten, kept_after, roomed_as};
 ghost use Rattle.lks_poller.specs.Polling as polling;
 ghost use Rattle.lks_poller.specs.Polling.{begun, nominated, widened, voted, shut_now, ended, moved, released, replaced, answered};
 ghost use Rattle.lks_poller.specs.Rules as rules_of;
-ghost use Rattle.lks_poller.specs.Rules.{stage_of, may_widen, may_nominate, may_vote, next_of, AsksWithin, IsAt, IsKept, answer_of};
+ghost use Rattle.lks_poller.specs.Rules.{stage_of, next_of, AsksWithin, IsAt, IsKept, answer_of};
+ghost use Rattle.lks_poller.specs.Running.{poll_of};
+ghost use Rattle.lks_poller.specs.declared.stages.Next.TheVariants as next_is;
 ghost use Rattle.lks_poller.specs.Sound.{IsSound};
 
 use crate::counts;
@@ -94,7 +98,6 @@ impl PollSession {
     }
 
     /// How far the poll is.
-    #[tactic(auto, unfolding(crate::specs::Rules::is_voting))]
     pub fn stage(&self) -> Stage
         ensures stage { result ≡ stage_of self.now }
         ensures flags { IsAt self.now result }
@@ -246,56 +249,60 @@ impl PollSession {
         self.tally.votes().len() < self.tally.limits().quorum as usize
     }
 
-    #[tactic(auto, unfolding(crate::specs::Rules::is_voting))]
-    fn is_voting(&self) -> bool
-        ensures { result ≡ rules_of.is_voting self.now }
-    {
-        !self.closed && !self.shut
-    }
-
     /// Whether the outer circle may be invited: once, while votes are open.
-    #[tactic(auto, unfolding(crate::specs::Rules::may_widen))]
     pub fn may_widen(&self) -> bool
-        ensures { result ≡ rules_of.may_widen self.now }
+        ensures { result ≡ may_widen (poll_of self.now) }
     {
-        self.is_voting() && self.outer.is_none()
+        !self.shut && self.outer.is_none()
     }
 
     /// Whether this peer may nominate: an inner one, once, until the outer circle is invited.
-    #[tactic(auto, unfolding(crate::specs::Rules::may_nominate))]
     pub fn may_nominate(&self, from: PeerId) -> bool
-        ensures { result ≡ rules_of.may_nominate self.now from }
+        ensures { result ≡ may_nominate (poll_of self.now) from }
     {
-        self.may_widen()
-            && has_member(self.inner.as_slice(), from)
-            && !has_nominated(&self.nominations, from)
+        self.may_widen() && has_member(self.inner.as_slice(), from) && !self.has_nominated(from)
+    }
+
+    fn has_nominated(&self, from: PeerId) -> bool
+        ensures { result ≡ has_nominated_in (poll_of self.now) from }
+    {
+        names(self.nominations(), from)
     }
 
     /// Whether this peer is of one of the circles that are invited.
-    #[tactic(auto, unfolding(crate::specs::Rules::is_invited))]
+    #[tactic(auto, unfolding(lks_tally::specs::Running::is_invited_to))]
     pub fn is_invited(&self, voter: PeerId) -> bool
-        ensures { result ≡ rules_of.is_invited self.now voter }
+        ensures { result ≡ is_invited_to (poll_of self.now) voter }
     {
         has_member(self.inner.as_slice(), voter) || has_outer(&self.outer, voter)
     }
 
     /// Whether this peer voted.
-    #[tactic(auto, unfolding(crate::specs::Rules::has_voted))]
     pub fn has_voted(&self, voter: PeerId) -> bool
-        ensures { result ≡ rules_of.has_voted self.now voter }
+        ensures { result ≡ is_member self.now.voters voter }
     {
         has_member(&self.voters, voter)
     }
 
-    /// Whether this peer may vote with so many hashes: an invited one, once, while votes are open, with one for each block.
-    #[tactic(auto, unfolding(crate::specs::Rules::may_vote))]
-    pub fn may_vote(&self, from: PeerId, hashes: usize) -> bool
-        ensures { result ≡ rules_of.may_vote self.now from hashes }
+    /// Whether this peer may have the proof of effort: an invited one, until its vote is in, while votes are open.
+    pub fn may_prove(&self, from: PeerId) -> bool
+        ensures { result ≡ may_prove (poll_of self.now) from }
     {
-        self.is_voting()
-            && self.is_invited(from)
-            && !self.has_voted(from)
-            && hashes == self.tally.ballot().count as usize
+        !self.shut && self.is_invited(from) && !self.has_voted(from)
+    }
+
+    /// Whether this peer may vote with so many hashes: an invited one, once, while votes are open, with one for each block.
+    pub fn may_vote(&self, from: PeerId, hashes: usize) -> bool
+        ensures { result ≡ may_vote (poll_of self.now) from hashes self.now.tally.ballot.count }
+    {
+        self.may_prove(from) && hashes == self.tally.ballot().count as usize
+    }
+
+    /// Whether the votes may be counted: once voting ended, while nobody is waited for.
+    pub fn may_tally(&self) -> bool
+        ensures { result ≡ may_tally (poll_of self.now) }
+    {
+        self.shut && self.unanswered().is_none()
     }
 
     /// Notes that a peer nominated these.
@@ -318,7 +325,7 @@ impl PollSession {
 
     /// Notes the vote of a peer that hasn't voted: that of an inner one is counted, any other is kept beside.
     pub fn voted(&mut self, voter: PeerId, hashes: Hashes) -> Result<(), OutOfMemory>
-        requires new { rules_of.has_voted self.old voter ≡ false }
+        requires new { is_member self.old.voters voter ≡ false }
         requires whole { length hashes ≡ self.old.tally.ballot.count }
         ensures ok { OnOk result (self.new ≡ voted self.old voter hashes) }
         ensures err { OnErr result (self.new ≡ self.old) }
@@ -382,7 +389,7 @@ impl PollSession {
 
     /// Takes an inner peer's nomination, its first one.
     pub fn nominate(&mut self, from: PeerId, list: Ids) -> Result<bool, OutOfMemory>
-        ensures taken { IfOk result (λ taken. taken ≡ may_nominate self.old from) }
+        ensures taken { IfOk result (λ taken. taken ≡ may_nominate (poll_of self.old) from) }
         ensures after { IfOk result (λ taken. self.new ≡ (if taken then nominated self.old from list else self.old)) }
         ensures err { OnErr result (self.new ≡ self.old) }
     {
@@ -395,7 +402,7 @@ impl PollSession {
 
     /// Invites the outer circle.
     pub fn widen(&mut self, outer: Ids) -> bool
-        ensures taken { result ≡ may_widen self.old }
+        ensures taken { result ≡ may_widen (poll_of self.old) }
         ensures after { self.new ≡ (if result then widened self.old outer else self.old) }
     {
         if !self.may_widen() {
@@ -408,7 +415,7 @@ impl PollSession {
     /// Takes the vote of an invited peer, its first one.
     #[tactic(auto, using(crate::proofs::Soundness::vote_new, crate::proofs::Soundness::vote_whole))]
     pub fn vote(&mut self, from: PeerId, hashes: Hashes) -> Result<bool, OutOfMemory>
-        ensures taken { IfOk result (λ taken. taken ≡ may_vote self.old from (length hashes)) }
+        ensures taken { IfOk result (λ taken. taken ≡ may_vote (poll_of self.old) from (length hashes) self.old.tally.ballot.count) }
         ensures after { IfOk result (λ taken. self.new ≡ (if taken then voted self.old from hashes else self.old)) }
         ensures err { OnErr result (self.new ≡ self.old) }
     {
@@ -421,10 +428,10 @@ impl PollSession {
 
     /// Ends voting. A poll with fewer inner votes than its quorum ends with it, as inquorate.
     pub fn shut(&mut self) -> bool
-        ensures taken { result ≡ rules_of.is_voting self.old }
+        ensures taken { result ≡ not self.old.shut }
         ensures after { self.new ≡ (if result then ended self.old else self.old) }
     {
-        if !self.is_voting() {
+        if self.shut {
             return false;
         }
         self.shut_now();
@@ -501,6 +508,7 @@ impl PollSession {
         self.tally = t;
     }
 
+    #[tactic(auto, using(crate::proofs::Running::supplier_seen))]
     fn find_supplier(&self, block: u16) -> Result<Option<PeerId>, OutOfMemory>
         requires { block < self.now.tally.kept }
         ensures { (blocks : List (List ℕ)) → IsCacheOf self.now.tally blocks
@@ -547,9 +555,8 @@ impl PollSession {
         Ok(next)
     }
 
-    #[tactic(auto, unfolding(crate::specs::Rules::is_asked))]
     fn is_asked(&self, from: PeerId, b: u16) -> bool
-        ensures asked { result ≡ rules_of.is_asked self.now from b }
+        ensures asked { result ≡ is_request b from (poll_of self.now).request }
         ensures within { result ≡ true → b < self.now.tally.ballot.count }
     {
         match self.suppliers.unanswered() {
@@ -605,7 +612,7 @@ impl PollSession {
 
 // A voter is asked for the block, or without one the poll ends.
 fn asking(block: u16, voter: Option<PeerId>) -> Next
-    ensures { result ≡ rules_of.asking block voter }
+    ensures { result ≡ supplied_by next_is.Close next_is.Ask block voter }
 {
     match voter {
         Some(voter) => Next::Ask { block, voter },
@@ -613,9 +620,9 @@ fn asking(block: u16, voter: Option<PeerId>) -> Next
     }
 }
 
-#[tactic(auto, unfolding(crate::specs::Rules::has_nominated))]
-fn has_nominated(nominations: &[Nomination], from: PeerId) -> bool
-    ensures { result ≡ rules_of.has_nominated nominations.now from }
+// Whether one of the nominations is of this peer.
+fn names(nominations: &[Nomination], from: PeerId) -> bool
+    ensures { result ≡ list_any (λ n. n.voter == from) nominations.now }
 {
     nominations.iter().any(|n| n.voter == from)
 }

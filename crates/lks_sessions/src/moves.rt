@@ -11,8 +11,9 @@ ghost use Rattle.lks_sessions.specs.Sendable.{PinsBlocks, MayHave, MayServe};
 use crate::stages::{
     CastSession, JoinedSession, PinnedSession, place_of_cast, place_of_joined, place_of_pinned,
 };
-use lks_base::{HashKind, Hashes, OutOfMemory, PollName, has_member};
+use lks_base::{HashKind, Hashes, OutOfMemory, PollName};
 use lks_blocks::Refs;
+use lks_voter::Serve;
 use std::alloc::Global;
 
 /// Takes the joined session of this poll out, if there is one.
@@ -114,7 +115,7 @@ impl CastSession {
     pub fn may_have(&self, block: u16) -> bool
         ensures { IsTrue result ↔ MayHave block (cast_of self.now) }
     {
-        !has_member(self.voted.served(), block) && self.voted.served().len() < self.repairs as usize
+        matches!(self.voted.answer(block, self.repairs), Serve::First)
     }
 
     /// Notes that it gave a block.

@@ -1,15 +1,14 @@
 -- Which votes are for a copy, and how many.
-use Rattle.std.proofs.Common.{◌≡◌, ℕ, ◌+◌, ◌<◌, true, List, length, take, Option, Some, None, refl, ap, ◌∙◌, arith}
+use Rattle.std.proofs.Common.{◌≡◌, ℕ, ◌+◌, ◌<◌, true, List, length, take, Option, Some, None, refl, ap, ◌∙◌}
 use Rattle.std.specs.List.{slice_get}
 use Rattle.std.specs.Cmp.Lexicographic.{bytes_decides}
 use Rattle.std.proofs.lemmas.Bool.{false≢true}
-use Rattle.std.proofs.lemmas.List.Sums.{count_by-le-length}
 use Rattle.lks_base.specs.Kinds.{is_second}
 use Rattle.lks_hash.specs.Running.{running, hashes_of}
 use Rattle.lks_hash.proofs.RunningLaws.{hash_at as own_hash_at}
 use Rattle.lks_tally.specs.declared.ballots.Ballot.{Ballot}
 use Rattle.lks_tally.specs.declared.ballots.Vote.{Vote}
-use Rattle.lks_tally.specs.Counting.{key_for, hash_at, is_hash, agrees, for_at, against_at}
+use Rattle.lks_tally.specs.Counting.{key_for, hash_at, is_hash, agrees}
 
 -- a hash is there exactly where the test says so
 pub is_hash_own : (hash : List ℕ) → is_hash (Some hash) hash ≡ true
@@ -36,13 +35,3 @@ agrees_same q own blocks b v hashes within same =
     hash_agrees q blocks b v
     (ap (λ hs. slice_get hs b) hashes ∙ own_hash_at (is_second q.kind) (key_for q v.voter) own b within
     ∙ ap (λ bs. Some (running (is_second q.kind) (key_for q v.voter) bs)) same)
-
--- a vote over a copy is for it at each of its blocks
-pub agrees_own : (q : Ballot) (blocks : List (List ℕ)) (b : ℕ) (v : Vote) → v.hashes ≡ hashes_of (is_second q.kind) (key_for q v.voter) blocks
-    → b < length blocks → agrees q blocks b v ≡ true
-agrees_own q blocks b v hashes within = agrees_same q blocks blocks b v hashes within refl
-
--- each vote is for the copy or against it
-pub for_and_against : (q : Ballot) (votes : List Vote) (blocks : List (List ℕ)) (b : ℕ)
-    → for_at q votes blocks b + against_at q votes blocks b ≡ length votes
-for_and_against q votes blocks b = omega (arith, count_by-le-length (agrees q blocks b) votes)

@@ -1,5 +1,5 @@
 -- Which copies a tally's hashes are kept for.
-use Rattle.std.proofs.Common.{◌≡◌, ℕ, zero, suc, ◌+◌, ◌*◌, ◌≤◌, min, List, [], ◌++◌, length, take, refl, ap, sym, ◌∙◌, arith, add-one}
+use Rattle.std.proofs.Common.{◌≡◌, ℕ, zero, suc, ◌+◌, ◌*◌, ◌≤◌, min, List, ◌++◌, length, take, refl, ap, sym, ◌∙◌, arith, add-one}
 use Rattle.std.proofs.lemmas.List.{take-take}
 use Rattle.lks_tally.specs.declared.ballots.Ballot.{Ballot}
 use Rattle.lks_tally.specs.declared.ballots.Vote.{Vote}
@@ -20,17 +20,9 @@ rows_same q votes blocks others (suc n) same =
     let first : take (n + 1) blocks ≡ take (n + 1) others = rw add-one same in
     λ i. fewer i ++ heads q (first i) votes
 
--- a tally that keeps nothing serves for each copy
-pub cache_none : (t : Tallied) (blocks : List (List ℕ)) → t.kept ≡ 0 → t.hashes ≡ [] → IsCacheOf t blocks
-cache_none t blocks nothing no_hashes = no_hashes ∙ ap (rows_of t.ballot blocks t.votes) (sym nothing)
-
 -- so does one that just took a vote
 pub cache_voted : (t : Tallied) (vote : Vote) (blocks : List (List ℕ)) → IsCacheOf (voted t vote) blocks
 cache_voted t vote blocks = refl
-
--- a copy may change behind the blocks that are kept
-pub cache_same : (t : Tallied) (blocks others : List (List ℕ)) → IsCacheOf t blocks → take t.kept blocks ≡ take t.kept others → IsCacheOf t others
-cache_same t blocks others cache same = cache ∙ rows_same t.ballot t.votes blocks others t.kept same
 
 -- after forgetting from block b on, a copy serves that has the same blocks before b
 pub cache_forgotten : (t : Tallied) (b : ℕ) (blocks others : List (List ℕ)) → IsCacheOf t blocks → take b blocks ≡ take b others

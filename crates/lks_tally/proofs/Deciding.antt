@@ -1,6 +1,6 @@
 -- What a verdict says of the blocks.
 use Rattle.std.proofs.Common.{◌≡◌, ℕ, zero, suc, ◌+◌, ◌<◌, ◌≤◌, Bool, true, false, cond, ltb, leb, List, length, inl, inr, refl, ap, subst, sym, ◌∙◌, arith}
-use Rattle.std.proofs.lemmas.Bool.{leb-true, leb-false, ltb-true, ltb-false, lt-ltb, le-ltb, cases_lt}
+use Rattle.std.proofs.lemmas.Bool.{leb-true, leb-false, ltb-true, ltb-false, cases_lt}
 use Rattle.lks_tally.specs.declared.ballots.Ballot.{Ballot}
 use Rattle.lks_tally.specs.declared.ballots.Vote.{Vote}
 use Rattle.lks_tally.specs.declared.ballots.At.{At}
@@ -114,18 +114,6 @@ module _ (minority : ℕ) (q : Ballot) (votes : List Vote) (blocks : List (List 
         by_few true few is = ltb-true (length votes) quorum few
         by_few false few is = absurd (subst (λ v. Found v 0 (length blocks)) is (found (length blocks) 0))
 
-    pub few_inquorate : length votes < quorum → verdict_on quorum minority q votes blocks ≡ Inquorate
-    unfolding verdict_on
-    few_inquorate few = ap (λ t. cond t Inquorate (first_from minority q votes blocks 0 (length blocks))) (lt-ltb (length votes) quorum few)
-
-    -- an agreed poll has its quorum, and each block is a win
-    pub agreed_wins : verdict_on quorum minority q votes blocks ≡ Agreed
-        → (quorum ≤ length votes) × ((k : ℕ) → k < length blocks → verdict_at minority q votes blocks k ≡ at.Win)
-    unfolding verdict_on
-    agreed_wins is =
-        let parts = by_quorum (ltb (length votes) quorum) refl Agreed is (λ e. absurd cc) in
-        (parts.0, λ k within. parts.1 k (omega arith) (omega arith))
-
     -- a lost or split poll has its quorum, and the block is the first that isn't a win
     pub loss_first : (b : ℕ) → verdict_on quorum minority q votes blocks ≡ Loss b
         → (quorum ≤ length votes) × IsFirst minority q votes blocks at.Loss b
@@ -140,20 +128,3 @@ module _ (minority : ℕ) (q : Ballot) (votes : List Vote) (blocks : List (List 
     split_first b is =
         let parts = by_quorum (ltb (length votes) quorum) refl (Split b) is (λ e. absurd cc) in
         (parts.0, first_is at.Split b parts.1)
-
-    -- where a poll has its quorum and each block is a win, it is agreed
-    pub wins_agreed : quorum ≤ length votes → ((k : ℕ) → k < length blocks → verdict_at minority q votes blocks k ≡ at.Win)
-        → verdict_on quorum minority q votes blocks ≡ Agreed
-    unfolding verdict_on
-    wins_agreed enough wins =
-        ap (λ t. cond t Inquorate (first_from minority q votes blocks 0 (length blocks))) (le-ltb (length votes) quorum enough)
-        ∙ no_other (first_from minority q votes blocks 0 (length blocks)) (found (length blocks) 0)
-      where
-        no_first : (said : At) (b : ℕ) → (said ≡ at.Win → ⊥) → First said 0 (length blocks) b → ⊥
-        no_first said b other f = other (sym f.here ∙ wins b (omega arith))
-
-        no_other : (v : Verdict) → Found v 0 (length blocks) → v ≡ Agreed
-        no_other Inquorate f = absurd f
-        no_other Agreed f = refl
-        no_other (Loss b) f = absurd (no_first at.Loss b (λ e. absurd cc) f)
-        no_other (Split b) f = absurd (no_first at.Split b (λ e. absurd cc) f)

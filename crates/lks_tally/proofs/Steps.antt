@@ -53,13 +53,6 @@ others_heads q (v ∷ vs) blocks b =
     ap (λ ids. cond (agrees q blocks b v) [] (v.voter ∷ []) ++ ids) (others_heads q vs blocks b)
     ∙ put (agrees q blocks b v) v (filter (λ x. not (agrees q blocks b x)) vs)
 
--- those of the other votes are against, also where there are fewer blocks
-pub others_linked : (q : Ballot) (votes : List Vote) (blocks : List (List ℕ)) (b end : ℕ) (hashes keys : List (List ℕ)) → end ≡ min (b + 1) (length blocks)
-    → keys ≡ heads q (take end blocks) votes → hashes ≡ keys → others b votes hashes ≡ voters_against q votes blocks b
-others_linked q votes blocks b end hashes keys end_is keys_are hashes_are =
-    ap (others b votes) (hashes_are ∙ keys_are ∙ ap (λ bs. heads q bs votes) (ap (λ n. take n blocks) end_is ∙ take_min (b + 1) blocks))
-    ∙ others_heads q votes blocks b
-
 -- a voter that is put first or left out
 keep : (is_for : Bool) (v : Vote) (vs : List Vote)
     → cond is_for (v.voter ∷ []) [] ++ map (λ x. x.voter) vs ≡ map (λ x. x.voter) (cond is_for (v ∷ vs) vs)
@@ -107,12 +100,6 @@ module _ (minority : ℕ) (q : Ballot) (votes : List Vote) (blocks : List (List 
       a_is ∙ ap (λ hs. landslide minority (matching b votes hs) (length votes - matching b votes hs)) hashes_are
       ∙ ap (λ n. landslide minority n (length votes - n)) (matching_heads q votes blocks b)
 
-  -- the same, also where there are fewer blocks
-  pub at_linked : (end : ℕ) (hashes keys : List (List ℕ)) (a : At) → end ≡ min (b + 1) (length blocks) → keys ≡ heads q (take end blocks) votes
-      → hashes ≡ keys → a ≡ landslide minority (matching b votes hashes) (length votes - matching b votes hashes) → a ≡ verdict_at minority q votes blocks b
-  at_linked end hashes keys a end_is keys_are hashes_are a_is =
-      at_heads_is hashes a (hashes_are ∙ keys_are ∙ ap (λ bs. heads q bs votes) (ap (λ n. take n blocks) end_is ∙ take_min (b + 1) blocks)) a_is
-
   -- one turn of the search for a block that is no win
   pub turn : (a : At) → b < length blocks → a ≡ verdict_at minority q votes blocks b
       → first_from minority q votes blocks b (length blocks - b)
@@ -130,9 +117,3 @@ module _ (minority : ℕ) (q : Ballot) (votes : List Vote) (blocks : List (List 
       hashes_are ∙ (λ i. map (λ h. linked (kind_is i) h block) (keys_are i)) ∙ heads_more q blocks votes b block block_is,
       ap length keys_are ∙ heads_length q (take b blocks) votes,
     )
-
-    -- the same turn, where it made the hashes
-    pub linked_turn : (a : At) → a ≡ landslide minority (matching b votes hashes) (length votes - matching b votes hashes)
-        → first_from minority q votes blocks b (length blocks - b)
-        ≡ decided a b (first_from minority q votes blocks (b + 1) (length blocks - (b + 1)))
-    linked_turn a a_is = turn a (slice_get_within blocks b block block_is) (at_heads_is hashes a link.0 a_is)

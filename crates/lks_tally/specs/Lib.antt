@@ -4,3 +4,4 @@ pub mod Heads
 pub mod Keeping
 pub mod PollRules
 pub mod Rows
+pub mod Running

@@ -121,7 +121,7 @@ module _ {D : Type 0} (f : Face D) (pool : List ℕ) (plan : Plan) (first : List
         holds = subst (λ bs. HoldsBodies (bodies_of bs) (f.seen h.journal.disk)) (sym is) has.stands.disk.holds;
         durable = has.stands.disk.durable;
         read = subst AreRead (sym is) has.stands.read;
-        room = subst (λ bs. length (frames (bodies_of bs)) ≤ 33558580) (sym is) (omega (arith, has.room, has.stands.disk.end));
+        room = let sized = ap (λ bs. length (frames (bodies_of bs))) is in omega (arith, has.room, has.stands.disk.end, sized);
       }
 
   earlier : (i : ℕ) (disk : D) → slice_get (disks_of hosts) i ≡ Some disk → HoldsBatches f plan [] i disk

@@ -6,7 +6,7 @@ use Rattle.std.proofs.lemmas.Bool.{and_from, eq-eqb, eqb-true}
 use Rattle.std.proofs.lemmas.List.{map-append}
 use Rattle.std.proofs.lemmas.Option.{get_or_from_slice_get}
 use Rattle.std.proofs.lemmas.List.Elements.{All-map}
-use Rattle.lks_audit.specs.Tallying.{is_ready, tag_of, tag_ready}
+use Rattle.lks_audit.specs.Tallying.{may_tally, tag_of, tag_ready}
 use Rattle.lks_base.specs.declared.events.Due.{Due}
 use Rattle.lks_base.specs.declared.events.Due.TheVariants.{Delivery, Own}
 use Rattle.lks_base.specs.declared.events.Event.{Event}
@@ -178,10 +178,10 @@ tally_due : (own : Station) (st : InState) (places : List Place) (n : ℕ) (t : 
 unfolding tallies_on
 tally_due own st places n t is = by_poll (poll_at n st.polls) refl is
   where
-    gives : (p : Poll) → p.number ≡ n → is_ready p ≡ true → ready_in own.id p ≡ Some (steps.Tally own.id n)
+    gives : (p : Poll) → p.number ≡ n → may_tally p ≡ true → ready_in own.id p ≡ Some (steps.Tally own.id n)
     gives p numbered ready = ap (λ b. cond b (Some (steps.Tally own.id p.number)) None) ready ∙ ap (λ m. Some (steps.Tally own.id m)) numbered
 
-    by_ready : (p : Poll) → poll_at n st.polls ≡ Some p → (b : Bool) → is_ready p ≡ b → cond b (Some (tag_of places st.copies p)) None ≡ Some t → (k : ℕ) × (slice_get (ready_on own st) k ≡ Some (steps.Tally own.id n))
+    by_ready : (p : Poll) → poll_at n st.polls ≡ Some p → (b : Bool) → may_tally p ≡ b → cond b (Some (tag_of places st.copies p)) None ≡ Some t → (k : ℕ) × (slice_get (ready_on own st) k ≡ Some (steps.Tally own.id n))
     by_ready p there false waits is = absurd cc
     by_ready p there true waits is =
         let found = of_find (λ (x : Poll). eqb x.number n) st.polls p there in
@@ -190,7 +190,7 @@ tally_due own st places n t is = by_poll (poll_at n st.polls) refl is
 
     by_poll : (o : Option Poll) → poll_at n st.polls ≡ o → tag_ready places st.copies o ≡ Some t → (k : ℕ) × (slice_get (ready_on own st) k ≡ Some (steps.Tally own.id n))
     by_poll None there is = absurd cc
-    by_poll (Some p) there is = by_ready p there (is_ready p) refl is
+    by_poll (Some p) there is = by_ready p there (may_tally p) refl is
 
 result_due : (own : Station) (st : InState) (places : List Place) (d : JobDone) (t : PinTag) → own.id ≡ peer_named (name_done d) → tag_for st places d ≡ Some t → (k : ℕ) × (slice_get (ready_on own st) k ≡ Some (step_named (name_done d)))
 result_due own st places (results.Vote done) t whose is =

@@ -4,10 +4,11 @@ use Rattle.std.specs.Prelude.{Option, Some, None, map, reverse, slice_get, slice
 use Rattle.std.specs.List.{position, position_from}
 use Rattle.std.proofs.lemmas.Bool.{cases_Bool}
 use Rattle.std.proofs.lemmas.Iterator.Adapters.{position_from-zero}
-use Rattle.std.proofs.lemmas.List.{map-append, reverse-append, reverse-reverse}
+use Rattle.std.proofs.lemmas.List.{length-map, map-append, reverse-append, reverse-reverse}
 use Rattle.std.proofs.lemmas.Option.{slice_get-get_or, slice_get-map}
 use Rattle.lks_disk.specs.Counts.{Rose, raised}
 use Rattle.lks_disk.specs.Face.{Face}
+use Rattle.lks_base.specs.declared.entries.Entry.{Entry}
 use Rattle.lks_base.specs.declared.plans.PeerPlan.{PeerPlan}
 use Rattle.lks_base.specs.declared.plans.Plan.{Plan}
 use Rattle.lks_base.specs.declared.records.Record.{Record}
@@ -266,7 +267,13 @@ disks_hold {D = D} f plan s rest is are place disk at =
     by_host (Some h) e there =
         let host = is.hosts place h e in
         let same : disk_in h ≡ disk = some_is there in
-        subst (HoldsBatches f plan (events_in s) place) same (record { holds = host.stands.disk.holds; durable = host.stands.disk.durable; read = host.stands.read; room = omega (arith, host.room, host.stands.disk.end, length-map) })
+        let count : length (events_in s) ≡ length s.history.items = length-map s.history.items (λ (e : Entry). e.event) in
+        subst (HoldsBatches f plan (events_in s) place) same (record {
+          holds = host.stands.disk.holds;
+          durable = host.stands.disk.durable;
+          read = host.stands.read;
+          room = omega (arith, host.room, host.stands.disk.end, count);
+        })
 
 module _ {D : Type 0} (f : Face D) where
   serves_behind : (p : PeerPlan) (ps : List PeerPlan) (x : D) (xs ys : List D) (fault : Option WorldFault) → ServesHonest f ps xs ys fault → ServesHonest f (p ∷ ps) (x ∷ xs) (x ∷ ys) fault
