@@ -52,16 +52,6 @@ fn find_place(copies: &[Held], au: AuId) -> Option<usize>
     copies.iter().position(|h| h.au == au)
 }
 
-/// The number of blocks of an AU, 0 of one that isn't held.
-pub fn count_blocks(copies: &[Held], au: AuId) -> usize
-    ensures { result ≡ length (blocks_at au (copies_of copies.now)) }
-{
-    match find_copy(copies, au) {
-        Some(held) => held.count(),
-        None => 0,
-    }
-}
-
 /// The number of blocks of an AU that is held.
 #[tactic(auto, using(lks_blocks::proofs::Bytes::bytes_count))]
 pub fn count_held(copies: &[Held], au: AuId) -> u16
@@ -114,13 +104,6 @@ impl Held {
     {
         let refs = self.versions.refs(self.versions.current())?;
         Ok(Refs::from_vec(refs))
-    }
-
-    #[tactic(auto, using(lks_blocks::proofs::Bytes::bytes_count))]
-    fn count(&self) -> usize
-        ensures { result ≡ length (copy_of self.now).blocks }
-    {
-        self.versions.count() as usize
     }
 
     fn agree(&mut self, tick: u32)

@@ -3,27 +3,15 @@
 ghost use Rattle.std.specs.Prelude.{◌≡◌, ◌≤◌, IfOk, IfSome, option_map};
 ghost use Rattle.lks_base.specs.declared.limits.TheConstants.{LAST_BLOCK};
 ghost use Rattle.lks_law.specs.Reaction.{asked_again, given_up};
-ghost use Rattle.lks_law.specs.Reacting.{silent_in, nudge_in, give_up_in};
+ghost use Rattle.lks_law.specs.Reacting.{nudge_in, give_up_in};
 ghost use Rattle.lks_repair.specs.Asking.{awaited};
 ghost use Rattle.lks_audit.specs.Seen.{poll_of, request_of};
 
 use crate::letters::{invite, write};
 use crate::reactions::{adding, no_reaction, no_sends, sending, telling};
-use crate::voting::outer_of;
-use lks_base::{Message, OutOfMemory, PeerId, Reaction, Record, has_member};
+use lks_base::{Message, OutOfMemory, PeerId, Reaction, Record};
 use lks_poller::PollSession;
 use std::alloc::Global;
-
-/// The invited peers whose votes didn't come in: the inner circle, then the outer one.
-#[tactic(auto, unfolding(lks_law::specs::Reacting::silent_in))]
-fn find_silent(alloc: Global, poll: &PollSession) -> Result<Vec<PeerId>, OutOfMemory>
-    ensures { IfOk result (λ v. v.items ≡ silent_in (poll_of poll.now)) }
-{
-    let mut peers = poll.inner().to_vec(alloc)?;
-    peers.extend_from_slice(outer_of(poll))?;
-    peers.retain(|v| !has_member(poll.voters(), *v));
-    Ok(peers)
-}
 
 fn ask_again(
     alloc: Global,
@@ -52,8 +40,8 @@ pub fn nudge(alloc: Global, poll: &PollSession) -> Result<Reaction, OutOfMemory>
     if poll.is_shut() {
         return ask_again(alloc, number, poll.unanswered());
     }
-    let peers = find_silent(alloc, poll)?;
-    Ok(telling(alloc, invite(alloc, number, poll.au(), &peers)?))
+    let peers = poll.silent()?;
+    Ok(telling(alloc, invite(alloc, number, poll.au(), peers.as_slice())?))
 }
 
 /// Gives up the request that the poll waits for.

@@ -1,6 +1,6 @@
 //! What a peer adds and sends in a poll of its own, while votes are open.
 
-ghost use Rattle.std.specs.Prelude.{◌≡◌, ◌≤◌, ℕ, List, IfOk, length, unwrap_or, [], ◌∷◌};
+ghost use Rattle.std.specs.Prelude.{◌≡◌, ◌≤◌, ℕ, List, IfOk, length, [], ◌∷◌};
 ghost use Rattle.lks_base.specs.declared.names.Outcome.TheVariants as outcome;
 ghost use Rattle.lks_base.specs.declared.records.Record.TheVariants as record_of;
 ghost use Rattle.lks_base.specs.declared.limits.TheConstants.{MOST_PROOF_BYTES};
@@ -18,16 +18,6 @@ use lks_base::{
 };
 use lks_poller::PollSession;
 use std::alloc::Global;
-
-/// The outer circle of a poll, once it is invited.
-pub fn outer_of(poll: &PollSession) -> &[PeerId]
-    ensures { result.now ≡ unwrap_or poll.now.outer [] }
-{
-    match poll.outer() {
-        Some(outer) => outer.as_slice(),
-        None => &[],
-    }
-}
 
 #[tactic(auto, unfolding(lks_law::specs::Reacting::outer_of_poll), using(crate::proofs::Nominations::nominees_seen))]
 fn sample(alloc: Global, own: &Station, poll: &PollSession) -> Result<Ids, OutOfMemory>

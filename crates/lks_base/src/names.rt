@@ -1,7 +1,7 @@
 //! Names and small values that every part speaks of.
 
 ghost use Rattle.std.specs.Prelude.{◌≡◌, ◌↔◌, IsTrue};
-ghost use Rattle.lks_base.specs.Kinds.{is_second};
+ghost use Rattle.lks_base.specs.Kinds.{is_second, is_kind};
 
 /// The number of a peer.
 pub type PeerId = u16;
@@ -29,6 +29,13 @@ impl HashKind {
         ensures { result ≡ is_second self.now }
     {
         matches!(self, HashKind::Sha512_256)
+    }
+
+    /// Whether this is the same as another.
+    pub fn is_kind(&self, kind: HashKind) -> bool
+        ensures { result ≡ is_kind self.now kind }
+    {
+        self.second() == kind.second()
     }
 }
 

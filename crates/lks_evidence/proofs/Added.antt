@@ -1,9 +1,8 @@
 -- What a peer adds to its journal is no deposit.
 use Rattle.std.proofs.Common.{◌≡◌, ◌∙◌, inl, inr, ap, sym, subst, ℕ, Bool, true, false, cond, List, [], ◌∷◌, ◌++◌, map, append_assoc}
-use Rattle.std.specs.Prelude.{Option, Some, None, nat_lt, slice_get, length}
+use Rattle.std.specs.Prelude.{Option, Some, None, slice_get, length}
 use Rattle.std.specs.List.{filter_map, cons_option}
 use Rattle.std.proofs.lemmas.List.{append-nil}
-use Rattle.lks_base.specs.Checking.{has_member}
 use Rattle.lks_base.specs.declared.messages.Message.{Message}
 use Rattle.lks_base.specs.declared.messages.Message.TheVariants as message
 use Rattle.lks_base.specs.declared.names.HashKind.{HashKind}
@@ -24,10 +23,13 @@ use Rattle.lks_law.specs.References.{reference_list}
 use Rattle.lks_law.specs.Reaction.{nothing, for_opening, may_open, on_open, on_widen, asked_again, on_nudge, given_up, on_give_up, is_inquorate, on_shut, on_tally, asked, tallied, closed, must_note, overdue_in, on_check, may_prove, on_challenge, may_nominate, on_nominate, may_vote, on_vote, on_repair}
 use Rattle.lks_law.specs.Sessions.{Join, Commitment, is_session, join_of, commitment_of, hashes_of_vote, version_now, served}
 use Rattle.lks_law.specs.Table.{on_message, reaction}
-use Rattle.lks_law.specs.Voting.{named, may_join, on_invitation, commits, repeats, proved_to, on_proof, worked, on_work, most_served, serves, requested, on_request, on_end, may_tune, on_tune}
+use Rattle.lks_law.specs.Voting.{named, may_join, on_invitation, commits, repeats, proved_to, on_proof, worked, on_work, most_served, gives, serves, requested, on_request, on_end, may_tune, on_tune}
 use Rattle.lks_law.proofs.Growing.{IsLater, each_append}
 use Rattle.lks_tally.specs.declared.ballots.Verdict.{Verdict}
 use Rattle.lks_tally.specs.declared.ballots.Verdict.TheVariants as verdict
+use Rattle.lks_voter.specs.Voting.{answer_of}
+use Rattle.lks_voter.specs.declared.commitments.Serve.{Serve}
+use Rattle.lks_voter.specs.declared.commitments.Serve.TheVariants.{First, Again, Spent}
 
 abbrev IsAdded : Reaction → Type 0
 IsAdded r = Each IsLater r.records
@@ -145,7 +147,12 @@ module _ (own : Station) (js : List Record) where
     where
       by_block : (most : ℕ) (before : List ℕ) (o : Option (List ℕ)) → IsAdded (serves q b most before o)
       by_block most before None = tt
-      by_block most before (Some bytes) = later_if (has_member before b) _ _ tt (later_if (nat_lt (length before) most) _ nothing (tt, tt) tt)
+      by_block most before (Some bytes) = by_answer (answer_of before b most)
+        where
+          by_answer : (a : Serve) → IsAdded (gives q b bytes a)
+          by_answer First = (tt, tt)
+          by_answer Again = tt
+          by_answer Spent = tt
 
       by_session : (j : Option Join) (c : Option Commitment) (h : Option (List (List ℕ))) → IsAdded (requested own js q b j c h)
       by_session None c h = tt

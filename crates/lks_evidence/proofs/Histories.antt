@@ -5,7 +5,7 @@ use Rattle.std.specs.Cmp.Lexicographic.{pointwise, pointwise_decides, bytes_deci
 use Rattle.std.specs.List.{list_all, list_any}
 use Rattle.std.proofs.lemmas.Bool.{and_parts, eqb-true, eq-eqb, lt-ltb, le-leb}
 use Rattle.lks_base.specs.Checking.{plan_fault, has_honest, unless, each as each_fault, has_peer, has_counted, is_fit, member_fault, copy_fault, peer_fault}
-use Rattle.lks_base.specs.Kinds.{is_second}
+use Rattle.lks_base.specs.Kinds.{is_second, is_kind}
 use Rattle.lks_base.specs.declared.events.Event.{Event}
 use Rattle.lks_base.specs.declared.names.HashKind.{HashKind}
 use Rattle.lks_base.specs.declared.names.HashKind.TheVariants.{Sha256, Sha512_256}
@@ -43,7 +43,7 @@ use Rattle.lks_evidence.specs.declared.findings.Shelf.{Shelf}
 use Rattle.lks_evidence.specs.Histories.{AreShelvesOf}
 use Rattle.lks_evidence.specs.Holding.{Stands, SetHolds}
 use Rattle.lks_evidence.specs.Records as mine
-use Rattle.lks_evidence.specs.Rules.{has_shelf, is_new, deposited, is_deposited, is_held, is_kind, is_over, is_for, is_committed, is_joined, bears_out, shelf_of, bears_out_if, is_founded}
+use Rattle.lks_evidence.specs.Rules.{has_shelf, is_new, deposited, is_deposited, is_held, is_over, is_for, is_committed, is_joined, bears_out, shelf_of, bears_out_if, is_founded}
 use Rattle.lks_evidence.proofs.Added.{IsBehind, behind}
 use Rattle.lks_evidence.proofs.Deposited.{deposited_once, behind_front}
 use Rattle.lks_evidence.proofs.Told.{opened_once, same_version, joined_once, committed_once}

@@ -3,10 +3,8 @@ use Rattle.std.specs.Prelude.{ℕ, Bool, true, false, not, ◌==◌, ◌&&◌, n
 use Rattle.std.specs.List.{list_any}
 use Rattle.std.specs.Cmp.Lexicographic.{pointwise}
 use Rattle.lks_base.specs.Checking.{has_honest}
-use Rattle.lks_base.specs.Kinds.{is_second}
+use Rattle.lks_base.specs.Kinds.{is_second, is_kind}
 use Rattle.lks_base.specs.Quorums.{obeys_quorum_rule}
-use Rattle.lks_base.specs.declared.names.HashKind.{HashKind}
-use Rattle.lks_base.specs.declared.names.HashKind.TheVariants.{Sha256, Sha512_256}
 use Rattle.lks_base.specs.declared.names.Limits.{Limits}
 use Rattle.lks_base.specs.declared.plans.AuPlan.{AuPlan}
 use Rattle.lks_base.specs.declared.plans.Plan.{Plan}
@@ -100,12 +98,6 @@ unfoldable pub win_doubt : Limits → Ballot → List Vote → List (List ℕ) �
 win_doubt limits q votes copy b = unless (nat_le (against_at q votes copy b) limits.minority) (why.Against (told (against_at q votes copy b)))
 
 -- Voters whose journals are in the set.
-
-abbrev pub is_kind : HashKind → HashKind → Bool
-is_kind Sha256 Sha256 = true
-is_kind Sha256 Sha512_256 = false
-is_kind Sha512_256 Sha256 = false
-is_kind Sha512_256 Sha512_256 = true
 
 -- whether this vote is the one over these blocks
 unfoldable pub is_over : Ballot → List (List ℕ) → Vote → Bool

@@ -2,7 +2,6 @@
 
 ghost use Rattle.std.specs.Prelude.{◌≡◌, ◌≤◌, ◌-◌, nat_le, length, option_map, unwrap_or};
 ghost use Rattle.lks_law.specs.Polls.{limits_of, ballot_for};
-ghost use Rattle.lks_tally.specs.Keeping as keeping;
 ghost use Rattle.lks_evidence.specs.declared.findings.Why.TheVariants as why;
 ghost use Rattle.lks_evidence.specs.Rules.{◌▹◌, unless, told, first_twice, first_failing};
 ghost use Rattle.lks_evidence.specs.Rules as rules;
@@ -10,7 +9,7 @@ ghost use Rattle.lks_evidence.specs.Rules as rules;
 use crate::findings::Why;
 use crate::records::{Opening, Repair, count_openings, is_shut};
 use lks_base::{Limits, PeerId, PollName, Record, Rules, obeys_quorum_rule};
-use lks_tally::{Ballot, Vote};
+use lks_tally::{Ballot, Vote, has_voted};
 
 /// A number of votes as a doubt tells it.
 #[tactic(auto, unfolding(crate::specs::Rules::told))]
@@ -18,12 +17,6 @@ fn told(votes: usize) -> u16
     ensures { result ≡ told votes }
 {
     votes.min(u16::MAX as usize) as u16
-}
-
-fn has_voted(votes: &[Vote], voter: PeerId) -> bool
-    ensures { result ≡ keeping.has_voted votes.now voter }
-{
-    votes.iter().any(|v| v.voter == voter)
 }
 
 /// The first voter, in order of votes, who has two.

@@ -8,7 +8,7 @@ ghost use Rattle.lks_hash.specs.Running.{running};
 ghost use Rattle.lks_tally.specs.Counting.{key_for};
 ghost use Rattle.lks_tally.specs.Heads.{heads};
 ghost use Rattle.lks_evidence.specs.Recounts as recounts;
-ghost use Rattle.lks_evidence.specs.Rules.{count_in, deposited, is_deposited, is_kind, bears_out, shelf_of, is_founded};
+ghost use Rattle.lks_evidence.specs.Rules.{count_in, deposited, is_deposited, bears_out, shelf_of, is_founded};
 ghost use Rattle.lks_evidence.specs.Rules as rules;
 
 use crate::copies::copy_at;
@@ -18,7 +18,7 @@ use crate::records::{
     Commitment, count_commitments, count_deposits, count_joins, count_versions, find_commitment,
     find_deposit, find_join,
 };
-use lks_base::{AuId, AuPlan, Bytes, HashKind, OutOfMemory, PeerId, Record};
+use lks_base::{AuId, AuPlan, Bytes, OutOfMemory, PeerId, Record};
 use lks_tally::{Ballot, Vote};
 use std::alloc::Global;
 
@@ -60,19 +60,13 @@ pub fn is_deposited(aus: &[AuPlan], au: AuId, journal: &[Record]) -> bool
     count_deposits(journal, au) == 1 && is_count(count_in(aus, au), count_deposited(journal, au))
 }
 
-fn same_kind(a: HashKind, b: HashKind) -> bool
-    ensures { result ≡ is_kind a b }
-{
-    a.second() == b.second()
-}
-
 /// Whether the voter committed to a version that it has, for the poll's nonce and kind of hash.
 #[tactic(auto, unfolding(crate::specs::Rules::is_for))]
 fn is_for(ballot: &Ballot, journal: &[Record], commitment: &Commitment<'_>) -> bool
     ensures { result ≡ rules.is_for ballot.now journal.now commitment.now }
 {
     *commitment.nonce == ballot.nonce
-        && same_kind(commitment.kind, ballot.kind)
+        && commitment.kind.is_kind(ballot.kind)
         && commitment.version as usize <= count_versions(journal, ballot.au)
 }
 

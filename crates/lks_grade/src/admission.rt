@@ -35,7 +35,8 @@ fn is_drawn(g: Grade, rules: &Rules, last_low: Option<u32>, tick: u32) -> bool
     is_low(g) && !is_refractory(rules.refractory, last_low, tick)
 }
 
-fn is_low(g: Grade) -> bool
+/// Whether a peer of this grade is drawn for, and let in once in a while: one that is unknown or in debt.
+pub fn is_low(g: Grade) -> bool
     ensures { result ≡ grading.is_low g }
 {
     matches!(g, Grade::Unknown | Grade::Debt)

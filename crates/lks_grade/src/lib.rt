@@ -14,5 +14,5 @@
 mod admission;
 mod grades;
 
-pub use admission::admits;
+pub use admission::{admits, is_low};
 pub use grades::{Grade, grade_of};

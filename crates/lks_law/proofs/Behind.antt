@@ -1,9 +1,8 @@
 -- Whatever the rules add stands behind the journal: the input that it names adds the same at the tick that it names.
 use Rattle.std.proofs.Common.{◌≡◌, ◌==◌, ◌≢◌, ◌≤◌, ◌+◌, ◌∙◌, ◌⊎◌, inl, inr, ap, sym, subst, ℕ, Bool, true, false, cond, eqb, List, [], ◌∷◌, length, refl, arith}
-use Rattle.std.specs.Prelude.{Option, Some, None, is_some, option_map, unwrap_or, not, map, ◌&&◌, ◌||◌, nat_lt, slice_get}
+use Rattle.std.specs.Prelude.{Option, Some, None, is_some, option_map, unwrap_or, not, map, ◌&&◌, ◌||◌, slice_get}
 use Rattle.std.specs.List.{filter_map, cons_option, list_any}
 use Rattle.std.proofs.lemmas.Bool.{and_parts, eqb-true}
-use Rattle.lks_base.specs.Checking.{has_member}
 use Rattle.lks_base.specs.declared.messages.Message.TheVariants as message
 use Rattle.lks_base.specs.declared.names.HashKind.{HashKind}
 use Rattle.lks_base.specs.declared.names.HashKind.TheVariants.{Sha256, Sha512_256}
@@ -22,13 +21,16 @@ use Rattle.lks_law.specs.Behind.{tick_in, latest, tick_or, asked_from, last_aske
 use Rattle.lks_law.specs.Facts.{AddsFor, unnumbered}
 use Rattle.lks_law.specs.Journal.{Opening, Request, Told, said, is_tuning, numbers_from, opening_of, openings, is_voting, is_widened, contents_at, unanswered_with, unanswered_without, unanswered_from, unanswered, was_tuned}
 use Rattle.lks_law.specs.Polls.{Station, numbers_in_force, limits_in_force, verdict_in, candidate, restores}
-use Rattle.lks_law.specs.Reaction.{nothing, letter, for_opening, may_open, opened, on_open, widened, on_widen, is_inquorate, shut_inquorate, shut, on_shut, may_tally, closed, asked, tallied, on_tally, must_note, overdue_in, on_check, reminded, asked_again, on_nudge, given_up, on_give_up, may_prove, proved, on_challenge, may_nominate, nominated, on_nominate, may_vote, counted, on_vote, is_request, may_repair, repaired, on_repair}
+use Rattle.lks_law.specs.Reaction.{nothing, for_opening, may_open, opened, on_open, widened, on_widen, is_inquorate, shut_inquorate, shut, on_shut, may_tally, closed, asked, tallied, on_tally, must_note, overdue_in, on_check, reminded, asked_again, on_nudge, given_up, on_give_up, may_prove, proved, on_challenge, may_nominate, nominated, on_nominate, may_vote, counted, on_vote, is_request, may_repair, repaired, on_repair}
 use Rattle.lks_law.specs.Sessions.{Join, Commitment, join_of, commitment_of, hashes_of_vote, served, is_session}
 use Rattle.lks_law.specs.State.{State, after, after_all}
 use Rattle.lks_law.specs.Table.{reaction}
-use Rattle.lks_law.specs.Voting.{named, answers, adds, adds_only, challenge, may_join, joined, on_invitation, repeats, proved_to, on_proof, worked, on_work, most_served, serves, requested, on_request, on_end, may_tune, on_tune}
+use Rattle.lks_law.specs.Voting.{named, answers, adds, adds_only, challenge, may_join, joined, on_invitation, repeats, proved_to, on_proof, worked, on_work, most_served, gives, serves, requested, on_request, on_end, may_tune, on_tune}
 use Rattle.lks_tally.specs.declared.ballots.Verdict.{Verdict}
 use Rattle.lks_tally.specs.declared.ballots.Verdict.TheVariants as verdict
+use Rattle.lks_voter.specs.Voting.{answer_of}
+use Rattle.lks_voter.specs.declared.commitments.Serve.{Serve}
+use Rattle.lks_voter.specs.declared.commitments.Serve.TheVariants.{First, Again, Spent}
 
 -- The last request of a poll, where one is unanswered, is that one.
 
@@ -338,11 +340,14 @@ module _ (own : Station) (js : List Record) where
       told : Input
       told = input.Got from (message.RepairRequest n b) NotAsked
 
+      by_answer : (bytes : List ℕ) (a : Serve) → Points tick (latest js) told (gives (named from n) b bytes a).records
+      by_answer bytes First = (refl, refl, (refl, tt), (tt, tt))
+      by_answer bytes Again = tt
+      by_answer bytes Spent = tt
+
       by_block : (j : Join) (o : Option (List ℕ)) → Points tick (latest js) told (serves (named from n) b (most_served own.rules j.repairs) (served (named from n) js) o).records
       by_block j None = tt
-      by_block j (Some bytes) =
-          points_if tick (latest js) told (has_member (served (named from n) js) b) (answers (letter (message.Repair n b bytes) from)) _ tt
-          (points_if tick (latest js) told (nat_lt (length (served (named from n) js)) (most_served own.rules j.repairs)) _ nothing (refl, refl, (refl, tt), (tt, tt)) tt)
+      by_block j (Some bytes) = by_answer bytes (answer_of (served (named from n) js) b (most_served own.rules j.repairs))
 
       by_session : (j : Option Join) (c : Option Commitment) (h : Option (List (List ℕ))) → Points tick (latest js) told (requested own js (named from n) b j c h).records
       by_session None c h = tt

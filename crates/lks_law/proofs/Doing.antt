@@ -3,7 +3,6 @@ use Rattle.std.proofs.Common.{◌≡◌, ◌≤◌, ◌<◌, ◌^◌, ◌+◌, �
 use Rattle.std.specs.Prelude.{Option, Some, None, is_some, not, map, ◌&&◌, nat_lt, count_by, slice_get}
 use Rattle.std.specs.List.{filter_map, cons_option, list_any}
 use Rattle.std.proofs.lemmas.Bool.{eqb-true, eq-eqb, and_parts, cond_both}
-use Rattle.lks_base.specs.Checking.{has_member}
 use Rattle.lks_base.specs.declared.limits.TheConstants.{MOST_BLOCK_BYTES}
 use Rattle.lks_base.specs.declared.messages.Message.{Message}
 use Rattle.lks_base.specs.declared.messages.Message.TheVariants as message
@@ -26,7 +25,7 @@ use Rattle.lks_law.specs.Polls.{Station, limits_of, ballot_of, inner_votes, limi
 use Rattle.lks_law.specs.References.{inner_circle, outer_circle, reference_list}
 use Rattle.lks_law.specs.Reaction.{nothing, letter, for_opening, may_open, opened, on_open, widened, on_widen, silent, reminded, asked_again, on_nudge, given_up, on_give_up, receipts, is_inquorate, shut_inquorate, shut, on_shut, may_tally, closed, asked, tallied, on_tally, must_note, overdue_in, on_check, may_prove, proved, on_challenge, may_nominate, nominated, on_nominate, is_accepted, may_vote, counted, on_vote, is_request, may_repair, repaired, on_repair}
 use Rattle.lks_law.specs.Sessions.{Join, Commitment, first_in, hashes_in, join_of, commitment_of, hashes_of_vote, served, is_session, version_now}
-use Rattle.lks_law.specs.Voting.{named, answers, may_join, joined, on_invitation, nominates, repeats, vote_again, commits, proved_to, on_proof, vote_hashes, worked, on_work, most_served, serves, requested, on_request, on_end, may_tune, on_tune}
+use Rattle.lks_law.specs.Voting.{named, answers, may_join, joined, on_invitation, nominates, repeats, vote_again, commits, proved_to, on_proof, vote_hashes, worked, on_work, most_served, repair, gives, serves, requested, on_request, on_end, may_tune, on_tune}
 use Rattle.lks_law.specs.Table.{on_message, reaction}
 use Rattle.lks_law.specs.World.{Standing, peer_at}
 use Rattle.lks_law.specs.Linked.{Has, IsVoteOver}
@@ -41,6 +40,9 @@ use Rattle.lks_tally.specs.declared.ballots.Verdict.{Verdict}
 use Rattle.lks_tally.specs.declared.ballots.Verdict.TheVariants as verdict
 use Rattle.lks_tally.specs.declared.ballots.Vote.{Vote}
 use Rattle.lks_tally.proofs.Deciding.{loss_first}
+use Rattle.lks_voter.specs.Voting.{answer_of}
+use Rattle.lks_voter.specs.declared.commitments.Serve.{Serve}
+use Rattle.lks_voter.specs.declared.commitments.Serve.TheVariants.{First, Again, Spent}
 
 -- what may be added, where the journal is so afterwards
 abbrev pub MayAdd : List Standing → Station → List Record → List Record → Record → Type 0
@@ -361,11 +363,15 @@ module _ (peers : List Standing) (own : Station) (js : List Record) (all : Each 
       by_block : (j : Join) (c : Commitment) (o : Option (List ℕ)) → join_of q js ≡ Some j → slice_get (contents_at j.au c.version js) b ≡ o
           → Does peers own js (serves q b (most_served own.rules j.repairs) (served q js) o)
       by_block j c None joined at = does_nothing
-      by_block j c (Some bytes) joined at =
-          let limits = repair_limits peers own js all q.number j.au c.version b bytes (join_fact peers own js all q j joined) at in
-          cond_both (has_member (served q js) b) (answers (letter (message.Repair q.number b bytes) q.poller)) _ (Does peers own js)
-          (λ again. does_send _ (sends_so _ (message.Repair q.number b bytes) q.poller limits tt, tt))
-          (λ new. does_if (nat_lt (length (served q js)) (most_served own.rules j.repairs)) _ (λ few. does_one (records.Served q b) _ tt (sends_so _ (message.Repair q.number b bytes) q.poller limits tt, tt)))
+      by_block j c (Some bytes) joined at = by_answer (answer_of (served q js) b (most_served own.rules j.repairs))
+        where
+          sends : (after : List Record) → Sends after (repair q b bytes)
+          sends after = sends_so after (message.Repair q.number b bytes) q.poller (repair_limits peers own js all q.number j.au c.version b bytes (join_fact peers own js all q j joined) at) tt
+
+          by_answer : (a : Serve) → Does peers own js (gives q b bytes a)
+          by_answer First = does_one (records.Served q b) _ tt (sends _, tt)
+          by_answer Again = does_send _ (sends _, tt)
+          by_answer Spent = does_nothing
 
       by_session : (j : Option Join) (c : Option Commitment) (h : Option (List (List ℕ))) → join_of q js ≡ j → Does peers own js (requested own js q b j c h)
       by_session (Some j) (Some c) (Some hashes) joined = by_block j c (slice_get (contents_at j.au c.version js) b) joined refl

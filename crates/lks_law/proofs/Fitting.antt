@@ -25,7 +25,7 @@ use Rattle.lks_base.specs.declared.records.Record.TheVariants as records
 use Rattle.lks_draw.proofs.Picking.{pick_law}
 use Rattle.lks_draw.proofs.Places.{word_fits}
 use Rattle.lks_draw.specs.Words.{drawn_from, words_of}
-use Rattle.lks_law.specs.Fitting.{Where, FitsOutcome, Fits, AreFitting, AsksWithin, IsCounted, AreSmall, AreWell, AreLegal, IsOnHeld, IsPinnedWell, IsCastWell, marks_left, IsSound, most_numbered, has_room}
+use Rattle.lks_law.specs.Fitting.{Where, FitsOutcome, Fits, MayHave, AreFitting, AsksWithin, IsCounted, AreSmall, AreWell, AreLegal, IsOnHeld, IsPinnedWell, IsCastWell, marks_left, IsSound, most_numbered, has_room}
 use Rattle.lks_law.proofs.Lists.{without_any, changed_any, any_where}
 use Rattle.lks_law.specs.Answering.{is_open, open_sessions, was_ended, may_join_in, is_admitted_in, joined_now, invitation_in, proof_at, proof_in, version_at, hashes_for, work_at, work_in, request_at, request_in, end_in}
 use Rattle.lks_law.specs.Facts.{IsHeard}
@@ -37,7 +37,7 @@ use Rattle.lks_law.specs.State.{Poll, Copy, State, poll_at, copy_at, blocks_in, 
 use Rattle.lks_law.specs.Sessions.{Commitment}
 use Rattle.lks_law.specs.Table.{receive_in, react_on}
 use Rattle.lks_law.specs.Taking.{Session, Pinned, Cast, is_session_of, is_pinned_of, is_cast_of, session_at, pinned_at, cast_at, pinning, casting, serving, voter_after}
-use Rattle.lks_law.specs.Voting.{named, answers, challenge, repeats, commits, vote_hashes, serves, may_tune, on_tune}
+use Rattle.lks_law.specs.Voting.{named, answers, challenge, repeats, commits, vote_hashes, gives, serves, may_tune, on_tune}
 use Rattle.lks_hash.proofs.RunningLaws.{hashes_length}
 use Rattle.lks_base.specs.declared.names.HashKind.{HashKind}
 use Rattle.lks_base.specs.declared.names.PollName.{PollName}
@@ -47,6 +47,9 @@ use Rattle.lks_tally.specs.PollRules as poll
 use Rattle.lks_tally.specs.Running.{may_nominate, may_prove, may_vote}
 use Rattle.lks_tally.specs.declared.ballots.Verdict.{Verdict}
 use Rattle.lks_tally.specs.declared.ballots.Verdict.TheVariants as verdict
+use Rattle.lks_voter.specs.Voting.{answer_of}
+use Rattle.lks_voter.specs.declared.commitments.Serve.{Serve}
+use Rattle.lks_voter.specs.declared.commitments.Serve.TheVariants.{First, Again, Spent}
 
 -- what is true of each poll is true of the one that is found
 pub poll_where : (P : Poll → Type 0) (n : ℕ) (ps : List Poll) → All P ps → Where (poll_at n ps) P
@@ -262,7 +265,7 @@ module _ (own : Station) (s : State) where
       by_record r = held
 
   held_on : (r : Record) (x : Session) → IsOnHeld s.copies x → IsOnHeld (copies_after s.polls r s.copies) x
-  held_on r x on = held_still r x.au on
+  held_on r x on = held_still r x.joined.au on
 
   sessions_held : (r : Record) → Fits own s r → IsSound s → All (IsOnHeld s.copies) (voter_after own.rules (λ au. blocks_at au s.copies) r s.voter).sessions
   sessions_held (records.Joined q au tick low repairs) fits is = All-push (IsOnHeld s.copies) s.voter.sessions _ is.held fits
@@ -272,7 +275,7 @@ module _ (own : Station) (s : State) where
 
   pinning_well : (c : Commitment) (o : Option Session) → Where o (IsOnHeld s.copies) → IsSound s → All IsPinnedWell (s.voter.pinned ++ pinning (λ au. blocks_at au s.copies) c o)
   pinning_well c None on is = subst (All IsPinnedWell) (sym (append-nil s.voter.pinned)) is.pinned
-  pinning_well c (Some x) on is = All-push IsPinnedWell s.voter.pinned _ is.pinned (copy_well s.copies is.counted is.small x.au on)
+  pinning_well c (Some x) on is = All-push IsPinnedWell s.voter.pinned _ is.pinned (copy_well s.copies is.counted is.small x.joined.au on)
 
   pinned_well : (r : Record) → Fits own s r → IsSound s → All IsPinnedWell (voter_after own.rules (λ au. blocks_at au s.copies) r s.voter).pinned
   pinned_well (records.Committed q nonce version kind) fits is =
@@ -530,15 +533,15 @@ module _ (own : Station) (s : State) (few : own.rules.inner ≤ MOST_CIRCLE) (ro
   unfolding proof_in
   proof_fits q nonce kind judged = by_state (session_at q s.voter.sessions) (pinned_at q s.voter.pinned) (cast_at q s.voter.cast)
     where
-      by_judged : (x : Session) (judged : Judged) → AreFitting own s (commits own s.refs q (version_at x.au s.copies) nonce kind judged).records
+      by_judged : (x : Session) (judged : Judged) → AreFitting own s (commits own s.refs q (version_at x.joined.au s.copies) nonce kind judged).records
       by_judged x Accepted = (tt, tt)
       by_judged x Refused = (tt, tt)
       by_judged x NotAsked = tt
 
       by_state : (x : Option Session) (p : Option Pinned) (c : Option Cast) → AreFitting own s (proof_at own s.copies s.refs q nonce kind judged x p c).records
       by_state (Some x) p c = by_judged x judged
-      by_state None (Some p) c = nothing_fits (repeats p.commitment nonce kind) _ (λ same. tt)
-      by_state None None (Some c) = nothing_fits (repeats c.pinned.commitment nonce kind) _ (λ same. tt)
+      by_state None (Some p) c = nothing_fits (repeats p.committed.commitment nonce kind) _ (λ same. tt)
+      by_state None None (Some c) = nothing_fits (repeats c.voted.committed.commitment nonce kind) _ (λ same. tt)
       by_state None None None = tt
 
   work_fits : (q : PollName) → AreFitting own s (work_in own s.voter q).records
@@ -553,15 +556,18 @@ module _ (own : Station) (s : State) (few : own.rules.inner ≤ MOST_CIRCLE) (ro
   unfolding request_in
   request_fits q b = by_state (cast_at q s.voter.cast) refl
     where
-      by_block : (c : Cast) → cast_at q s.voter.cast ≡ Some c → (o : Option (List ℕ)) → AreFitting own s (serves q b c.pinned.session.repairs c.served o).records
+      by_answer : (c : Cast) → cast_at q s.voter.cast ≡ Some c → (bytes : List ℕ) (a : Serve) → answer_of c.voted.served b c.repairs ≡ a → AreFitting own s (gives q b bytes a).records
+      by_answer c found bytes First new = (subst (λ o. Where o (MayHave b)) (sym found) new, tt)
+      by_answer c found bytes Again old = tt
+      by_answer c found bytes Spent late = tt
+
+      by_block : (c : Cast) → cast_at q s.voter.cast ≡ Some c → (o : Option (List ℕ)) → AreFitting own s (serves q b c.repairs c.voted.served o).records
       by_block c found None = tt
-      by_block c found (Some bytes) =
-          either_fits (has_member c.served b) _ _ (λ again. tt)
-          (λ new. nothing_fits (ltb (length c.served) c.pinned.session.repairs) _ (λ few. (subst (λ o. Where o (λ c. (has_member c.served b ≡ false) × (length c.served < c.pinned.session.repairs))) (sym found) (new, ltb-true (length c.served) c.pinned.session.repairs few), tt)))
+      by_block c found (Some bytes) = by_answer c found bytes (answer_of c.voted.served b c.repairs) refl
 
       by_state : (o : Option Cast) → cast_at q s.voter.cast ≡ o → AreFitting own s (request_at q b o).records
       by_state None found = tt
-      by_state (Some c) found = by_block c found (slice_get c.pinned.blocks b)
+      by_state (Some c) found = by_block c found (slice_get c.blocks b)
 
   end_fits : (q : PollName) → AreFitting own s (end_in s.voter q).records
   unfolding end_in

@@ -67,6 +67,10 @@ abbrev pub first_opening : Option Opening → Option Opening → Option Opening
 first_opening None later = later
 first_opening (Some o) later = Some o
 
+pub first_stays : (o : Option Opening) → first_opening o None ≡ o
+first_stays None = refl
+first_stays (Some o) = refl
+
 pub opening_more : (n : ℕ) (js : List Record) (r : Record) → opening_of n (js ++ r ∷ []) ≡ first_opening (opening_of n js) (opening_in n r)
 unfolding opening_of
 opening_more n [] r = only (opening_in n r)

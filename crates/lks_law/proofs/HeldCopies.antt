@@ -10,7 +10,7 @@ use Rattle.lks_base.specs.declared.records.Record.TheVariants.{Deposit, PollOpen
 use Rattle.lks_law.specs.Journal.{Opening, Replacement, Audit, later, deposit_in, deposit_of, replacement_in, replacements, replaced_by, contents_of, opening_in, opening_of, closes, is_closed, is_of_au, audit_after, audit_from, audit_of}
 use Rattle.lks_law.specs.State.{Poll, Copy, copy_at, blocks_in, blocks_at, deposited, opened_at, replaced_in, agreed_at, noted, copy_changed, agreed_on, copies_after, poll_at}
 use Rattle.lks_law.specs.Written.{is_deposit, MayFollow}
-use Rattle.lks_law.proofs.Grown.{first_opening, opening_more, contents_more, replaced_if}
+use Rattle.lks_law.proofs.Grown.{first_opening, opening_more, contents_more, replaced_if, first_stays}
 use Rattle.lks_law.proofs.RunningPolls.{eqb_swap, pushed, filter_map_more, unnamed, polls_of, running_by, poll_found}
 
 -- the latest tick at which a poll on the AU was opened
@@ -183,10 +183,6 @@ audit_same au all longer before (x ∷ xs) h =
 audit_last : (au : ℕ) (all : List Record) (before : Audit) (js : List Record) (r : Record) → audit_from au all before (js ++ r ∷ []) ≡ audit_after au all (audit_from au all before js) r
 audit_last au all before [] r = refl
 audit_last au all before (j ∷ js) r = audit_last au all (audit_after au all before j) js r
-
-first_stays : (o : Option Opening) → first_opening o None ≡ o
-first_stays None = refl
-first_stays (Some o) = refl
 
 -- no opening of a closed poll comes later
 opening_stays : (js : List Record) (r : Record) → MayFollow js r → (k : ℕ) → is_closed k js ≡ true → opening_of k (js ++ r ∷ []) ≡ opening_of k js

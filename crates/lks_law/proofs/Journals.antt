@@ -236,7 +236,7 @@ journal_more plan tick (Some p) s i heard has = (
   },
 )
 
-ordered_later : (tick later : ℕ) (heard : List Heard) → tick ≤ later → AreInOrder tick heard → AreInOrder later heard
+pub ordered_later : (tick later : ℕ) (heard : List Heard) → tick ≤ later → AreInOrder tick heard → AreInOrder later heard
 ordered_later tick later [] le order = tt
 ordered_later tick later (h ∷ hs) le order = let first = order.0 in (omega (arith, le, first), order.1)
 

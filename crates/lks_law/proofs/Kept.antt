@@ -13,7 +13,7 @@ use Rattle.lks_base.specs.declared.records.Record.TheVariants.{PollOpened, Nomin
 use Rattle.lks_law.specs.Journal.{Opening, Repair, said, deposit_in, replacement_if, contents_of, opening_in, opening_of, is_opening, openings, opened_in, opened_numbers, vote_in, is_vote_of, has_voted, is_closed}
 use Rattle.lks_law.specs.Polls.{Station, ObeyQuorumRule, limits_in, limits_of, numbers_in_force, limits_in_force, votes}
 use Rattle.lks_law.specs.Safe.{Evidence, HasEvidence}
-use Rattle.lks_law.proofs.Grown.{first_opening, opening_more, openings_more, numbers_more, numbers_last, closed_more, contents_more, replaced_if, last_or_before}
+use Rattle.lks_law.proofs.Grown.{first_opening, opening_more, openings_more, numbers_more, numbers_last, closed_more, contents_more, replaced_if, last_or_before, first_stays}
 use Rattle.lks_law.proofs.PollStates.{Good, poll_of, poll_after, poll_more, copies_in}
 use Rattle.lks_tally.specs.declared.ballots.Vote.{Vote}
 
@@ -49,10 +49,6 @@ pub record IsPlain (r : Record) : Type 0 where
   pub opening : (n : ℕ) → opening_in n r ≡ None
   pub counted : is_opening r ≡ false
   pub tuned : TunesLawfully (said r).tuned
-
-first_stays : (o : Option Opening) → first_opening o None ≡ o
-first_stays None = refl
-first_stays (Some o) = refl
 
 pub same_opening : (n : ℕ) (js : List Record) (r : Record) → opening_in n r ≡ None → opening_of n (js ++ r ∷ []) ≡ opening_of n js
 same_opening n js r none = opening_more n js r ∙ ap (first_opening (opening_of n js)) none ∙ first_stays (opening_of n js)

@@ -9,7 +9,7 @@ use Rattle.lks_base.specs.declared.records.Record.{Record}
 use Rattle.lks_base.specs.declared.records.Record.TheVariants.{Deposit, PollOpened, Nominated, OuterOpened, VoteIn, Shut, Asked, RepairBad, Replaced, Closed, Overdue, Joined, Committed, Voted, Served, Ended, Tuned}
 use Rattle.lks_law.specs.Journal.{deposit_in, deposit_of, contents_at, contents_of}
 use Rattle.lks_law.specs.Sessions.{Join, Commitment, Turn, is_poll, part_of, join_of, commitment_of, hashes_of_vote, served, is_ended, is_session, may_work, version_now}
-use Rattle.lks_law.specs.Taking.{Session, Pinned, Cast, Voter, session_at, pinned_at, cast_at, joined_as, pinning, casting, serving, turned, turned_by}
+use Rattle.lks_law.specs.Taking.{Session, Pinned, Cast, Voter, session_at, pinned_at, cast_at, joined_as, pinned_to, cast_as, pinning, casting, serving, turned, turned_by}
 use Rattle.lks_law.specs.Written.{MayFollow}
 use Rattle.lks_law.proofs.Keyed.{Apart, first, first_only, same_poll, is_itself, off, on, at_push, at_named, gone, others_without, apart_without, apart_push, at_changed, apart_changed}
 use Rattle.lks_law.proofs.Phases.{Phase, phase, turned_in, phase_quiet, phase_other, phase_mine, nothing_said, version_stays, newest_is, version_grows, deposit_stays}
@@ -25,7 +25,7 @@ abbrev pub session_in : Rules → PollName → Phase → Option Session
 session_in rules q p = session_by rules q p.join p.commitment p.over
 
 abbrev pub pinned_as : Rules → List Record → PollName → Join → Commitment → Pinned
-pinned_as rules js q j c = record { session = joined_as rules q j; commitment = c; blocks = contents_at j.au c.version js }
+pinned_as rules js q j c = pinned_to c (contents_at j.au c.version js) (joined_as rules q j)
 
 abbrev pub pinned_by : Rules → List Record → PollName → Option Join → Option Commitment → Option (List (List ℕ)) → Bool → Option Pinned
 pinned_by rules js q None c h over = None
@@ -40,7 +40,7 @@ abbrev pub cast_by : Rules → List Record → PollName → Option Join → Opti
 cast_by rules js q None c h given over = None
 cast_by rules js q (Some j) None h given over = None
 cast_by rules js q (Some j) (Some c) None given over = None
-cast_by rules js q (Some j) (Some c) (Some h) given over = cond over None (Some (record { pinned = pinned_as rules js q j c; hashes = h; served = given }))
+cast_by rules js q (Some j) (Some c) (Some h) given over = cond over None (Some (cast_as h given (pinned_as rules js q j c)))
 
 abbrev pub cast_in : Rules → List Record → PollName → Phase → Option Cast
 cast_in rules js q p = cast_by rules js q p.join p.commitment p.hashes p.served p.over
@@ -55,13 +55,13 @@ pub record IsProper (js : List Record) (p : Phase) : Type 0 where
   pub there : (j : Join) (c : Commitment) → p.join ≡ Some j → p.commitment ≡ Some c → c.version ≤ version_now j.au js
 
 abbrev pub poll_of_session : Session → PollName
-poll_of_session s = s.poll
+poll_of_session s = s.joined.poll
 
 abbrev pub poll_of_pinned : Pinned → PollName
-poll_of_pinned p = p.session.poll
+poll_of_pinned p = p.committed.joined.poll
 
 abbrev pub poll_of_cast : Cast → PollName
-poll_of_cast c = c.pinned.session.poll
+poll_of_cast c = c.voted.committed.joined.poll
 
 -- the sessions of the state in poll q are those of the journal
 pub record TakesAt (rules : Rules) (js : List Record) (v : Voter) (q : PollName) : Type 0 where
@@ -124,7 +124,7 @@ module _ (js : List Record) (r : Record) (may : MayFollow js r) where
       by_phase (Some j) joins None commits h = refl
       by_phase (Some j) joins (Some c) commits (Some h) = refl
       by_phase (Some j) joins (Some c) commits None =
-          ap (λ bs. cond (is_ended q js) None (Some (record { session = joined_as rules q j; commitment = c; blocks = bs }))) (version_kept q j c proper joins commits)
+          ap (λ bs. cond (is_ended q js) None (Some (pinned_to c bs (joined_as rules q j)))) (version_kept q j c proper joins commits)
 
   pub cast_kept : (rules : Rules) (q : PollName) → IsProper js (phase q js) → cast_in rules (js ++ r ∷ []) q (phase q js) ≡ cast_in rules js q (phase q js)
   cast_kept rules q proper = by_phase (join_of q js) refl (commitment_of q js) refl (hashes_of_vote q js)
@@ -135,7 +135,7 @@ module _ (js : List Record) (r : Record) (may : MayFollow js r) where
       by_phase (Some j) joins None commits h = refl
       by_phase (Some j) joins (Some c) commits None = refl
       by_phase (Some j) joins (Some c) commits (Some h) =
-          ap (λ bs. cond (is_ended q js) None (Some (record { pinned = record { session = joined_as rules q j; commitment = c; blocks = bs }; hashes = h; served = served q js }))) (version_kept q j c proper joins commits)
+          ap (λ bs. cond (is_ended q js) None (Some (cast_as h (served q js) (pinned_to c bs (joined_as rules q j))))) (version_kept q j c proper joins commits)
 
   -- where nothing is said of a poll, its phase stays proper
   pub proper_kept : (q : PollName) → IsProper js (phase q js) → IsProper (js ++ r ∷ []) (phase q js)
@@ -163,28 +163,28 @@ quiet_at rules js r v q may none is =
 -- A turn in another poll.
 
 module _ (rules : Rules) (blocks : ℕ → List (List ℕ)) (n q : PollName) (other : is_poll n q ≡ false) (v : Voter) where
-  push_session : (s : Session) → s.poll ≡ n → session_at q (v.sessions ++ s ∷ []) ≡ session_at q v.sessions
+  push_session : (s : Session) → s.joined.poll ≡ n → session_at q (v.sessions ++ s ∷ []) ≡ session_at q v.sessions
   push_session s is =
       at_push poll_of_session q v.sessions s
-      ∙ ap (first (session_at q v.sessions)) (off (is_poll s.poll q) (Some s) None (ap (λ m. is_poll m q) is ∙ other)) ∙ first_only (session_at q v.sessions)
+      ∙ ap (first (session_at q v.sessions)) (off (is_poll s.joined.poll q) (Some s) None (ap (λ m. is_poll m q) is ∙ other)) ∙ first_only (session_at q v.sessions)
 
-  push_pinned : (p : Pinned) → p.session.poll ≡ n → pinned_at q (v.pinned ++ p ∷ []) ≡ pinned_at q v.pinned
+  push_pinned : (p : Pinned) → p.committed.joined.poll ≡ n → pinned_at q (v.pinned ++ p ∷ []) ≡ pinned_at q v.pinned
   push_pinned p is =
       at_push poll_of_pinned q v.pinned p
-      ∙ ap (first (pinned_at q v.pinned)) (off (is_poll p.session.poll q) (Some p) None (ap (λ m. is_poll m q) is ∙ other)) ∙ first_only (pinned_at q v.pinned)
+      ∙ ap (first (pinned_at q v.pinned)) (off (is_poll p.committed.joined.poll q) (Some p) None (ap (λ m. is_poll m q) is ∙ other)) ∙ first_only (pinned_at q v.pinned)
 
-  push_cast : (c : Cast) → c.pinned.session.poll ≡ n → cast_at q (v.cast ++ c ∷ []) ≡ cast_at q v.cast
+  push_cast : (c : Cast) → c.voted.committed.joined.poll ≡ n → cast_at q (v.cast ++ c ∷ []) ≡ cast_at q v.cast
   push_cast c is =
       at_push poll_of_cast q v.cast c
-      ∙ ap (first (cast_at q v.cast)) (off (is_poll c.pinned.session.poll q) (Some c) None (ap (λ m. is_poll m q) is ∙ other)) ∙ first_only (cast_at q v.cast)
+      ∙ ap (first (cast_at q v.cast)) (off (is_poll c.voted.committed.joined.poll q) (Some c) None (ap (λ m. is_poll m q) is ∙ other)) ∙ first_only (cast_at q v.cast)
 
   pinning_other : (c : Commitment) (o : Option Session) → session_at n v.sessions ≡ o → pinned_at q (v.pinned ++ pinning blocks c o) ≡ pinned_at q v.pinned
   pinning_other c None e = ap (pinned_at q) (append-nil v.pinned)
-  pinning_other c (Some s) e = push_pinned (record { session = s; commitment = c; blocks = blocks s.au }) (at_named poll_of_session n v.sessions s e)
+  pinning_other c (Some s) e = push_pinned (pinned_to c (blocks s.joined.au) s) (at_named poll_of_session n v.sessions s e)
 
   casting_other : (hashes : List (List ℕ)) (o : Option Pinned) → pinned_at n v.pinned ≡ o → cast_at q (v.cast ++ casting hashes o) ≡ cast_at q v.cast
   casting_other hashes None e = ap (cast_at q) (append-nil v.cast)
-  casting_other hashes (Some p) e = push_cast (record { pinned = p; hashes = hashes; served = [] }) (at_named poll_of_pinned n v.pinned p e)
+  casting_other hashes (Some p) e = push_cast (cast_as hashes [] p) (at_named poll_of_pinned n v.pinned p e)
 
   others_sessions : (t : Turn) → session_at q (turned rules blocks n t v).sessions ≡ session_at q v.sessions
   others_sessions (Turn.Joins j) = push_session (joined_as rules n j) refl
@@ -240,7 +240,7 @@ is_off : (b : Bool) → (b ≡ true → ⊥) → b ≡ false
 is_off false never = refl
 is_off true never = absurd (never refl)
 
-turned_off : (b : Bool) → not b ≡ true → b ≡ false
+pub turned_off : (b : Bool) → not b ≡ true → b ≡ false
 turned_off false e = refl
 turned_off true e = absurd cc
 
@@ -335,13 +335,13 @@ module _ (rules : Rules) (blocks : ℕ → List (List ℕ)) (js : List Record) (
       })
       (gone poll_of_session n v.sessions apart.sessions)
       (ap (λ o. pinned_at n (v.pinned ++ pinning blocks c o)) found
-      ∙ at_push poll_of_pinned n v.pinned (record { session = joined_as rules n j; commitment = c; blocks = blocks j.au })
-      ∙ (λ i. first ((is.pinned ∙ ap (pinned_in rules js n) before) i) (on (is_poll n n) (Some (record { session = joined_as rules n j; commitment = c; blocks = sym same i })) None (is_itself n) i)))
+      ∙ at_push poll_of_pinned n v.pinned (pinned_to c (blocks j.au) (joined_as rules n j))
+      ∙ (λ i. first ((is.pinned ∙ ap (pinned_in rules js n) before) i) (on (is_poll n n) (Some (pinned_to c (sym same i) (joined_as rules n j))) None (is_itself n) i)))
       (is.cast ∙ ap (cast_in rules js n) before)
 
   -- the version that was named before the record
   kept_as : (j : Join) (c : Commitment) → MayFollow js r → join_of n js ≡ Some j → commitment_of n js ≡ Some c → pinned_as rules (js ++ r ∷ []) n j c ≡ pinned_as rules js n j c
-  kept_as j c may joins commits = ap (λ bs. record { session = joined_as rules n j; commitment = c; blocks = bs }) (version_kept js r may n j c is.proper joins commits)
+  kept_as j c may joins commits = ap (λ bs. pinned_to c bs (joined_as rules n j)) (version_kept js r may n j c is.proper joins commits)
 
   proper_on : (j : Join) (c : Commitment) (h : Option (List (List ℕ))) (given : List ℕ) (over : Bool) → join_of n js ≡ Some j → commitment_of n js ≡ Some c → (is_some h ≡ false → given ≡ [])
       → IsProper (js ++ r ∷ []) (record { join = Some j; commitment = Some c; hashes = h; served = given; over = over })
@@ -372,8 +372,8 @@ module _ (rules : Rules) (blocks : ℕ → List (List ℕ)) (js : List Record) (
       (is.sessions ∙ ap (session_in rules n) before)
       (gone poll_of_pinned n v.pinned apart.pinned)
       (ap (λ o. cast_at n (v.cast ++ casting hashes o)) (is.pinned ∙ ap (pinned_in rules js n) before)
-      ∙ at_push poll_of_cast n v.cast (record { pinned = pinned_as rules js n j c; hashes = hashes; served = [] })
-      ∙ (λ i. first ((is.cast ∙ ap (cast_in rules js n) before) i) (on (is_poll n n) (Some (record { pinned = sym (kept_as j c may joins commits) i; hashes = hashes; served = [] })) None (is_itself n) i)))
+      ∙ at_push poll_of_cast n v.cast (cast_as hashes [] (pinned_as rules js n j c))
+      ∙ (λ i. first ((is.cast ∙ ap (cast_in rules js n) before) i) (on (is_poll n n) (Some (cast_as hashes [] (sym (kept_as j c may joins commits) i))) None (is_itself n) i)))
 
   serves_mine : (block : ℕ) → MayFollow js r → part_of r ≡ Some (record { poll = n; turn = Turn.Serves block }) → is_session n js ≡ true → is_some (hashes_of_vote n js) ≡ true
       → TakesAt rules (js ++ r ∷ []) (turned rules blocks n (Turn.Serves block) v) n
@@ -392,7 +392,7 @@ module _ (rules : Rules) (blocks : ℕ → List (List ℕ)) (js : List Record) (
       (at_changed poll_of_cast (serving block) (λ c. refl) n n v.cast
       ∙ on (is_poll n n) (option_map (serving block) (cast_at n v.cast)) (cast_at n v.cast) (is_itself n)
       ∙ ap (option_map (serving block)) (is.cast ∙ ap (cast_in rules js n) before)
-      ∙ ap (λ p. Some (record { pinned = p; hashes = h; served = served n js ++ block ∷ [] })) (sym (kept_as j c may joins commits)))
+      ∙ ap (λ p. Some (cast_as h (served n js ++ block ∷ []) p)) (sym (kept_as j c may joins commits)))
 
   ends_mine : part_of r ≡ Some (record { poll = n; turn = Turn.Ends }) → MayFollow js r → is_session n js ≡ true → TakesAt rules (js ++ r ∷ []) (turned rules blocks n Turn.Ends v) n
   unfolding is_session
@@ -473,12 +473,12 @@ module _ (rules : Rules) (blocks : ℕ → List (List ℕ)) (js : List Record) (
   apart_pinning : (n : PollName) (c : Commitment) (o : Option Session) → session_at n v.sessions ≡ o → pinned_at n v.pinned ≡ None → Apart poll_of_pinned (v.pinned ++ pinning blocks c o)
   apart_pinning n c None found new = subst (Apart poll_of_pinned) (sym (append-nil v.pinned)) apart.pinned
   apart_pinning n c (Some s) found new =
-      apart_push poll_of_pinned v.pinned (record { session = s; commitment = c; blocks = blocks s.au }) apart.pinned (ap (λ m. pinned_at m v.pinned) (at_named poll_of_session n v.sessions s found) ∙ new)
+      apart_push poll_of_pinned v.pinned (pinned_to c (blocks s.joined.au) s) apart.pinned (ap (λ m. pinned_at m v.pinned) (at_named poll_of_session n v.sessions s found) ∙ new)
 
   apart_casting : (n : PollName) (hashes : List (List ℕ)) (o : Option Pinned) → pinned_at n v.pinned ≡ o → cast_at n v.cast ≡ None → Apart poll_of_cast (v.cast ++ casting hashes o)
   apart_casting n hashes None found new = subst (Apart poll_of_cast) (sym (append-nil v.cast)) apart.cast
   apart_casting n hashes (Some p) found new =
-      apart_push poll_of_cast v.cast (record { pinned = p; hashes = hashes; served = [] }) apart.cast (ap (λ m. cast_at m v.cast) (at_named poll_of_pinned n v.pinned p found) ∙ new)
+      apart_push poll_of_cast v.cast (cast_as hashes [] p) apart.cast (ap (λ m. cast_at m v.cast) (at_named poll_of_pinned n v.pinned p found) ∙ new)
 
   pub turned_apart : (r : Record) → MayFollow js r → AreApart (turned_by rules blocks (part_of r) v)
   turned_apart (Joined n au tick low repairs) may =

@@ -10,7 +10,7 @@ use Rattle.lks_law.specs.Journal.{Opening, Request, contents_of, opening_in, ope
 use Rattle.lks_law.specs.Polls.{Station, limits_of, ballot_of, votes, inner_votes, said_at}
 use Rattle.lks_tally.specs.Distinct.{AreDistinct}
 use Rattle.lks_law.specs.Facts.{IsPollOf}
-use Rattle.lks_law.proofs.Grown.{first_opening, votes_after, opening_more, votes_more, shut_more, closed_more, asked_more, unanswered_more, waiting_more}
+use Rattle.lks_law.proofs.Grown.{first_opening, votes_after, opening_more, votes_more, shut_more, closed_more, asked_more, unanswered_more, waiting_more, first_stays}
 use Rattle.lks_tally.specs.declared.ballots.At.TheVariants as at
 use Rattle.lks_tally.specs.declared.ballots.Vote.{Vote}
 use Rattle.lks_tally.specs.Counting.{verdict_at}
@@ -93,12 +93,8 @@ parts_more n js r = λ i. record {
   waiting = waiting_more n js r i;
 }
 
-same_opening : (o : Option Opening) → first_opening o None ≡ o
-same_opening None = refl
-same_opening (Some o) = refl
-
 same_poll : (p : Poll) → record p { opening = first_opening p.opening None } ≡ p
-same_poll p = λ i. record p { opening = same_opening p.opening i }
+same_poll p = λ i. record p { opening = first_stays p.opening i }
 
 opening_by : (p : Poll) (o : Opening) (b : Bool) → record p { opening = first_opening p.opening (cond b (Some o) None) } ≡ cond b (opened_as o p) p
 opening_by p o true = refl

@@ -12,11 +12,11 @@ use Rattle.lks_base.specs.declared.records.Record.TheVariants.{Deposit, PollOpen
 use Rattle.lks_law.specs.Firsts.{without_first}
 use Rattle.lks_law.specs.Journal.{contents_of}
 use Rattle.lks_law.specs.Sessions.{Join, Commitment, Turn, Part, is_poll, part_of, ends, joined_in, committed_in, join_of, commitment_of, hashes_of_vote, served, is_ended, is_session, joined_polls, committed_polls, sessions, may_work, received, given, low_part, last_low}
-use Rattle.lks_law.specs.Taking.{Pinned, Voter, is_session_of, is_pinned_of, is_cast_of, session_at, pinned_at, cast_at, joined_as, pinning, casting, serving, turned_by, mark_at, newcomer, voter_after}
+use Rattle.lks_law.specs.Taking.{Pinned, Voter, is_session_of, is_pinned_of, is_cast_of, session_at, pinned_at, cast_at, joined_as, pinned_to, cast_as, pinning, casting, serving, turned_by, mark_at, newcomer, voter_after}
 use Rattle.lks_law.specs.Written.{MayFollow}
 use Rattle.lks_law.proofs.Counts.{itself, stands_in, joined_stands, committed_stands, ended_more, joined_more, committed_more, count_push, count_gone, filter_same, filter_left, mark_of, marks_more, low_more}
 use Rattle.lks_law.proofs.Keyed.{Apart, at, apart_push, same_poll, is_itself, is_swapped, one_less, absent_without, names_left, names_push, length_push, length_changed}
-use Rattle.lks_law.proofs.Parts.{TakesAt, AreApart, session_in, pinned_in, session_by, pinned_by, cast_by, poll_of_session, poll_of_pinned, poll_of_cast, none_of, begun_phase, joined_phase, committed_phase, voted_phase, turned_at, turned_apart}
+use Rattle.lks_law.proofs.Parts.{TakesAt, AreApart, session_in, pinned_in, session_by, pinned_by, cast_by, poll_of_session, poll_of_pinned, poll_of_cast, none_of, begun_phase, joined_phase, committed_phase, voted_phase, turned_at, turned_apart, turned_off}
 use Rattle.lks_law.proofs.Phases.{Phase, phase, turned_in, phase_quiet, phase_other, phase_mine}
 use Rattle.lks_law.proofs.RunningPolls.{pushed}
 
@@ -155,11 +155,7 @@ module _ (rules : Rules) (blocks : ℕ → List (List ℕ)) (js : List Record) (
       parts = and_parts (is_some (join_of n js)) (not (is_ended n js)) opened
 
       on : is_ended n js ≡ false
-      on = by_test (is_ended n js) parts.1
-        where
-          by_test : (b : Bool) → not b ≡ true → b ≡ false
-          by_test false e = refl
-          by_test true e = absurd cc
+      on = turned_off (is_ended n js) parts.1
 
       none_session : session_at n v.sessions ≡ None → length (without_first (is_session_of n) v.sessions) ≡ length v.sessions
       none_session e = ap length (absent_without poll_of_session n v.sessions e)
@@ -191,10 +187,10 @@ module _ (rules : Rules) (blocks : ℕ → List (List ℕ)) (js : List Record) (
 
   pinned_grows : (n : PollName) (c : Commitment) (j : Join) → session_at n v.sessions ≡ Some (joined_as rules n j) → length (v.pinned ++ pinning blocks c (session_at n v.sessions)) ≡ length v.pinned + 1
   pinned_grows n c j found =
-      ap (λ o. length (v.pinned ++ pinning blocks c o)) found ∙ length_push poll_of_pinned v.pinned (record { session = joined_as rules n j; commitment = c; blocks = blocks j.au })
+      ap (λ o. length (v.pinned ++ pinning blocks c o)) found ∙ length_push poll_of_pinned v.pinned (pinned_to c (blocks j.au) (joined_as rules n j))
 
   cast_grows : (n : PollName) (hashes : List (List ℕ)) (p : Pinned) → pinned_at n v.pinned ≡ Some p → length (v.cast ++ casting hashes (pinned_at n v.pinned)) ≡ length v.cast + 1
-  cast_grows n hashes p found = ap (λ o. length (v.cast ++ casting hashes o)) found ∙ length_push poll_of_cast v.cast (record { pinned = p; hashes = hashes; served = [] })
+  cast_grows n hashes p found = ap (λ o. length (v.cast ++ casting hashes o)) found ∙ length_push poll_of_cast v.cast (cast_as hashes [] p)
 
   count_more : (r : Record) → MayFollow js r → opened_in (turned_by rules blocks (part_of r) v) ≡ sessions (js ++ r ∷ [])
   count_more (Joined n au tick low repairs) may =
@@ -290,7 +286,7 @@ module _ (rules : Rules) (blocks : ℕ → List (List ℕ)) (js : List Record) (
 
   names_pinned : (n : PollName) (c : Commitment) (j : Join) → session_at n v.sessions ≡ Some (joined_as rules n j) → map poll_of_pinned (v.pinned ++ pinning blocks c (session_at n v.sessions)) ≡ map poll_of_pinned v.pinned ++ n ∷ []
   names_pinned n c j found =
-      ap (λ o. map poll_of_pinned (v.pinned ++ pinning blocks c o)) found ∙ names_push poll_of_pinned v.pinned (record { session = joined_as rules n j; commitment = c; blocks = blocks j.au })
+      ap (λ o. map poll_of_pinned (v.pinned ++ pinning blocks c o)) found ∙ names_push poll_of_pinned v.pinned (pinned_to c (blocks j.au) (joined_as rules n j))
 
   order_more : (r : Record) → MayFollow js r → map poll_of_pinned (turned_by rules blocks (part_of r) v).pinned ≡ filter (λ q. may_work q (js ++ r ∷ [])) (committed_polls (js ++ r ∷ []))
   order_more (Joined n au tick low repairs) may =

@@ -89,9 +89,9 @@ works_are : (own : Station) (js : List Record) → AreWritten [] js → works_on
 unfolding works_on works_at
 works_are own js written = named_so (state_of own js).voter.pinned ∙ ap (map (Work own.id)) (state_stands own js written).voter.order
   where
-    named_so : (ps : List Pinned) → map (λ (p : Pinned). Work own.id p.session.poll) ps ≡ map (Work own.id) (map poll_of_pinned ps)
+    named_so : (ps : List Pinned) → map (λ (p : Pinned). Work own.id p.committed.joined.poll) ps ≡ map (Work own.id) (map poll_of_pinned ps)
     named_so [] = refl
-    named_so (p ∷ ps) = ap (λ ss. Work own.id p.session.poll ∷ ss) (named_so ps)
+    named_so (p ∷ ps) = ap (λ ss. Work own.id p.committed.joined.poll ∷ ss) (named_so ps)
 
 tallies_are : (own : Station) (js : List Record) → AreWritten [] js → opened_numbers js ≡ range_with_len 1 (openings js) → tallies_on own (state_of own js) ≡ tallies_at (record { own = own; journal = js })
 unfolding tallies_on tallies_at

@@ -1,11 +1,9 @@
 -- What a voter adds: nothing, or one record of its part in a poll, or of its numbers, which may follow the journal.
-use Rattle.std.proofs.Common.{◌≡◌, ap, ℕ, Bool, true, false, cond, not, List, [], ◌∷◌, length, refl}
+use Rattle.std.proofs.Common.{◌≡◌, ap, ℕ, Bool, true, false, cond, not, List, [], ◌∷◌, refl}
 use Rattle.std.specs.Prelude.{Option, Some, None, is_some, option_map, map, ◌&&◌, nat_lt, nat_le, slice_get}
 use Rattle.std.proofs.lemmas.Bool.{and_parts, and_from}
-use Rattle.lks_base.specs.Checking.{has_member}
 use Rattle.lks_base.specs.Quorums.{obeys_quorum_rule}
 use Rattle.lks_base.specs.declared.limits.TheConstants.{MOST_REPAIRS}
-use Rattle.lks_base.specs.declared.messages.Message.TheVariants as message
 use Rattle.lks_base.specs.declared.names.HashKind.{HashKind}
 use Rattle.lks_base.specs.declared.names.Judged.{Judged}
 use Rattle.lks_base.specs.declared.names.Judged.TheVariants.{NotAsked, Accepted, Refused}
@@ -16,11 +14,14 @@ use Rattle.lks_base.specs.declared.records.Record.TheVariants as records
 use Rattle.lks_law.specs.Facts.{unnumbered}
 use Rattle.lks_law.specs.Journal.{deposit_of, contents_at}
 use Rattle.lks_law.specs.Polls.{Station}
-use Rattle.lks_law.specs.Reaction.{nothing, letter}
+use Rattle.lks_law.specs.Reaction.{nothing}
 use Rattle.lks_law.specs.References.{reference_list}
 use Rattle.lks_law.specs.Sessions.{Join, Commitment, join_of, commitment_of, hashes_of_vote, served, is_session, may_work, sessions, version_now}
-use Rattle.lks_law.specs.Voting.{answers, challenge, may_join, joined, on_invitation, repeats, commits, proved_to, on_proof, worked, on_work, most_served, serves, requested, on_request, on_end, may_tune, on_tune}
+use Rattle.lks_law.specs.Voting.{answers, challenge, may_join, joined, on_invitation, repeats, commits, proved_to, on_proof, worked, on_work, most_served, gives, serves, requested, on_request, on_end, may_tune, on_tune}
 use Rattle.lks_law.specs.Written.{MayFollow}
+use Rattle.lks_voter.specs.Voting.{answer_of}
+use Rattle.lks_voter.specs.declared.commitments.Serve.{Serve}
+use Rattle.lks_voter.specs.declared.commitments.Serve.TheVariants.{First, Again, Spent}
 
 -- whether the record is of the peer's part in a poll, or of its numbers, which obey the quorum rule
 abbrev pub IsVoters : Record → Type 0
@@ -64,10 +65,6 @@ module _ (own : Station) (js : List Record) where
   if_adds : (b : Bool) (r : Reaction) → (b ≡ true → VoterAdds js r.records) → VoterAdds js (cond b r nothing).records
   if_adds true r one = one refl
   if_adds false r one = tt
-
-  off : (b : Bool) → not b ≡ true → b ≡ false
-  off false e = refl
-  off true e = absurd cc
 
   none_of : {X : Type 0} (o : Option X) → not (is_some o) ≡ true → o ≡ None
   none_of None e = refl
@@ -119,9 +116,12 @@ module _ (own : Station) (js : List Record) where
     where
       by_block : is_session q js ≡ true → is_some (hashes_of_vote q js) ≡ true → (j : Join) (o : Option (List ℕ)) → VoterAdds js (serves q b (most_served own.rules j.repairs) (served q js) o).records
       by_block runs voted j None = tt
-      by_block runs voted j (Some bytes) =
-          either_adds (has_member (served q js) b) (answers (letter (message.Repair q.number b bytes) q.poller)) _ (λ again. tt)
-          (λ new. if_adds (nat_lt (length (served q js)) (most_served own.rules j.repairs)) _ (λ few. record { voters = tt; follows = (runs, voted) }))
+      by_block runs voted j (Some bytes) = by_answer (answer_of (served q js) b (most_served own.rules j.repairs))
+        where
+          by_answer : (a : Serve) → VoterAdds js (gives q b bytes a).records
+          by_answer First = record { voters = tt; follows = (runs, voted) }
+          by_answer Again = tt
+          by_answer Spent = tt
 
       by_session : is_session q js ≡ true → (j : Option Join) (c : Option Commitment) (h : Option (List (List ℕ))) → hashes_of_vote q js ≡ h → VoterAdds js (requested own js q b j c h).records
       by_session runs None c h eh = tt

@@ -63,9 +63,9 @@ version_at au copies = version_in (copy_at au copies)
 
 -- in whichever state the session is
 abbrev pub proof_at : Station → List Copy → List ℕ → PollName → List ℕ → HashKind → Judged → Option Session → Option Pinned → Option Cast → Reaction
-proof_at own copies refs q nonce kind judged (Some s) p c = commits own refs q (version_at s.au copies) nonce kind judged
-proof_at own copies refs q nonce kind judged None (Some p) c = commits_again own refs q p.commitment nonce kind None
-proof_at own copies refs q nonce kind judged None None (Some c) = commits_again own refs q c.pinned.commitment nonce kind (Some c.hashes)
+proof_at own copies refs q nonce kind judged (Some s) p c = commits own refs q (version_at s.joined.au copies) nonce kind judged
+proof_at own copies refs q nonce kind judged None (Some p) c = commits_again own refs q p.committed.commitment nonce kind None
+proof_at own copies refs q nonce kind judged None None (Some c) = commits_again own refs q c.voted.committed.commitment nonce kind (Some c.voted.hashes)
 proof_at own copies refs q nonce kind judged None None None = nothing
 
 unfoldable pub proof_in : Station → Voter → List Copy → List ℕ → PollName → List ℕ → HashKind → Judged → Reaction
@@ -76,7 +76,7 @@ proof_in own v copies refs q nonce kind judged =
 
 -- the hashes of the vote in a committed session
 unfoldable pub hashes_for : Station → Pinned → List (List ℕ)
-hashes_for own p = vote_hashes own.id p.session.poll p.session.au p.commitment p.blocks
+hashes_for own p = vote_hashes own.id p.committed.joined.poll p.committed.joined.au p.committed.commitment p.blocks
 
 abbrev pub work_at : Station → PollName → Option Pinned → Reaction
 work_at own q None = nothing
@@ -89,7 +89,7 @@ work_in own v q = work_at own q (pinned_at q v.pinned)
 
 abbrev pub request_at : PollName → ℕ → Option Cast → Reaction
 request_at q b None = nothing
-request_at q b (Some c) = serves q b c.pinned.session.repairs c.served (slice_get c.pinned.blocks b)
+request_at q b (Some c) = serves q b c.repairs c.voted.served (slice_get c.blocks b)
 
 unfoldable pub request_in : Voter → PollName → ℕ → Reaction
 request_in v q b = request_at q b (cast_at q v.cast)

@@ -13,6 +13,8 @@ use Rattle.lks_law.specs.Reacting.{verdict_of}
 use Rattle.lks_law.specs.State.{Poll, Copy, State, poll_at, copy_at, blocks_at, after}
 use Rattle.lks_law.specs.Taking.{Session, Pinned, Cast, Mark, Voter, cast_at}
 use Rattle.lks_tally.specs.declared.ballots.Verdict.TheVariants as verdict
+use Rattle.lks_voter.specs.Voting.{answer_of}
+use Rattle.lks_voter.specs.declared.commitments.Serve.TheVariants.{First}
 
 -- what is true of it, where it is there
 abbrev pub Where : {X : Type 0} → Option X → (X → Type 0) → Type 0
@@ -54,6 +56,10 @@ has_mark_left m = nat_lt m.received most_numbered && nat_lt m.given most_numbere
 abbrev pub marks_left : Voter → Bool
 marks_left v = list_all has_mark_left v.marks
 
+-- a block is a new one for the poller, which may have one more
+abbrev pub MayHave : ℕ → Cast → Type 0
+MayHave block c = answer_of c.voted.served block c.repairs ≡ First
+
 -- A deposit has blocks, and comes before any poll; a poll is opened on a held AU; a voter of a running one votes once, with a
 -- hash for each block; a voter is asked for a block that the AU has, once voting ended and while nobody is waited for; a block
 -- that the AU has is replaced; a poll of another is joined on a held AU; a new block is given while more may be; and numbers in
@@ -77,7 +83,7 @@ Fits own s (Overdue au tick) = Unit {0}
 Fits own s (Joined poll au tick low repairs) = is_some (copy_at au s.copies) ≡ true
 Fits own s (Committed poll nonce version kind) = Unit {0}
 Fits own s (Voted poll hashes) = (length hashes ≤ MOST_BLOCKS) × (marks_left s.voter ≡ true)
-Fits own s (Served poll block) = Where (cast_at poll s.voter.cast) (λ c. (has_member c.served block ≡ false) × (length c.served < c.pinned.session.repairs))
+Fits own s (Served poll block) = Where (cast_at poll s.voter.cast) (MayHave block)
 Fits own s (Ended poll) = Unit {0}
 Fits own s (Tuned quorum minority repairs) = AreLegal quorum minority × (repairs ≤ MOST_REPAIRS)
 
@@ -92,7 +98,7 @@ AsksWithin copies p = Where p.request (λ r. r.block < length (blocks_at p.openi
 
 -- the AU of a session is held
 abbrev pub IsOnHeld : List Copy → Session → Type 0
-IsOnHeld copies x = is_some (copy_at x.au copies) ≡ true
+IsOnHeld copies x = is_some (copy_at x.joined.au copies) ≡ true
 
 -- a version that is pinned has as many blocks as an AU has, none of them too large
 abbrev pub IsPinnedWell : Pinned → Type 0
@@ -100,7 +106,7 @@ IsPinnedWell p = AreWell p.blocks
 
 -- and its vote no more hashes
 abbrev pub IsCastWell : Cast → Type 0
-IsCastWell c = IsPinnedWell c.pinned × (length c.hashes ≤ MOST_BLOCKS)
+IsCastWell c = AreWell c.blocks × (length c.voted.hashes ≤ MOST_BLOCKS)
 
 -- each copy has as many blocks as an AU has, none of them too large; each request of a running poll is for one of them; each
 -- session is on a held AU, and what it pins is such a copy; and a poll may be opened with the numbers in force

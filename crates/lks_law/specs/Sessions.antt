@@ -1,12 +1,12 @@
 -- What a journal says of the peer's part in polls of others.
 use Rattle.std.specs.Prelude.{ℕ, Bool, true, false, not, ◌==◌, ◌&&◌, if◌then◌else◌, Option, Some, None, is_some, option_map, option_and_then, List, [], ◌∷◌, length, count_by}
 use Rattle.std.specs.List.{list_any, filter_map}
-use Rattle.lks_base.specs.declared.names.HashKind.{HashKind}
 use Rattle.lks_base.specs.declared.names.PollName.{PollName}
 use Rattle.lks_base.specs.declared.records.Record.{Record}
 use Rattle.lks_base.specs.declared.records.Record.TheVariants.{Deposit, PollOpened, Nominated, OuterOpened, VoteIn, Shut, Asked, RepairBad, Replaced, Closed, Overdue, Joined, Committed, Voted, Served, Ended, Tuned}
 use Rattle.lks_law.specs.Journal.{Told, said, later, replacements}
 use Rattle.lks_tally.specs.declared.ballots.Vote.{Vote}
+pub use Rattle.lks_voter.specs.States.{Commitment}
 
 -- how a peer joined a poll
 pub record Join : Type 0 where
@@ -14,12 +14,6 @@ pub record Join : Type 0 where
   pub tick : ℕ
   pub low : Bool  -- whether the poller's grade was low
   pub repairs : Option ℕ  -- how many blocks it may give the poller, which may be the rules' number
-
--- what it committed to
-pub record Commitment : Type 0 where
-  pub nonce : List ℕ
-  pub version : ℕ
-  pub kind : HashKind
 
 -- one turn of its part in a poll
 pub data Turn : Type 0 where

@@ -7,24 +7,26 @@ use Rattle.lks_law.specs.Firsts.{changed_first, without_first}
 use Rattle.lks_law.specs.Journal.{Told, said}
 use Rattle.lks_law.specs.Sessions.{Join, Commitment, Turn, Part, is_poll, part_of, low_part}
 use Rattle.lks_tally.specs.declared.ballots.Vote.{Vote}
+use Rattle.lks_voter.specs.States.{Joining, Committing}
+use Rattle.lks_voter.specs.Voting as voting
+use Rattle.lks_voter.specs.declared.commitments.Serve.TheVariants.{First}
 
 -- a poll of another that the peer joined
 pub record Session : Type 0 where
-  pub poll : PollName
-  pub au : ℕ
+  pub joined : Joining
   pub repairs : ℕ  -- how many blocks it gives the poller at most
 
 -- a session that is committed: it keeps the blocks of its version, whatever is replaced
 pub record Pinned : Type 0 where
-  pub session : Session
-  pub commitment : Commitment
+  pub committed : Committing
+  pub repairs : ℕ
   pub blocks : List (List ℕ)
 
--- a session in which the peer voted
+-- a session in which the peer voted, with the blocks that it gave
 pub record Cast : Type 0 where
-  pub pinned : Pinned
-  pub hashes : List (List ℕ)
-  pub served : List ℕ  -- the blocks that it gave, in order
+  pub voted : voting.Vote
+  pub repairs : ℕ
+  pub blocks : List (List ℕ)
 
 -- how many votes a peer gave us, and we it
 pub record Mark : Type 0 where
@@ -48,13 +50,13 @@ newcomer = record { sessions = []; pinned = []; cast = []; ended = []; marks = [
 -- Sessions by the names of their polls.
 
 abbrev pub is_session_of : PollName → Session → Bool
-is_session_of q s = is_poll s.poll q
+is_session_of q s = is_poll s.joined.poll q
 
 abbrev pub is_pinned_of : PollName → Pinned → Bool
-is_pinned_of q p = is_poll p.session.poll q
+is_pinned_of q p = is_poll p.committed.joined.poll q
 
 abbrev pub is_cast_of : PollName → Cast → Bool
-is_cast_of q c = is_poll c.pinned.session.poll q
+is_cast_of q c = is_poll c.voted.committed.joined.poll q
 
 abbrev pub session_at : PollName → List Session → Option Session
 session_at q ss = find (is_session_of q) ss
@@ -67,21 +69,28 @@ cast_at q cs = find (is_cast_of q) cs
 
 -- a session has this number, or the rules' where it has none
 abbrev pub joined_as : Rules → PollName → Join → Session
-joined_as rules q j = record { poll = q; au = j.au; repairs = unwrap_or j.repairs rules.repairs }
+joined_as rules q j = record { joined = record { poll = q; au = j.au; tick = j.tick; low = j.low }; repairs = unwrap_or j.repairs rules.repairs }
 
--- the session is committed to the version whose blocks these are
+-- the session is committed to the version that has these blocks
+abbrev pub pinned_to : Commitment → List (List ℕ) → Session → Pinned
+pinned_to c blocks s = record { committed = record { joined = s.joined; commitment = c }; repairs = s.repairs; blocks = blocks }
+
+-- where each AU has these
 abbrev pub pinning : (ℕ → List (List ℕ)) → Commitment → Option Session → List Pinned
 pinning blocks c None = []
-pinning blocks c (Some s) = record { session = s; commitment = c; blocks = blocks s.au } ∷ []
+pinning blocks c (Some s) = pinned_to c (blocks s.joined.au) s ∷ []
 
--- the peer voted in it
+-- the peer voted in it, and gave these blocks
+abbrev pub cast_as : List (List ℕ) → List ℕ → Pinned → Cast
+cast_as hashes served p = record { voted = record { committed = p.committed; hashes = hashes; served = served }; repairs = p.repairs; blocks = p.blocks }
+
 abbrev pub casting : List (List ℕ) → Option Pinned → List Cast
 casting hashes None = []
-casting hashes (Some p) = record { pinned = p; hashes = hashes; served = [] } ∷ []
+casting hashes (Some p) = cast_as hashes [] p ∷ []
 
--- it gave a block
+-- it gave a new block
 abbrev pub serving : ℕ → Cast → Cast
-serving block c = record c { served = c.served ++ block ∷ [] }
+serving block c = record c { voted = voting.after c.voted block First }
 
 -- after a turn in poll q, where each AU has these blocks
 abbrev pub turned : Rules → (ℕ → List (List ℕ)) → PollName → Turn → Voter → Voter

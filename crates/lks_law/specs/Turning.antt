@@ -12,7 +12,7 @@ use Rattle.lks_law.specs.Taking.{Pinned, Voter}
 
 -- the votes for which the peer is ready, in order of its commitments
 unfoldable pub works_on : Station → Voter → List PeerStep
-works_on own v = map (λ (p : Pinned). Work own.id p.session.poll) v.pinned
+works_on own v = map (λ (p : Pinned). Work own.id p.committed.joined.poll) v.pinned
 
 -- the tally of a running poll that is shut and waits for nothing
 abbrev pub ready_in : ℕ → Poll → Option PeerStep

@@ -1,14 +1,12 @@
 -- What a peer adds to its journal and sends as a voter in polls of others, one definition for each thing that it does or
 -- receives, and what it does for its operator's numbers. Where a condition doesn't hold, nothing is added and nothing sent.
-use Rattle.std.specs.Prelude.{ℕ, Bool, true, false, not, ◌&&◌, ◌==◌, ◌+◌, ◌*◌, ◌%◌, nat_lt, nat_le, if◌then◌else◌, Option, Some, None, is_some, unwrap_or, List, [], ◌∷◌, length, slice_get}
-use Rattle.std.specs.Cmp.Lexicographic.{pointwise}
+use Rattle.std.specs.Prelude.{ℕ, Bool, true, false, not, ◌&&◌, ◌+◌, ◌*◌, ◌%◌, nat_lt, nat_le, if◌then◌else◌, Option, Some, None, is_some, unwrap_or, List, [], ◌∷◌, length, slice_get}
 use Rattle.lks_base.specs.Checking.{has_member}
 use Rattle.lks_base.specs.Kinds.{is_second}
 use Rattle.lks_base.specs.Quorums.{obeys_quorum_rule}
 use Rattle.lks_base.specs.declared.limits.TheConstants.{MOST_NOMINEES, MOST_REPAIRS}
 use Rattle.lks_base.specs.declared.messages.Message.TheVariants as message
 use Rattle.lks_base.specs.declared.names.HashKind.{HashKind}
-use Rattle.lks_base.specs.declared.names.HashKind.TheVariants.{Sha256, Sha512_256}
 use Rattle.lks_base.specs.declared.names.Judged.{Judged}
 use Rattle.lks_base.specs.declared.names.Judged.TheVariants.{NotAsked, Accepted, Refused}
 use Rattle.lks_base.specs.declared.names.PollName.{PollName}
@@ -28,6 +26,10 @@ use Rattle.lks_law.specs.Polls.{Station, numbers_in_force}
 use Rattle.lks_law.specs.Reaction.{nothing, letter}
 use Rattle.lks_law.specs.References.{reference_list}
 use Rattle.lks_law.specs.Sessions.{Join, Commitment, join_of, commitment_of, hashes_of_vote, served, is_session, sessions, received, given, last_low, version_now}
+use Rattle.lks_voter.specs.Voting.{answer_of}
+use Rattle.lks_voter.specs.declared.commitments.Serve.{Serve}
+use Rattle.lks_voter.specs.declared.commitments.Serve.TheVariants.{First, Again, Spent}
+unfoldable pub use Rattle.lks_voter.specs.States.{repeats}
 
 -- the poll of this poller with this number
 abbrev pub named : ℕ → ℕ → PollName
@@ -79,15 +81,6 @@ nominees own refs q = picked_by (drawn_from own.seed 5 (draw_number q)) refs MOS
 abbrev pub nominates : Station → List ℕ → PollName → Outgoing
 nominates own refs q = letter (message.Nominate q.number (nominees own refs q)) q.poller
 
-abbrev pub is_kind : HashKind → HashKind → Bool
-is_kind Sha256 Sha256 = true
-is_kind Sha256 Sha512_256 = false
-is_kind Sha512_256 Sha256 = false
-is_kind Sha512_256 Sha512_256 = true
-
-unfoldable pub repeats : Commitment → List ℕ → HashKind → Bool
-repeats c nonce kind = pointwise ◌==◌ c.nonce nonce && is_kind c.kind kind
-
 abbrev pub vote_again : Station → PollName → Option (List (List ℕ)) → List Outgoing
 vote_again own q None = []
 vote_again own q (Some hashes) = letter (message.Vote q.number hashes own.proof) q.poller ∷ []
@@ -135,12 +128,17 @@ on_work own journal q = if is_session q journal then worked own journal q (join_
 abbrev pub most_served : Rules → Option ℕ → ℕ
 most_served rules repairs = unwrap_or repairs rules.repairs
 
+abbrev pub repair : PollName → ℕ → List ℕ → Outgoing
+repair q b bytes = letter (message.Repair q.number b bytes) q.poller
+
+abbrev pub gives : PollName → ℕ → List ℕ → Serve → Reaction
+gives q b bytes First = adds (records.Served q b) (repair q b bytes)
+gives q b bytes Again = answers (repair q b bytes)
+gives q b bytes Spent = nothing
+
 abbrev pub serves : PollName → ℕ → ℕ → List ℕ → Option (List ℕ) → Reaction
 serves q b most before None = nothing
-serves q b most before (Some bytes) =
-    if has_member before b then answers (letter (message.Repair q.number b bytes) q.poller)
-    else if nat_lt (length before) most then adds (records.Served q b) (letter (message.Repair q.number b bytes) q.poller)
-    else nothing
+serves q b most before (Some bytes) = gives q b bytes (answer_of before b most)
 
 abbrev pub requested : Station → List Record → PollName → ℕ → Option Join → Option Commitment → Option (List (List ℕ)) → Reaction
 requested own journal q b None c hashes = nothing

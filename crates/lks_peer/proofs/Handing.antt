@@ -62,7 +62,7 @@ module _ (own : Station) (places : List Place) (peer : ℕ) (mine : peer ≡ own
       by_found : (o : Option Pinned) → pinned_at q ps ≡ o → IsVoteIn own places o (Some j) → names.Vote j.peer j.poll ≡ names.Vote peer q
       by_found None found is = absurd is
       by_found (Some p) found is =
-          let poll : j.poll ≡ q = is.poll ∙ same_poll p.session.poll q (passes (is_pinned_of q) ps p found) in
+          let poll : j.poll ≡ q = is.poll ∙ same_poll p.committed.joined.poll q (passes (is_pinned_of q) ps p found) in
           λ i. names.Vote ((is.peer ∙ sym mine) i) (poll i)
 
   -- a tally

@@ -62,11 +62,11 @@ ready_later f xs ys k high =
 
 -- and then the tallies
 pub tallies_later : (id k votes : ℕ) (pinned : List Pinned) (held ss : List Polled) → held ≡ ss → votes ≡ length pinned → votes ≤ k
-    → slice_get (filter_map (λ s. ready_in id (poll_of s)) held) (k - votes) ≡ slice_get (map (λ (p : Pinned). Work id p.session.poll) pinned ++ filter_map (ready_in id) (polls_of ss)) k
+    → slice_get (filter_map (λ s. ready_in id (poll_of s)) held) (k - votes) ≡ slice_get (map (λ (p : Pinned). Work id p.committed.joined.poll) pinned ++ filter_map (ready_in id) (polls_of ss)) k
 tallies_later id k votes pinned held ss same count high =
     (λ i. slice_get (filter_map (λ s. ready_in id (poll_of s)) (same i)) (k - count i))
     ∙ ap (λ steps. slice_get steps (k - length pinned)) (sym (steps_seen (ready_in id) ss))
-    ∙ ready_later (λ (p : Pinned). Work id p.session.poll) pinned (filter_map (ready_in id) (polls_of ss)) k (omega (arith, count, high))
+    ∙ ready_later (λ (p : Pinned). Work id p.committed.joined.poll) pinned (filter_map (ready_in id) (polls_of ss)) k (omega (arith, count, high))
 
 -- What is left of work comes of the votes, or else of the tallies.
 
@@ -93,9 +93,9 @@ tallies_left left id votes held ss o same is none =
 
 -- the steps of all work are those for which the peer is ready
 
-votes_named : (id : ℕ) (ps : List Pinned) → map step_named (map (λ (p : Pinned). names.Vote id p.session.poll) ps) ≡ map (λ (p : Pinned). Work id p.session.poll) ps
+votes_named : (id : ℕ) (ps : List Pinned) → map step_named (map (λ (p : Pinned). names.Vote id p.committed.joined.poll) ps) ≡ map (λ (p : Pinned). Work id p.committed.joined.poll) ps
 votes_named id [] = refl
-votes_named id (p ∷ ps) = ap (λ ss. Work id p.session.poll ∷ ss) (votes_named id ps)
+votes_named id (p ∷ ps) = ap (λ ss. Work id p.committed.joined.poll ∷ ss) (votes_named id ps)
 
 tallies_named : (id : ℕ) (ps : List Poll) → map step_named (filter_map (tally_in id) ps) ≡ filter_map (ready_in id) ps
 tallies_named id [] = refl
@@ -108,5 +108,5 @@ tallies_named id (p ∷ ps) = by_test (p.shut && not (is_some p.request)) ∙ ap
 pub works_ready : (own : Station) (s : State) → map step_named (works_in own s) ≡ ready_on own s
 unfolding works_on tallies_on
 works_ready own s =
-    map-append step_named (map (λ (p : Pinned). names.Vote own.id p.session.poll) s.voter.pinned) (filter_map (tally_in own.id) s.polls)
+    map-append step_named (map (λ (p : Pinned). names.Vote own.id p.committed.joined.poll) s.voter.pinned) (filter_map (tally_in own.id) s.polls)
     ∙ (λ i. votes_named own.id s.voter.pinned i ++ tallies_named own.id s.polls i)

@@ -55,7 +55,7 @@ tally_in id p = if p.shut && not (is_some p.request) then Some (names.Tally id p
 
 -- all work for which the peer is ready: the votes in order of its commitments, and then the tallies in order of its running polls
 abbrev pub works_in : Station → State → List JobName
-works_in own s = map (λ (p : Pinned). names.Vote own.id p.session.poll) s.voter.pinned ++ filter_map (tally_in own.id) s.polls
+works_in own s = map (λ (p : Pinned). names.Vote own.id p.committed.joined.poll) s.voter.pinned ++ filter_map (tally_in own.id) s.polls
 
 -- It is the vote of the session, or the tally of the poll with as many hashes as are kept, where deposits stand at these places.
 abbrev pub IsJobOf : Station → State → List Kept → List Place → JobName → Job → Type 0

@@ -122,7 +122,7 @@ fn tally_left(id: PeerId, polls: &[PollSession], out: &[JobName]) -> Option<JobN
 /// The first work, votes before tallies, for which the peer is ready and whose job is none of these.
 #[tactic(auto, using(crate::proofs::Listing::left_front, crate::proofs::Listing::left_behind))]
 pub fn work_left(id: PeerId, known: &Known, out: &[JobName]) -> Option<JobName>
-    ensures { result ≡ find (is_left out.now) (map (λ p. names.Vote id p.session.poll) (voter_of known.now.sessions).pinned ++ filter_map (accepting.tally_in id) (polls_of known.now.polls)) }
+    ensures { result ≡ find (is_left out.now) (map (λ p. names.Vote id p.committed.joined.poll) (voter_of known.now.sessions).pinned ++ filter_map (accepting.tally_in id) (polls_of known.now.polls)) }
 {
     match known.sessions.vote_left(id, out) {
         Some(name) => Some(name),

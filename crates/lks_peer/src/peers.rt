@@ -179,7 +179,7 @@ fn find_tally(id: PeerId, polls: &[PollSession], k: u32) -> Option<PeerStep>
 
 #[tactic(auto, using(crate::proofs::Listing::ready_first))]
 fn find_ready(id: PeerId, known: &Known, k: u32) -> Option<PeerStep>
-    ensures { result ≡ slice_get (map (λ p. steps.Work id p.session.poll) (voter_of known.now.sessions).pinned ++ filter_map (ready_in id) (polls_of known.now.polls)) k }
+    ensures { result ≡ slice_get (map (λ p. steps.Work id p.committed.joined.poll) (voter_of known.now.sessions).pinned ++ filter_map (ready_in id) (polls_of known.now.polls)) k }
 {
     let votes = known.sessions.pinned_count();
     if (k as usize) < votes {

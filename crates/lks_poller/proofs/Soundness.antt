@@ -53,7 +53,6 @@ sound_begun s few reserved blocks none no_outer nobody_noted running idle = reco
   reserved = reserved;
   blocks = blocks;
   distinct = nobody s.tally.votes none;
-  outer_distinct = nobody s.outer_votes no_outer;
   of_inner = λ v found. absurd (unvoted s.tally.votes none v found);
   of_outer = λ v found. absurd (unvoted s.outer_votes no_outer v found);
   noted = λ v. ap (λ ids. list_any (λ i. i == v) ids) nobody_noted ∙ sym (λ i. keeping.has_voted (none i) v || keeping.has_voted (no_outer i) v);
@@ -76,7 +75,6 @@ sound_tally s t sound reserved same = record {
   reserved = reserved;
   blocks = subst (λ (q : Ballot). 1 ≤ q.count) (sym same.0) sound.blocks;
   distinct = subst AreDistinct (sym same.2) sound.distinct;
-  outer_distinct = sound.outer_distinct;
   of_inner = λ v found. sound.of_inner v (subst (λ vs. keeping.has_voted vs v ≡ true) same.2 found);
   of_outer = sound.of_outer;
   noted = λ v. sound.noted v ∙ sym (λ i. keeping.has_voted (same.2 i) v || keeping.has_voted s.outer_votes v);
@@ -104,7 +102,6 @@ sound_inner s v sound unvoted member = record {
   reserved = sound.reserved;
   blocks = sound.blocks;
   distinct = distinct_more s.tally.votes v sound.distinct (unvoted_parts s sound v.voter unvoted).0;
-  outer_distinct = sound.outer_distinct;
   of_inner = λ w found. of_either w (voted_more s.tally.votes v w found);
   of_outer = sound.of_outer;
   noted = λ w. member_more s.voters v.voter w ∙ ap (λ b. b || (v.voter == w || false)) (sound.noted w)
@@ -124,7 +121,6 @@ sound_outer s v sound unvoted member = record {
   reserved = sound.reserved;
   blocks = sound.blocks;
   distinct = sound.distinct;
-  outer_distinct = distinct_more s.outer_votes v sound.outer_distinct (unvoted_parts s sound v.voter unvoted).1;
   of_inner = sound.of_inner;
   of_outer = λ w found. of_either w (voted_more s.outer_votes v w found);
   noted = λ w. member_more s.voters v.voter w ∙ ap (λ b. b || (v.voter == w || false)) (sound.noted w)

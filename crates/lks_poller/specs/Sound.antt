@@ -20,7 +20,6 @@ pub record IsSound (s : Polled) : Type 0 where
   pub reserved : IsReserved s.tally
   pub blocks : 1 ≤ s.tally.ballot.count
   pub distinct : AreDistinct s.tally.votes
-  pub outer_distinct : AreDistinct s.outer_votes
   pub of_inner : (v : ℕ) → keeping.has_voted s.tally.votes v ≡ true → has_member s.inner v ≡ true
   pub of_outer : (v : ℕ) → keeping.has_voted s.outer_votes v ≡ true → has_member s.inner v ≡ false
   pub noted : (v : ℕ) → has_member s.voters v ≡ is_voter s v

@@ -8,7 +8,7 @@ ghost use Rattle.lks_base.specs.declared.names.Limits.{Limits as LimitsOf};
 ghost use Rattle.lks_repair.specs.Asking.{awaited};
 ghost use Rattle.lks_tally.specs.Counting.{verdict_on, voters_against};
 ghost use Rattle.lks_tally.specs.declared.ballots.Ballot.{Ballot as BallotOf};
-ghost use Rattle.lks_tally.specs.Running.{has_nominated_in, is_invited_to, is_request, may_nominate, may_prove, may_tally, may_vote, may_widen, supplied_by};
+ghost use Rattle.lks_tally.specs.Running.{has_nominated_in, is_invited_to, is_request, may_nominate, may_prove, may_tally, may_vote, may_widen, silent_in, supplied_by};
 ghost use Rattle.lks_tally.specs.Keeping.{IsCacheOf, IsReserved, IsSame, forgotten, kept_after, roomed_as};
 ghost use Rattle.lks_poller.specs.Polling as polling;
 ghost use Rattle.lks_poller.specs.Polling.{begun, nominated, widened, voted, shut_now, ended, moved, released, replaced, answered};
@@ -274,7 +274,7 @@ impl PollSession {
     pub fn is_invited(&self, voter: PeerId) -> bool
         ensures { result ≡ is_invited_to (poll_of self.now) voter }
     {
-        has_member(self.inner.as_slice(), voter) || has_outer(&self.outer, voter)
+        has_member(self.inner.as_slice(), voter) || has_member(members(&self.outer), voter)
     }
 
     /// Whether this peer voted.
@@ -296,6 +296,17 @@ impl PollSession {
         ensures { result ≡ may_vote (poll_of self.now) from hashes self.now.tally.ballot.count }
     {
         self.may_prove(from) && hashes == self.tally.ballot().count as usize
+    }
+
+    /// The invited peers that haven't voted: of the inner circle, then of the outer one.
+    #[tactic(auto, unfolding(lks_tally::specs::Running::silent_in))]
+    pub fn silent(&self) -> Result<Ids, OutOfMemory>
+        ensures { IfOk result (λ ids. ids ≡ silent_in (poll_of self.now)) }
+    {
+        let mut peers = self.inner.as_slice().to_vec(self.alloc)?;
+        peers.extend_from_slice(members(&self.outer))?;
+        peers.retain(|v| !self.has_voted(*v));
+        Ok(Ids::from_vec(peers))
     }
 
     /// Whether the votes may be counted: once voting ended, while nobody is waited for.
@@ -627,12 +638,11 @@ fn names(nominations: &[Nomination], from: PeerId) -> bool
     nominations.iter().any(|n| n.voter == from)
 }
 
-#[tactic(auto, unfolding(lks_base::specs::Checking::has_member))]
-fn has_outer(outer: &Option<Ids>, voter: PeerId) -> bool
-    ensures { result ≡ is_member (unwrap_or outer.now []) voter }
+fn members(circle: &Option<Ids>) -> &[PeerId]
+    ensures { result.now ≡ unwrap_or circle.now [] }
 {
-    match outer {
-        Some(ids) => has_member(ids.as_slice(), voter),
-        None => false,
+    match circle {
+        Some(peers) => peers.as_slice(),
+        None => &[],
     }
 }

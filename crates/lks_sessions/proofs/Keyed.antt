@@ -9,16 +9,16 @@ use Rattle.lks_audit.proofs.Changing as changing
 use Rattle.lks_base.specs.declared.events.PeerStep.TheVariants as step
 use Rattle.lks_base.specs.declared.names.PollName.{PollName}
 use Rattle.lks_blocks.specs.Block.{Block, AllOf, bytes_of}
-use Rattle.lks_law.specs.Fitting.{Where}
+use Rattle.lks_law.specs.Fitting.{Where, MayHave}
 use Rattle.lks_law.specs.Firsts.{changed_first, without_first}
 use Rattle.lks_law.specs.Sessions.{Commitment, is_poll}
-use Rattle.lks_law.specs.Taking.{Session, Pinned, is_session_of, is_pinned_of, is_cast_of, session_at, pinned_at, cast_at, pinning, casting, serving}
-use Rattle.lks_sessions.specs.Kept.{session_of, pinned_of, cast_of, commitment_of, IsPinnedOf}
-use Rattle.lks_sessions.specs.Sendable.{PinsBlocks, MayHave, MayServe}
+use Rattle.lks_law.specs.Taking.{Session, Pinned, is_session_of, is_pinned_of, is_cast_of, session_at, pinned_at, cast_at, pinned_to, cast_as, pinning, casting, serving}
+use Rattle.lks_sessions.specs.Kept.{session_of, pinned_of, cast_of, IsPinnedOf}
+use Rattle.lks_sessions.specs.Sendable.{PinsBlocks, MayServe}
 use Rattle.lks_sessions.specs.declared.stages.JoinedSession.{JoinedSession}
 use Rattle.lks_sessions.specs.declared.stages.PinnedSession.{PinnedSession}
 use Rattle.lks_sessions.specs.declared.stages.CastSession.{CastSession}
-use Rattle.lks_voter.specs.States as voter
+use Rattle.lks_voter.specs.States.{Committing}
 use Rattle.lks_voter.specs.Voting.{Vote, vote_of}
 
 -- What is found.
@@ -73,11 +73,11 @@ of_place pool q ps i p at here all = subst (IsPinnedOf pool) (sym here) (all i p
 
 -- the session at the place is pinned with the blocks of its AU
 pub session_pins : (blocks : ℕ → List (List ℕ)) (q : PollName) (ss : List JoinedSession) (i : ℕ) (s : JoinedSession) (ps : List PinnedSession)
-    (committed : voter.Commitment) (refs : List Block)
+    (committed : Committing) (refs : List Block)
     → position (λ (s : JoinedSession). is_poll s.joined.poll q) ss ≡ Some i → s ≡ get_or ss i s → committed.joined ≡ s.joined → PinsBlocks blocks q (bytes_of refs) (map session_of ss)
     → map pinned_of (ps ++ record { committed = committed; repairs = s.repairs; refs = refs } ∷ [])
-    ≡ map pinned_of ps ++ pinning blocks (commitment_of committed) (session_at q (map session_of ss))
-session_pins blocks q ss i s ps committed refs at here joined pins = map_push pinned_of ps p ∙ ap (λ xs. map pinned_of ps ++ xs) (one ∙ ap (pinning blocks (commitment_of committed)) (sym found))
+    ≡ map pinned_of ps ++ pinning blocks committed.commitment (session_at q (map session_of ss))
+session_pins blocks q ss i s ps committed refs at here joined pins = map_push pinned_of ps p ∙ ap (λ xs. map pinned_of ps ++ xs) (one ∙ ap (pinning blocks committed.commitment) (sym found))
   where
     p : PinnedSession
     p = record { committed = committed; repairs = s.repairs; refs = refs }
@@ -86,10 +86,10 @@ session_pins blocks q ss i s ps committed refs at here joined pins = map_push pi
     found = changing.found_at session_of (is_session_of q) ss i s at ∙ ap (λ x. Some (session_of x)) (sym here)
 
     same : bytes_of refs ≡ blocks s.joined.au
-    same = subst (λ o. Where o (λ (s : Session). bytes_of refs ≡ blocks s.au)) found pins
+    same = subst (λ o. Where o (λ (s : Session). bytes_of refs ≡ blocks s.joined.au)) found pins
 
-    one : pinned_of p ∷ [] ≡ record { session = session_of s; commitment = commitment_of committed; blocks = blocks s.joined.au } ∷ []
-    one = λ j. record { session = record { poll = (joined j).poll; au = (joined j).au; repairs = s.repairs }; commitment = commitment_of committed; blocks = same j } ∷ []
+    one : pinned_of p ∷ [] ≡ pinned_to committed.commitment (blocks s.joined.au) (session_of s) ∷ []
+    one = λ j. record { committed = record { joined = joined j; commitment = committed.commitment }; repairs = s.repairs; blocks = same j } ∷ []
 
 pub nothing_pins : (blocks : ℕ → List (List ℕ)) (q : PollName) (c : Commitment) (ss : List JoinedSession) (ps : List PinnedSession)
     → position (λ (s : JoinedSession). is_poll s.joined.poll q) ss ≡ None → map pinned_of ps ≡ map pinned_of ps ++ pinning blocks c (session_at q (map session_of ss))
@@ -108,8 +108,8 @@ pinned_casts q hashes ps i p cs voted at here is = map_push cast_of cs c ∙ ap 
     found : pinned_at q (map pinned_of ps) ≡ Some (pinned_of p)
     found = changing.found_at pinned_of (is_pinned_of q) ps i p at ∙ ap (λ x. Some (pinned_of x)) (sym here)
 
-    one : cast_of c ∷ [] ≡ record { pinned = pinned_of p; hashes = hashes; served = [] } ∷ []
-    one = λ j. record { pinned = pinned_of (record { committed = (is j).committed; repairs = p.repairs; refs = p.refs }); hashes = (is j).hashes; served = (is j).served } ∷ []
+    one : cast_of c ∷ [] ≡ cast_as hashes [] (pinned_of p) ∷ []
+    one = λ j. record { voted = is j; repairs = p.repairs; blocks = bytes_of p.refs } ∷ []
 
 pub nothing_casts : (q : PollName) (hashes : List (List ℕ)) (ps : List PinnedSession) (cs : List CastSession)
     → position (λ (p : PinnedSession). is_poll p.committed.joined.poll q) ps ≡ None → map cast_of cs ≡ map cast_of cs ++ casting hashes (pinned_at q (map pinned_of ps))
@@ -146,12 +146,12 @@ cast_count cs = length-map cs cast_of
 -- What is ready.
 
 pub work_within : (id : ℕ) (ps : List PinnedSession) (k : ℕ) (p : PinnedSession) → k < length ps → p ≡ get_or ps k p
-    → slice_get (map (λ (p : Pinned). step.Work id p.session.poll) (map pinned_of ps)) k ≡ Some (step.Work id p.committed.joined.poll)
+    → slice_get (map (λ (p : Pinned). step.Work id p.committed.joined.poll) (map pinned_of ps)) k ≡ Some (step.Work id p.committed.joined.poll)
 work_within id [] k p within here = absurd (omega (arith, within))
 work_within id (x ∷ ps) zero p within here = ap (λ (p : PinnedSession). Some (step.Work id p.committed.joined.poll)) (sym here)
 work_within id (x ∷ ps) (suc k) p within here = work_within id ps k p (omega (arith, within)) here
 
-pub work_past : (id : ℕ) (ps : List PinnedSession) (k : ℕ) → length ps ≤ k → slice_get (map (λ (p : Pinned). step.Work id p.session.poll) (map pinned_of ps)) k ≡ None
+pub work_past : (id : ℕ) (ps : List PinnedSession) (k : ℕ) → length ps ≤ k → slice_get (map (λ (p : Pinned). step.Work id p.committed.joined.poll) (map pinned_of ps)) k ≡ None
 work_past id [] k past = refl
 work_past id (x ∷ ps) zero past = absurd (omega (arith, past))
 work_past id (x ∷ ps) (suc k) past = work_past id ps k (omega (arith, past))

@@ -7,13 +7,13 @@ use Rattle.lks_base.specs.declared.names.PollName.{PollName}
 use Rattle.lks_law.specs.Fitting.{Where, IsPinnedWell, IsCastWell}
 use Rattle.lks_law.specs.Firsts.{changed_first, without_first}
 use Rattle.lks_law.proofs.Lists.{without_any, changed_any, any_where}
-use Rattle.lks_law.specs.Taking.{Pinned, is_pinned_of, is_cast_of, pinned_at, casting, serving}
+use Rattle.lks_law.specs.Taking.{Pinned, is_pinned_of, is_cast_of, pinned_at, cast_as, casting, serving}
 use Rattle.lks_sessions.specs.Kept.{Kept, pinned_of, cast_of, StaysSendable}
 
 casting_sends : (hashes : List (List ℕ)) (o : Option Pinned) → length hashes ≤ MOST_BLOCKS → Where o IsPinnedWell → All IsCastWell (casting hashes o)
 casting_sends hashes None few can = All-nil IsCastWell
 casting_sends hashes (Some p) few can =
-    All-cons IsCastWell (record { pinned = p; hashes = hashes; served = [] }) [] (can, few) (All-nil IsCastWell)
+    All-cons IsCastWell (cast_as hashes [] p) [] (can, few) (All-nil IsCastWell)
 
 module _ (old new : Kept) where
   pub sends_same : new.pinned ≡ old.pinned → new.cast ≡ old.cast → StaysSendable old new

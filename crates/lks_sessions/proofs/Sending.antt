@@ -1,13 +1,10 @@
 -- What a peer sends as a voter.
-use Rattle.std.proofs.Common.{◌≡◌, ◌≤◌, ◌∙◌, ap, sym, subst, ℕ, zero, suc, Bool, true, false, cond, not, List, [], ◌∷◌, length, refl, arith}
-use Rattle.std.specs.Prelude.{Some, nat_lt, nat_le, find, map, slice_get, All}
-use Rattle.std.proofs.lemmas.Bool.Decides.{nat_tests}
+use Rattle.std.proofs.Common.{◌≡◌, ◌≤◌, ◌∙◌, ap, sym, subst, ℕ, zero, suc, Bool, true, false, cond, List, [], ◌∷◌, length, arith}
+use Rattle.std.specs.Prelude.{Some, find, map, slice_get, All}
 use Rattle.std.proofs.lemmas.List.Elements.{All-head, All-tail}
-use Rattle.lks_base.specs.Checking.{has_member}
 use Rattle.lks_base.specs.Kinds.{is_second}
 use Rattle.lks_base.specs.declared.limits.TheConstants.{MOST_BLOCKS, MOST_BLOCK_BYTES}
 use Rattle.lks_base.specs.declared.names.PollName.{PollName}
-use Rattle.lks_base.specs.declared.records.Record.TheVariants as records
 use Rattle.lks_blocks.proofs.Bytes.{bytes_count}
 use Rattle.lks_blocks.specs.Block.{AllOf, bytes_of}
 use Rattle.lks_hash.proofs.RunningLaws.{hashes_length}
@@ -16,17 +13,13 @@ use Rattle.lks_hash.specs.Running.{hashes_of}
 use Rattle.lks_law.specs.Answering.{hashes_for}
 use Rattle.lks_law.specs.Fitting.{AreSmall, IsPinnedWell, IsCastWell}
 use Rattle.lks_law.specs.Polls.{Station}
-use Rattle.lks_law.specs.Reaction.{nothing}
 use Rattle.lks_law.specs.Sessions.{is_poll}
-use Rattle.lks_law.specs.Voting.{vote_hashes, answers, adds, serves}
-use Rattle.lks_sessions.specs.Giving.{repair, given}
+use Rattle.lks_law.specs.Voting.{vote_hashes}
 use Rattle.lks_sessions.specs.Kept.{Kept, pinned_of, cast_of, voter_of, IsPinnedOf, IsCastOf, IsOf}
 use Rattle.lks_sessions.specs.Sendable.{IsSendable}
 use Rattle.lks_sessions.specs.declared.stages.PinnedSession.{PinnedSession}
 use Rattle.lks_sessions.specs.declared.stages.CastSession.{CastSession}
 use Rattle.lks_sessions.specs.Working.{IsJobOf}
-use Rattle.lks_voter.specs.Voting.{answer_of}
-use Rattle.lks_voter.specs.declared.commitments.Serve.TheVariants.{First, Again, Spent}
 use Rattle.lks_work.specs.Asked.{vote_of}
 use Rattle.lks_work.specs.declared.jobs.VoteJob.{VoteJob}
 
@@ -70,14 +63,14 @@ unfolding hashes_for vote_hashes
 vote_seen own p j hashes job is =
     is
     ∙ (λ i. hashes_of (is_second (job.kind i)) (key_of (is_second (job.kind i)) (job.poll i).poller (job.poll i).number (job.nonce i) (job.peer i) (job.au i) (length (job.refs i))) (bytes_of (job.refs i)))
-    ∙ ap (λ n. hashes_of (is_second p.committed.kind) (key_of (is_second p.committed.kind) p.committed.joined.poll.poller p.committed.joined.poll.number p.committed.nonce own.id p.committed.joined.au n) (bytes_of p.refs))
+    ∙ ap (λ n. hashes_of (is_second p.committed.commitment.kind) (key_of (is_second p.committed.commitment.kind) p.committed.joined.poll.poller p.committed.joined.poll.number p.committed.commitment.nonce own.id p.committed.joined.au n) (bytes_of p.refs))
     (sym (bytes_count p.refs))
 
 -- has a hash for each of them
 pub vote_count : (own : Station) (p : PinnedSession) (hashes : List (List ℕ)) → hashes ≡ hashes_for own (pinned_of p) → IsPinnedWell (pinned_of p) → length hashes ≤ MOST_BLOCKS
 unfolding hashes_for vote_hashes
 vote_count own p hashes is well =
-    let same : length hashes ≡ length (bytes_of p.refs) = ap length is ∙ hashes_length (is_second p.committed.kind) _ (bytes_of p.refs) in
+    let same : length hashes ≡ length (bytes_of p.refs) = ap length is ∙ hashes_length (is_second p.committed.commitment.kind) _ (bytes_of p.refs) in
     let counted = well.0 in
     let few = counted.1 in
     omega (arith, same, few)
@@ -88,12 +81,3 @@ pub short_at : (bs : List (List ℕ)) (b : ℕ) (bytes : List ℕ) → slice_get
 short_at [] b bytes is all = absurd cc
 short_at (x ∷ bs) zero bytes is all = let same : x ≡ bytes = cc in subst (λ b. length b ≤ MOST_BLOCK_BYTES) same (All-head (λ b. length b ≤ MOST_BLOCK_BYTES) x bs all)
 short_at (x ∷ bs) (suc b) bytes is all = short_at bs b bytes is (All-tail (λ b. length b ≤ MOST_BLOCK_BYTES) x bs all)
-
-pub given_seen : (q : PollName) (b : ℕ) (c : CastSession) (bytes : List ℕ) → serves q b c.repairs c.voted.served (Some bytes) ≡ given q b bytes (answer_of c.voted b c.repairs)
-given_seen q b c bytes = by_member (has_member c.voted.served b) (nat_lt (length c.voted.served) c.repairs) (nat_le c.repairs (length c.voted.served)) (grind (arith, nat_tests))
-  where
-    by_member : (m room spent : Bool) → room ≡ not spent
-        → cond m (answers (repair q b bytes)) (cond room (adds (records.Served q b) (repair q b bytes)) nothing) ≡ given q b bytes (cond m Again (cond spent Spent First))
-    by_member true room spent is = refl
-    by_member false room true is = ap (λ (r : Bool). cond r (adds (records.Served q b) (repair q b bytes)) nothing) is
-    by_member false room false is = ap (λ (r : Bool). cond r (adds (records.Served q b) (repair q b bytes)) nothing) is

@@ -2,13 +2,11 @@
 use Rattle.std.specs.Prelude.{ℕ, Option, List, map, All}
 use Rattle.lks_base.specs.declared.names.PollName.{PollName}
 use Rattle.lks_blocks.specs.Block.{AllOf, bytes_of}
-use Rattle.lks_law.specs.Sessions.{Commitment}
 use Rattle.lks_law.specs.Taking.{Session, Pinned, Cast, Mark, Voter}
 use Rattle.lks_sessions.specs.Sendable.{IsSendable}
 use Rattle.lks_sessions.specs.declared.stages.JoinedSession.{JoinedSession}
 use Rattle.lks_sessions.specs.declared.stages.PinnedSession.{PinnedSession}
 use Rattle.lks_sessions.specs.declared.stages.CastSession.{CastSession}
-use Rattle.lks_voter.specs.States as voter
 
 -- what is kept
 pub record Kept : Type 0 where
@@ -22,26 +20,13 @@ pub record Kept : Type 0 where
 -- Sessions, as they are seen.
 
 abbrev pub session_of : JoinedSession → Session
-session_of s = record { poll = s.joined.poll; au = s.joined.au; repairs = s.repairs }
-
-abbrev pub commitment_of : voter.Commitment → Commitment
-commitment_of c = record { nonce = c.nonce; version = c.version; kind = c.kind }
+session_of s = record { joined = s.joined; repairs = s.repairs }
 
 abbrev pub pinned_of : PinnedSession → Pinned
-pinned_of p =
-    record {
-      session = record { poll = p.committed.joined.poll; au = p.committed.joined.au; repairs = p.repairs };
-      commitment = commitment_of p.committed;
-      blocks = bytes_of p.refs;
-    }
+pinned_of p = record { committed = p.committed; repairs = p.repairs; blocks = bytes_of p.refs }
 
 abbrev pub cast_of : CastSession → Cast
-cast_of c =
-    record {
-      pinned = pinned_of (record { committed = c.voted.committed; repairs = c.repairs; refs = c.refs });
-      hashes = c.voted.hashes;
-      served = c.voted.served;
-    }
+cast_of c = record { voted = c.voted; repairs = c.repairs; blocks = bytes_of c.refs }
 
 -- the voter
 abbrev pub voter_of : Kept → Voter

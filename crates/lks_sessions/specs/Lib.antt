@@ -1,4 +1,3 @@
-pub mod Giving
 pub mod Kept
 pub mod Sendable
 pub mod Working

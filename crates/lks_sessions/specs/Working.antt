@@ -11,7 +11,7 @@ use Rattle.lks_work.specs.declared.jobs.VoteJob.{VoteJob}
 
 -- the name of the version to which the peer committed
 abbrev pub tag_of : List Place → Pinned → PinTag
-tag_of places p = tag_at p.session.au p.commitment.version places
+tag_of places p = tag_at p.committed.joined.au p.committed.commitment.version places
 
 -- where it has still to vote
 abbrev pub tag_waiting : List Place → Option Pinned → Option PinTag
@@ -21,10 +21,10 @@ tag_waiting places (Some p) = Some (tag_of places p)
 -- this peer's vote in the session, over the blocks of that version
 pub record IsVoteOf (own : Station) (places : List Place) (p : Pinned) (j : VoteJob) : Type 0 where
   pub peer : j.peer ≡ own.id
-  pub poll : j.poll ≡ p.session.poll
-  pub au : j.au ≡ p.session.au
-  pub kind : j.kind ≡ p.commitment.kind
-  pub nonce : j.nonce ≡ p.commitment.nonce
+  pub poll : j.poll ≡ p.committed.joined.poll
+  pub au : j.au ≡ p.committed.joined.au
+  pub kind : j.kind ≡ p.committed.commitment.kind
+  pub nonce : j.nonce ≡ p.committed.commitment.nonce
   pub tag : j.tag ≡ tag_of places p
   pub blocks : bytes_of j.refs ≡ p.blocks
 
@@ -40,6 +40,6 @@ pub record IsJobOf (own : Station) (p : PinnedSession) (blocks : List Block) (j 
   pub peer : j.peer ≡ own.id
   pub poll : j.poll ≡ p.committed.joined.poll
   pub au : j.au ≡ p.committed.joined.au
-  pub kind : j.kind ≡ p.committed.kind
-  pub nonce : j.nonce ≡ p.committed.nonce
+  pub kind : j.kind ≡ p.committed.commitment.kind
+  pub nonce : j.nonce ≡ p.committed.commitment.nonce
   pub refs : j.refs ≡ blocks

@@ -19,7 +19,7 @@ use lks_audit::{Held, Station, find_copy};
 use lks_base::{
     AuId, Message, OutOfMemory, Outgoing, PeerId, PollName, Reaction, Record, Seq, has_member,
 };
-use lks_grade::{Grade, admits, grade_of};
+use lks_grade::{Grade, admits, grade_of, is_low};
 use std::alloc::Global;
 
 /// The grade of a peer, from the votes each way.
@@ -33,12 +33,6 @@ fn grade(own: &Station, sessions: &Sessions, peer: PeerId) -> Grade
         mark.given(),
         has_member(own.friends.as_slice(), peer),
     )
-}
-
-fn is_low(grade: Grade) -> bool
-    ensures { result ≡ grading.is_low grade }
-{
-    matches!(grade, Grade::Unknown | Grade::Debt)
 }
 
 /// Ticks are cut off at this one, which changes no admission at it.

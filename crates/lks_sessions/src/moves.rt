@@ -3,10 +3,10 @@
 ghost use Rattle.std.specs.Prelude.{◌≡◌, ◌<◌, ◌↔◌, ◌++◌, IsTrue, ℕ, List, map, vec_len, vec_capacity, OnOk, OnErr, All};
 ghost use Rattle.lks_blocks.specs.Block.{AllOf, bytes_of};
 ghost use Rattle.lks_law.specs.Firsts.{changed_first, without_first};
-ghost use Rattle.lks_law.specs.Fitting.{AreWell, IsPinnedWell};
+ghost use Rattle.lks_law.specs.Fitting.{AreWell, MayHave, IsPinnedWell};
 ghost use Rattle.lks_law.specs.Taking.{is_session_of, is_pinned_of, is_cast_of, session_at, pinned_at, pinning, casting, serving};
 ghost use Rattle.lks_sessions.specs.Kept.{session_of, pinned_of, cast_of, IsPinnedOf, IsCastOf};
-ghost use Rattle.lks_sessions.specs.Sendable.{PinsBlocks, MayHave, MayServe};
+ghost use Rattle.lks_sessions.specs.Sendable.{PinsBlocks, MayServe};
 
 use crate::stages::{
     CastSession, JoinedSession, PinnedSession, place_of_cast, place_of_joined, place_of_pinned,

@@ -5,7 +5,7 @@ ghost use Rattle.lks_base.specs.declared.limits.TheConstants.{LAST_BLOCK, MOST_B
 ghost use Rattle.lks_blocks.specs.Block.{AllOf};
 ghost use Rattle.lks_law.specs.Answering.{end_in, request_at, request_in};
 ghost use Rattle.lks_law.specs.Fitting.{IsCastWell};
-ghost use Rattle.lks_sessions.specs.Giving.{given, repair};
+ghost use Rattle.lks_law.specs.Voting.{gives, repair};
 ghost use Rattle.lks_sessions.specs.Kept.{cast_of, voter_of, IsOf};
 ghost use Rattle.lks_sessions.specs.Sendable.{IsSendable};
 
@@ -46,7 +46,7 @@ fn give(
 ) -> Result<Reaction, OutOfMemory>
     requires block { block ≤ LAST_BLOCK }
     requires bytes { length bytes.now ≤ MOST_BLOCK_BYTES }
-    ensures { IfOk result (λ r. r ≡ given poll block bytes.now answer) }
+    ensures { IfOk result (λ r. r ≡ gives poll block bytes.now answer) }
 {
     match answer {
         Serve::First => {
@@ -59,7 +59,7 @@ fn give(
     }
 }
 
-#[tactic(auto, using(crate::proofs::Sending::given_seen, crate::proofs::Sending::short_at, std::proofs::lemmas::Option::slice_get_past))]
+#[tactic(auto, using(crate::proofs::Sending::short_at, std::proofs::lemmas::Option::slice_get_past))]
 fn serve(
     alloc: Global,
     pool: &BlockPool,

@@ -79,7 +79,7 @@ fn are_few(joined: usize, pinned: usize, cast: usize) -> bool
 
 #[tactic(auto, using(crate::proofs::Keyed::work_within, crate::proofs::Keyed::work_past))]
 fn ready_among(pinned: &[PinnedSession], id: PeerId, k: u32) -> Option<PeerStep>
-    ensures { result ≡ slice_get (map (λ p. steps.Work id p.session.poll) (map pinned_of pinned.now)) k }
+    ensures { result ≡ slice_get (map (λ p. steps.Work id p.committed.joined.poll) (map pinned_of pinned.now)) k }
 {
     if pinned.len() <= k as usize {
         return None;
@@ -91,7 +91,7 @@ fn ready_among(pinned: &[PinnedSession], id: PeerId, k: u32) -> Option<PeerStep>
 }
 
 fn vote_left(pinned: &[PinnedSession], id: PeerId, out: &[JobName]) -> Option<JobName>
-    ensures { result ≡ find (is_left out.now) (map (λ p. names.Vote id p.session.poll) (map pinned_of pinned.now)) }
+    ensures { result ≡ find (is_left out.now) (map (λ p. names.Vote id p.committed.joined.poll) (map pinned_of pinned.now)) }
 {
     for session in pinned {
         let name = JobName::Vote {
@@ -309,7 +309,7 @@ impl Sessions {
 
     /// The AU of the joined session of a poll, if there is one.
     pub fn au_of(&self, poll: PollName) -> Option<AuId>
-        ensures { result ≡ option_map (λ s. s.au) (session_at poll (voter_of self.now).sessions) }
+        ensures { result ≡ option_map (λ s. s.joined.au) (session_at poll (voter_of self.now).sessions) }
     {
         match self.find_joined(poll) {
             Some(session) => Some(session.joined.au()),
@@ -327,14 +327,14 @@ impl Sessions {
 
     /// The vote of number `k` for which this peer is ready, in order of the commitments.
     pub fn ready(&self, id: PeerId, k: u32) -> Option<PeerStep>
-        ensures { result ≡ slice_get (map (λ p. steps.Work id p.session.poll) (voter_of self.now).pinned) k }
+        ensures { result ≡ slice_get (map (λ p. steps.Work id p.committed.joined.poll) (voter_of self.now).pinned) k }
     {
         ready_among(&self.pinned, id, k)
     }
 
     /// The first vote, in order of the commitments, for which this peer is ready and whose job is none of these.
     pub fn vote_left(&self, id: PeerId, out: &[JobName]) -> Option<JobName>
-        ensures { result ≡ find (is_left out.now) (map (λ p. names.Vote id p.session.poll) (voter_of self.now).pinned) }
+        ensures { result ≡ find (is_left out.now) (map (λ p. names.Vote id p.committed.joined.poll) (voter_of self.now).pinned) }
     {
         vote_left(&self.pinned, id, out)
     }

@@ -6,7 +6,6 @@ ghost use Rattle.std.specs.Option.{option_copied};
 ghost use Rattle.lks_law.specs.Sessions.{is_poll};
 ghost use Rattle.lks_law.specs.Taking.{session_at, pinned_at, cast_at, serving};
 ghost use Rattle.lks_sessions.specs.Kept.{session_of, pinned_of, cast_of};
-ghost use Rattle.lks_sessions.specs.Sendable.{MayHave};
 
 use lks_base::PollName;
 use lks_blocks::Refs;

@@ -7,10 +7,9 @@ ghost use Rattle.lks_blocks.specs.Block.{AllOf};
 ghost use Rattle.lks_law.specs.Answering.{hashes_for, proof_in, work_in};
 ghost use Rattle.lks_law.specs.Fitting.{IsCastWell, IsPinnedWell};
 ghost use Rattle.lks_law.specs.Reaction.{letter};
-ghost use Rattle.lks_law.specs.Voting as law;
 ghost use Rattle.lks_law.specs.Voting.{commits, commits_again, nominates, votes_with};
 ghost use Rattle.lks_audit.specs.Copied.{copies_of};
-ghost use Rattle.lks_sessions.specs.Kept.{cast_of, commitment_of, pinned_of, voter_of, IsOf};
+ghost use Rattle.lks_sessions.specs.Kept.{cast_of, pinned_of, voter_of, IsOf};
 ghost use Rattle.lks_sessions.specs.Sendable.{IsSendable};
 
 use crate::draws::pick_nominees;
@@ -104,22 +103,6 @@ fn commit(
     }
 }
 
-fn is_kind(a: HashKind, b: HashKind) -> bool
-    ensures { result ≡ law.is_kind a b }
-{
-    match a {
-        HashKind::Sha256 => matches!(b, HashKind::Sha256),
-        HashKind::Sha512_256 => matches!(b, HashKind::Sha512_256),
-    }
-}
-
-#[tactic(auto, unfolding(lks_law::specs::Voting::repeats))]
-fn repeats(committed: &Committed, nonce: &[u8; 32], kind: HashKind) -> bool
-    ensures { result ≡ law.repeats (commitment_of committed.now) nonce.now kind }
-{
-    committed.nonce().as_slice() == nonce.as_slice() && is_kind(committed.kind(), kind)
-}
-
 fn nominate_again(
     alloc: Global,
     own: &Station,
@@ -129,9 +112,9 @@ fn nominate_again(
     nonce: &[u8; 32],
     kind: HashKind,
 ) -> Result<Reaction, OutOfMemory>
-    ensures { IfOk result (λ r. r ≡ commits_again own.now refs.now poll (commitment_of committed.now) nonce.now kind None) }
+    ensures { IfOk result (λ r. r ≡ commits_again own.now refs.now poll committed.now.commitment nonce.now kind None) }
 {
-    if !repeats(committed, nonce, kind) {
+    if !committed.repeats(nonce, kind) {
         return Ok(no_reaction(alloc));
     }
     sending(alloc, write_nomination(alloc, own, refs, poll)?)
@@ -148,9 +131,9 @@ fn vote_again(
 ) -> Result<Reaction, OutOfMemory>
     requires sendable { IsCastWell (cast_of session.now) }
     requires proof { length own.now.proof ≤ MOST_PROOF_BYTES }
-    ensures { IfOk result (λ r. r ≡ commits_again own.now refs.now poll (commitment_of session.now.voted.committed) nonce.now kind (Some session.now.voted.hashes)) }
+    ensures { IfOk result (λ r. r ≡ commits_again own.now refs.now poll session.now.voted.committed.commitment nonce.now kind (Some session.now.voted.hashes)) }
 {
-    if !repeats(session.voted.committed(), nonce, kind) {
+    if !session.voted.committed().repeats(nonce, kind) {
         return Ok(no_reaction(alloc));
     }
     let mut sends = Vec::new(alloc);

@@ -1,5 +1,7 @@
--- What contracts see of a session before its vote and after its end.
-use Rattle.std.specs.Prelude.{ℕ, Bool, List}
+-- What a session is before its vote and after its end.
+use Rattle.std.specs.Prelude.{ℕ, Bool, ◌==◌, ◌&&◌, List}
+use Rattle.std.specs.Cmp.Lexicographic.{pointwise}
+use Rattle.lks_base.specs.Kinds.{is_kind}
 use Rattle.lks_base.specs.declared.names.HashKind.{HashKind}
 use Rattle.lks_base.specs.declared.names.PollName.{PollName}
 
@@ -10,14 +12,22 @@ pub record Joining : Type 0 where
   pub tick : ℕ
   pub low : Bool
 
--- how it joined, and what it will vote on
+-- what it will vote on: this version of its copy, under this nonce, by hashes of this kind
 pub record Commitment : Type 0 where
-  pub joined : Joining
-  pub kind : HashKind
   pub nonce : List ℕ
   pub version : ℕ
+  pub kind : HashKind
+
+-- how it joined, and to what it committed
+pub record Committing : Type 0 where
+  pub joined : Joining
+  pub commitment : Commitment
 
 -- the session is over
 pub record Ending : Type 0 where
   pub poll : PollName
   pub au : ℕ
+
+-- whether a proof of the poller's effort, with this nonce and kind of hash, repeats the one that led to the commitment
+unfoldable pub repeats : Commitment → List ℕ → HashKind → Bool
+repeats c nonce kind = pointwise ◌==◌ c.nonce nonce && is_kind c.kind kind

@@ -1,6 +1,7 @@
 //! The states of a session before the vote and after the end, and how a voter takes a request for a repair.
 
 ghost use Rattle.std.specs.Prelude.{◌≡◌};
+ghost use Rattle.lks_voter.specs.States.{repeats};
 
 use lks_base::{AuId, HashKind, PollName};
 use std::marker::Model;
@@ -32,11 +33,11 @@ pub struct Committed {
 }
 
 impl Model for Committed {
-    ghost use Rattle.lks_voter.specs.States.{Commitment};
+    ghost use Rattle.lks_voter.specs.States.{Committing};
 
-    ghost Value = { Commitment };
+    ghost Value = { Committing };
 
-    ghost view = { λ a. record { joined = a.joined; kind = a.kind; nonce = a.nonce; version = a.version } };
+    ghost view = { λ a. record { joined = a.joined; commitment = record { nonce = a.nonce; version = a.version; kind = a.kind } } };
 }
 
 /// The session is over.
@@ -80,7 +81,7 @@ impl Joined {
 
     /// Commits to a version under the nonce and the hash function of the poll.
     pub fn commit(self, kind: HashKind, nonce: [u8; 32], version: u32) -> Committed
-        ensures { result ≡ record { joined = self; kind = kind; nonce = nonce; version = version } }
+        ensures { result ≡ record { joined = self; commitment = record { nonce = nonce; version = version; kind = kind } } }
     {
         Committed {
             joined: self,
@@ -129,23 +130,32 @@ impl Committed {
 
     /// The hash function of the poll.
     pub fn kind(&self) -> HashKind
-        ensures { result ≡ self.now.kind }
+        ensures { result ≡ self.now.commitment.kind }
     {
         self.kind
     }
 
     /// The nonce of the poll.
     pub fn nonce(&self) -> &[u8; 32]
-        ensures { result.now ≡ self.now.nonce }
+        ensures { result.now ≡ self.now.commitment.nonce }
     {
         &self.nonce
     }
 
     /// The version of the voter's copy.
     pub fn version(&self) -> u32
-        ensures { result ≡ self.now.version }
+        ensures { result ≡ self.now.commitment.version }
     {
         self.version
+    }
+
+    /// Whether a proof of the poller's effort, with this nonce and hash function, repeats the one that led to the
+    /// commitment.
+    #[tactic(auto, unfolding(crate::specs::States::repeats))]
+    pub fn repeats(&self, nonce: &[u8; 32], kind: HashKind) -> bool
+        ensures { result ≡ repeats self.now.commitment nonce.now kind }
+    {
+        self.nonce.as_slice() == nonce.as_slice() && self.kind.is_kind(kind)
     }
 }
 

@@ -2,8 +2,8 @@
 
 ghost use Rattle.std.specs.Prelude.{◌≡◌, ◌↔◌, ◌<◌, ◌≤◌, true, false, nat_eq, length, IfOk, OnErr};
 ghost use Rattle.std.specs.List.{IsDistinct};
-ghost use Rattle.lks_voter.specs.Voting as voting;
-ghost use Rattle.lks_voter.specs.Voting.{vote_of, was_served, answer_of, after};
+ghost use Rattle.lks_base.specs.Checking.{has_member};
+ghost use Rattle.lks_voter.specs.Voting.{vote_of, answer_of, after};
 ghost use Rattle.lks_voter.specs.declared.commitments.Serve.TheVariants.{First, Again, Spent};
 
 use crate::commitments::{Committed, Serve};
@@ -71,28 +71,28 @@ impl Voted {
 
     /// How the voter takes the poller's request for block `b`, where it may have at most `most` blocks. It changes nothing.
     pub fn answer(&self, b: u16, most: u16) -> Serve
-        ensures { result ≡ answer_of self.now b most }
+        ensures { result ≡ answer_of self.now.served b most }
     {
-        if self.was_served(b) {
+        if has_member(&self.served, b) {
             return Serve::Again;
         }
-        if most as usize <= self.served.len() {
-            return Serve::Spent;
+        if self.served.len() < most as usize {
+            return Serve::First;
         }
-        Serve::First
+        Serve::Spent
     }
 
     /// Takes the poller's request for block `b`, where it may have at most `most` blocks. Want of memory, which can come
     /// at a new block alone, changes nothing.
     #[tactic(auto, using(crate::proofs::Served::distinct_more))]
     pub fn serve(&mut self, b: u16, most: u16) -> Result<Serve, OutOfMemory>
-        ensures answer { IfOk result (λ r. r ≡ answer_of self.old b most) }
-        ensures first { IfOk result (λ r. (r ≡ First) ↔ ((was_served self.old b ≡ false) × (length self.old.served < most))) }
-        ensures again { IfOk result (λ r. (r ≡ Again) ↔ (was_served self.old b ≡ true)) }
-        ensures spent { IfOk result (λ r. (r ≡ Spent) ↔ ((was_served self.old b ≡ false) × (most ≤ length self.old.served))) }
+        ensures answer { IfOk result (λ r. r ≡ answer_of self.old.served b most) }
+        ensures first { IfOk result (λ r. (r ≡ First) ↔ ((has_member self.old.served b ≡ false) × (length self.old.served < most))) }
+        ensures again { IfOk result (λ r. (r ≡ Again) ↔ (has_member self.old.served b ≡ true)) }
+        ensures spent { IfOk result (λ r. (r ≡ Spent) ↔ ((has_member self.old.served b ≡ false) × (most ≤ length self.old.served))) }
         ensures after { IfOk result (λ r. self.new ≡ after self.old b r) }
         ensures err { OnErr result (self.new ≡ self.old) }
-        ensures need { OnErr result (answer_of self.old b most ≡ First) }
+        ensures need { OnErr result (answer_of self.old.served b most ≡ First) }
         ensures bound { length self.old.served ≤ most → length self.new.served ≤ most }
     {
         match self.answer(b, most) {
@@ -103,11 +103,5 @@ impl Voted {
             Serve::Again => Ok(Serve::Again),
             Serve::Spent => Ok(Serve::Spent),
         }
-    }
-
-    fn was_served(&self, b: u16) -> bool
-        ensures { result ≡ voting.was_served self.now b }
-    {
-        has_member(&self.served, b)
     }
 }

@@ -124,13 +124,13 @@ some_first (s ∷ ss) is none = absurd cc
 
 -- A peer is ready for each of its works.
 
-vote_named : (own : Station) (st : InState) (name : JobName) (k : ℕ) → slice_get (map (λ (p : Pinned). names.Vote own.id p.session.poll) st.voter.pinned) k ≡ Some name → is_ready_for own st name ≡ true
+vote_named : (own : Station) (st : InState) (name : JobName) (k : ℕ) → slice_get (map (λ (p : Pinned). names.Vote own.id p.committed.joined.poll) st.voter.pinned) k ≡ Some name → is_ready_for own st name ≡ true
 vote_named own st name k at =
-    let found = of_map (λ (p : Pinned). names.Vote own.id p.session.poll) st.voter.pinned k name at in
+    let found = of_map (λ (p : Pinned). names.Vote own.id p.committed.joined.poll) st.voter.pinned k name at in
     let p = found.0 in
     subst (λ n. is_ready_for own st n ≡ true) found.2
-    (and_from (eqb own.id own.id) (is_some (pinned_at p.session.poll st.voter.pinned)) (eq-eqb own.id own.id refl)
-    (is_found (is_pinned_of p.session.poll) st.voter.pinned k p found.1 (is_itself p.session.poll)))
+    (and_from (eqb own.id own.id) (is_some (pinned_at p.committed.joined.poll st.voter.pinned)) (eq-eqb own.id own.id refl)
+    (is_found (is_pinned_of p.committed.joined.poll) st.voter.pinned k p found.1 (is_itself p.committed.joined.poll)))
 
 abbrev AreFound : InState → Type 0
 AreFound st = (k : ℕ) (p : Poll) → slice_get st.polls k ≡ Some p → poll_at p.number st.polls ≡ Some p
@@ -152,9 +152,9 @@ tally_named own st name k are at = by_ready (p.shut && not (is_some p.request)) 
         (and_from (eqb own.id own.id) (is_poll_ready (poll_at p.number st.polls)) (eq-eqb own.id own.id refl) (ap is_poll_ready (are given.place p given.there) ∙ waits))
 
 work_named : (own : Station) (st : InState) (name : JobName) (k : ℕ) → AreFound st → slice_get (works_in own st) k ≡ Some name → is_ready_for own st name ≡ true
-work_named own st name k are at = by_part (of_both (map (λ (p : Pinned). names.Vote own.id p.session.poll) st.voter.pinned) (filter_map (tally_in own.id) st.polls) k name at)
+work_named own st name k are at = by_part (of_both (map (λ (p : Pinned). names.Vote own.id p.committed.joined.poll) st.voter.pinned) (filter_map (tally_in own.id) st.polls) k name at)
   where
-    by_part : ((j : ℕ) × (slice_get (map (λ (p : Pinned). names.Vote own.id p.session.poll) st.voter.pinned) j ≡ Some name)) ⊎ ((j : ℕ) × (slice_get (filter_map (tally_in own.id) st.polls) j ≡ Some name))
+    by_part : ((j : ℕ) × (slice_get (map (λ (p : Pinned). names.Vote own.id p.committed.joined.poll) st.voter.pinned) j ≡ Some name)) ⊎ ((j : ℕ) × (slice_get (filter_map (tally_in own.id) st.polls) j ≡ Some name))
         → is_ready_for own st name ≡ true
     by_part (inl vote) = vote_named own st name vote.0 vote.1
     by_part (inr tally) = tally_named own st name tally.0 are tally.1
@@ -171,7 +171,7 @@ vote_due own st places q t is = by_pinned (pinned_at q st.voter.pinned) refl is
         let found = of_find (is_pinned_of q) st.voter.pinned p there in (
           found.0,
           in_front (works_on own st.voter) (tallies_on own st) found.0 (steps.Work own.id q)
-              (in_map (λ (x : Pinned). steps.Work own.id x.session.poll) st.voter.pinned found.0 p found.1 ∙ ap (λ n. Some (steps.Work own.id n)) (same_poll p.session.poll q found.2)),
+              (in_map (λ (x : Pinned). steps.Work own.id x.committed.joined.poll) st.voter.pinned found.0 p found.1 ∙ ap (λ n. Some (steps.Work own.id n)) (same_poll p.committed.joined.poll q found.2)),
         )
 
 tally_due : (own : Station) (st : InState) (places : List Place) (n : ℕ) (t : PinTag) → tag_ready places st.copies (poll_at n st.polls) ≡ Some t → (k : ℕ) × (slice_get (ready_on own st) k ≡ Some (steps.Tally own.id n))

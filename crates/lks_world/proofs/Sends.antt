@@ -1,13 +1,13 @@
 -- What an event makes a peer add and send at most, and so what a history leaves in a journal and in the bag.
 use Rattle.std.proofs.Common.{◌≡◌, ◌≤◌, ◌<◌, ◌+◌, ◌*◌, ◌==◌, ap, subst, ℕ, zero, suc, Bool, true, false, cond, eqb, not, List, [], ◌∷◌, ◌++◌, length, filter, refl, arith}
-use Rattle.std.specs.Prelude.{Option, Some, None, is_some, unwrap_or, map, slice_get, ◌&&◌, nat_le, nat_lt}
+use Rattle.std.specs.Prelude.{Option, Some, None, is_some, unwrap_or, map, slice_get, ◌&&◌, nat_le}
 use Rattle.std.specs.List.{filter_map, cons_option}
 use Rattle.std.proofs.lemmas.Bool.{leb-true}
 use Rattle.std.proofs.lemmas.List.{length-append, length-map}
 use Rattle.std.proofs.lemmas.List.Sums.{length-filter, count_by-le-length}
 use Rattle.lks_base.proofs.PlanBounds.{few_aus, good_rules, one_copy}
 use Rattle.lks_base.proofs.PlanLaws.{no_first, stands}
-use Rattle.lks_base.specs.Checking.{has_member, plan_fault, is_within, are_bounded}
+use Rattle.lks_base.specs.Checking.{plan_fault, is_within, are_bounded}
 use Rattle.lks_base.specs.declared.events.Event.{Event}
 use Rattle.lks_base.specs.declared.events.Event.TheVariants.{Step, Cut, Tick, Lose, Forge, Crash}
 use Rattle.lks_base.specs.declared.limits.TheConstants.{MOST_CIRCLE, MOST_EVENTS, MOST_REPAIRS, MOST_TICKS}
@@ -36,13 +36,16 @@ use Rattle.lks_law.specs.References.{inner_circle, outer_circle, reference_list}
 use Rattle.lks_law.specs.Sessions.{Join, Commitment, join_of, commitment_of, hashes_of_vote, is_session, served, version_now}
 use Rattle.lks_law.specs.State.{state_of}
 use Rattle.lks_law.specs.Table.{reaction, on_message}
-use Rattle.lks_law.specs.Voting.{named, answers, challenge, may_join, joined, on_invitation, nominates, repeats, vote_again, commits, proved_to, on_proof, worked, on_work, most_served, serves, requested, on_request, on_end, may_tune, on_tune}
+use Rattle.lks_law.specs.Voting.{named, answers, challenge, may_join, joined, on_invitation, nominates, repeats, vote_again, commits, proved_to, on_proof, worked, on_work, most_served, gives, serves, requested, on_request, on_end, may_tune, on_tune}
 use Rattle.lks_law.specs.World.{Standing, World, Deed, is_honest, standing_of, deposit_for, deposits, start, deed_of, peer_at, reaction_at, effect_of, with_records, sent_by, actor_of, sent, peers_after, after_step, happens, happen_all, world}
 use Rattle.lks_law.proofs.Growing.{each_append, each_map as each_weaker}
 use Rattle.lks_law.proofs.Linked.{Each}
 use Rattle.lks_law.proofs.Lists.{each_at, each_filter}
 use Rattle.lks_law.proofs.Room.{room_left}
 use Rattle.lks_law.proofs.Samples.{few_inner, outer_sample}
+use Rattle.lks_voter.specs.Voting.{answer_of}
+use Rattle.lks_voter.specs.declared.commitments.Serve.{Serve}
+use Rattle.lks_voter.specs.declared.commitments.Serve.TheVariants.{First, Again, Spent}
 
 -- Lists.
 
@@ -329,10 +332,12 @@ module _ (n : ℕ) (most : 32 ≤ n) where
     serves_small : (q : PollName) (b may : ℕ) (before : List ℕ) (o : Option (List ℕ))
         → IsSmall n (serves q b may before o)
     serves_small q b may before None = none_small
-    serves_small q b may before (Some bytes) =
-        either_small (has_member before b) (answers (letter (message.Repair q.number b bytes) q.poller)) _
-        (answers_small _)
-        (if_small (nat_lt (length before) may) _ (adds_small (records.Served q b) _ tt (omega (arith, most))))
+    serves_small q b may before (Some bytes) = by_answer (answer_of before b may)
+      where
+        by_answer : (a : Serve) → IsSmall n (gives q b bytes a)
+        by_answer First = adds_small (records.Served q b) _ tt (omega (arith, most))
+        by_answer Again = answers_small _
+        by_answer Spent = none_small
 
     request_small : (q : PollName) (b : ℕ) → IsSmall n (on_request own js q b)
     unfolding on_request

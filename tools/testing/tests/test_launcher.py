@@ -13,13 +13,14 @@ import unittest
 
 from lks.play import TOP
 
-COMMANDS = "sh dirname readlink find awk grep cat cp touch".split()
+COMMANDS = "sh dirname readlink find awk grep cat cp touch sort sed xargs getconf".split()
 PROGRAM = '#!/bin/sh\n[ $# -gt 0 ] || exit 2\ncat\necho "words $*"\nexit "${STATUS-0}"\n'
-# It proves two crates and builds the program, or it fails.
+# It proves a library, or proves and builds the program; or it fails at either.
 KIT = """#!/bin/sh
 [ "$1" != version ] || { echo kit 1; exit; }
-[ -z "$BROKEN" ] || { echo the proof fails; exit 1; }
-printf 'proved low::lib::f: proved\\nlogic=proved\\nproved lockss::runs::run: proved\\nlogic=proved\\n'
+[ "$1" != "$BROKEN" ] || { echo the proof fails; exit 1; }
+echo logic=proved
+[ "$1" = run ] || { [ "${PWD##*/}" = low ] && exit; }
 cp ../../made out/lockss && touch out/lockss.stamp && exec out/lockss
 """
 FIRST = "lockss: proving and building the program first, 2 crates\n"
@@ -50,6 +51,7 @@ class Launcher(unittest.TestCase):
         self.put("path/rt", KIT)
         self.put("crates.txt", "low:\nlockss may_wait=8: low\nother: low\n")
         self.put("crates/lockss/src/main.rt", "")
+        self.put("crates/low/src/lib.rt", "")
         self.put("made", PROGRAM)
         self.program, self.stamp = self.put("crates/lockss/out/lockss", PROGRAM), self.put("crates/lockss/out/lockss.stamp", "")
 
@@ -115,7 +117,8 @@ class Launcher(unittest.TestCase):
 
     def test_builds(self) -> None:
         self.program.unlink()
-        self.assertEqual(self.run_it("replay", BROKEN="1"), (70, "", f"{FIRST}the proof fails\n"))
+        for at in ("lib", "run"):
+            self.assertEqual(self.run_it("replay", BROKEN=at), (70, "", f"{FIRST}the proof fails\n"), at)
         self.assertEqual(self.run_it("replay"), (0, "in\nwords replay\n", FIRST))
         self.assertEqual(self.run_it("replay"), (0, "in\nwords replay\n", ""))
         self.program.unlink()

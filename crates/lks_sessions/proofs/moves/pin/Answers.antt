@@ -6,16 +6,16 @@ use Rattle.lks_law.specs.Fitting.{IsPinnedWell}
 use Rattle.lks_law.specs.Taking.{pinning, session_at}
 use Rattle.lks_sessions.proofs.Keyed.{session_stays, session_pins, nothing_pins, place_in}
 use Rattle.lks_sessions.proofs.moves.pin.Goals as goal
-use Rattle.lks_sessions.specs.Kept.{session_of, pinned_of, commitment_of, IsPinnedOf}
+use Rattle.lks_sessions.specs.Kept.{session_of, pinned_of, IsPinnedOf}
 use Rattle.lks_sessions.specs.declared.stages.PinnedSession.{PinnedSession}
-use Rattle.lks_voter.specs.States.{Commitment}
+use Rattle.lks_voter.specs.States.{Committing}
 
 pub returns-in_ok-reserve-in-Some-clause-pinned : goal.returns-in_ok-reserve-in-Some-clause-pinned
 returns-in_ok-reserve-in-Some-clause-pinned c = λ blocks pins.
     ap (map pinned_of) (c.push_reserved.ensures.items ∙ ap (λ xs. xs ++ record { committed = c.commit.result; repairs = c.remove-session.result.repairs; refs = c.args.refs } ∷ []) c.reserve.ensures.items)
     ∙ (session_pins blocks c.args.poll c.args.joined.now.items c.in-Some.i c.remove-session.result c.args.pinned.now.items c.commit.result c.args.refs
-    (place_in _ _ _ _ _ c.as_slice.ensures.value c.place_of_joined.ensures c.in-Some.is) c.remove-session.ensures.value (ap (λ (k : Commitment). k.joined) c.commit.ensures) pins
-    ∙ ap (λ (k : Commitment). map pinned_of c.args.pinned.now.items ++ pinning blocks (commitment_of k) (session_at c.args.poll (map session_of c.args.joined.now.items))) c.commit.ensures)
+    (place_in _ _ _ _ _ c.as_slice.ensures.value c.place_of_joined.ensures c.in-Some.is) c.remove-session.ensures.value (ap (λ (k : Committing). k.joined) c.commit.ensures) pins
+    ∙ ap (λ (k : Committing). map pinned_of c.args.pinned.now.items ++ pinning blocks k.commitment (session_at c.args.poll (map session_of c.args.joined.now.items))) c.commit.ensures)
 
 pub returns-in_ok-reserve-in-Some-clause-of : goal.returns-in_ok-reserve-in-Some-clause-of
 returns-in_ok-reserve-in-Some-clause-of c = λ pool of all.

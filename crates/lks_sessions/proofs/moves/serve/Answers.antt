@@ -1,8 +1,8 @@
 use Rattle.std.proofs.Common.{subst, sym}
+use Rattle.lks_law.specs.Fitting.{MayHave}
 use Rattle.lks_sessions.proofs.Keyed.{may_at, nothing_serves, place_in}
 use Rattle.lks_sessions.proofs.moves.serve.Goals as goal
 use Rattle.lks_sessions.specs.Kept.{cast_of}
-use Rattle.lks_sessions.specs.Sendable.{MayHave}
 use Rattle.lks_sessions.specs.declared.stages.CastSession.{CastSession}
 
 pub serve-requires : goal.serve-requires
