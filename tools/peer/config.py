@@ -1,4 +1,4 @@
-"""What an operator says in a config file: docs/RUNNING.md lists it."""
+"""What an operator says in a config file: docs/RUNNING.md says how to choose its schedule."""
 
 from __future__ import annotations
 

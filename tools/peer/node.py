@@ -27,13 +27,13 @@ STATUSES = {
     5: Status("write-fault", "it is started again", True),
     6: Status("disk-fault", "look at the disk and its room; it is started again", True),
     7: Status("no-memory", "give it memory: it holds its journal; it is started again", True),
-    10: Status("foreign", "the journal isn't of this peer and plan, or its bytes rotted: RUNNING, A lost disk", False),
+    10: Status("foreign", "the journal isn't of this peer and plan, or its bytes rotted: RUNNING, A journal that rotted", False),
     11: Status("bad-frame", "the frame is left out; node and daemon may be of different versions", True),
     12: Status("open-fault", "another node has the journal, or its folder can't be written", True),
     13: Status("full", "the journal has no room: RUNNING, Growth", False),
     14: Status("too-many-frames", "node and daemon are of different versions", True),
     15: Status("stranger", "the plan has no honest peer of this number", False),
-    16: Status("damaged", "the journal is damaged: RUNNING, A lost disk", False),
+    16: Status("damaged", "the journal is damaged: RUNNING, A journal that rotted", False),
     70: Status("no-program", "`node` in the config can't be run: README, Run it, check it, says how to build it", False),
 }
 

@@ -4,14 +4,14 @@ use Rattle.lks_base.specs.declared.limits.TheConstants.{MOST_BLOCKS}
 use Rattle.lks_base.specs.declared.reactions.Reaction.{Reaction}
 use Rattle.lks_base.specs.declared.records.Record.TheVariants as records
 use Rattle.lks_law.specs.Reacting.{asked_of, closed_as}
-use Rattle.lks_law.specs.Reaction.{nothing}
+use Rattle.lks_law.specs.Reaction.{no_effect}
 use Rattle.lks_law.specs.State.{Poll}
 use Rattle.lks_poller.specs.Polling.{Polled}
 use Rattle.lks_poller.specs.declared.stages.Answer.{Answer}
 use Rattle.lks_poller.specs.declared.stages.Answer.TheVariants.{Replace, Bad, NotAsked}
 use Rattle.lks_poller.specs.declared.stages.Next.{Next}
 use Rattle.lks_poller.specs.declared.stages.Next.TheVariants.{Close, Ask}
-use Rattle.lks_repair.specs.Asking.{awaited}
+use Rattle.lks_choice.specs.Asking.{awaited}
 use Rattle.lks_tally.specs.Keeping.{IsCacheOf}
 use Rattle.lks_tally.specs.declared.ballots.Verdict.{Verdict}
 use Rattle.lks_tally.specs.declared.ballots.Verdict.TheVariants as verdict
@@ -44,6 +44,7 @@ done p tick (Ask block voter) = asked_of p block voter
 
 -- a block is put in, or found to be bad
 abbrev pub answered_by : Poll → ℕ → ℕ → List ℕ → Answer → Reaction
-answered_by p from b bytes Replace = record { records = records.Replaced p.number p.opening.au b bytes ∷ []; sends = [] }
+answered_by p from b bytes Replace =
+    record { records = records.Replaced p.number p.opening.au b bytes ∷ []; sends = [] }
 answered_by p from b bytes Bad = record { records = records.RepairBad p.number b from ∷ []; sends = [] }
-answered_by p from b bytes NotAsked = nothing
+answered_by p from b bytes NotAsked = no_effect

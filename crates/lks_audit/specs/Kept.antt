@@ -1,5 +1,6 @@
 -- For how many blocks each running poll keeps the running hashes of its votes.
-use Rattle.std.specs.Prelude.{ℕ, Bool, ◌==◌, if◌then◌else◌, min, Option, None, Some, option_map, List, length, map, find}
+use Rattle.std.specs.Prelude.{ℕ, Bool, ◌==◌, if◌then◌else◌, min, Option, None, Some, option_map, List, length, map}
+use Rattle.std.specs.Prelude.{find}
 use Rattle.lks_law.specs.Polls.{Station}
 use Rattle.lks_law.specs.Reacting.{verdict_of}
 use Rattle.lks_law.specs.Firsts.{changed_first, without_first}

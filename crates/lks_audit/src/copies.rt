@@ -1,12 +1,14 @@
 //! The copies that a peer holds.
 
-ghost use Rattle.std.specs.Prelude.{◌≡◌, ◌<◌, ◌==◌, ℕ, List, ◌∷◌, ◌++◌, [], false, true, None, Some, ◌≤◌, length, if◌then◌else◌, is_some, map, option_map, find, get_or, OnOk, OnErr, IfOk, All};
+ghost use Rattle.std.specs.Prelude.{◌≡◌, ◌<◌, ◌==◌, ℕ, List, ◌∷◌, ◌++◌, [], false, true, None, Some, ◌≤◌, length};
+ghost use Rattle.std.specs.Prelude.{if◌then◌else◌, is_some, map, option_map, find, get_or, OnOk, OnErr, IfOk, All};
 ghost use Rattle.std.specs.List.{position};
 ghost use Rattle.std.specs.Option.{option_copied};
 ghost use Rattle.lks_blocks.specs.Block.{AllOf, bytes_of};
 ghost use Rattle.lks_law.specs.Answering.{version_at};
 ghost use Rattle.lks_law.specs.Fitting.{IsCounted, most_numbered};
-ghost use Rattle.lks_law.specs.State.{copy_at, blocks_at, deposited, opened_at, replaced_in, agreed_at, noted, copy_changed};
+ghost use Rattle.lks_law.specs.State.{copy_at, blocks_at, deposited_copy, opened_at, replaced_in, agreed_at};
+ghost use Rattle.lks_law.specs.State.{noted_overdue, copy_changed};
 ghost use Rattle.lks_law.specs.Journal as journal;
 ghost use Rattle.lks_audit.specs.Copied.{copy_of, copies_of, IsOf, MayReplace};
 ghost use Rattle.lks_versions.specs.Each.{EachOf};
@@ -227,7 +229,7 @@ impl Copies {
     /// Notes that it was noted as overdue.
     #[tactic(auto, using(crate::proofs::Holdings::put_copy, crate::proofs::Holdings::put_nothing, crate::proofs::Holdings::put_of))]
     pub fn note(&mut self, au: AuId)
-        ensures seen { copies_of self.new ≡ copy_changed au noted (copies_of self.old) }
+        ensures seen { copies_of self.new ≡ copy_changed au noted_overdue (copies_of self.old) }
         ensures of { (pool : List ℕ) → All (IsOf pool) self.old → All (IsOf pool) self.new }
     {
         if let Some(i) = self.place(au) {
@@ -247,7 +249,8 @@ impl Copies {
         bytes: &[u8],
     ) -> Result<(), OutOfMemory>
         requires { MayReplace au b (copies_of self.old) }
-        ensures seen { OnOk result (copies_of self.new ≡ copy_changed au (replaced_in b bytes.now) (copies_of self.old)) }
+        ensures seen { OnOk result
+            (copies_of self.new ≡ copy_changed au (replaced_in b bytes.now) (copies_of self.old)) }
         ensures of { All (IsOf pool.now) self.old → All (IsOf pool.now) self.new }
         ensures err { OnErr result (self.new ≡ self.old) }
     {
@@ -267,7 +270,10 @@ impl Copies {
         blocks: &[Bytes],
     ) -> Result<(), OutOfMemory>
         requires { IsCounted blocks.now }
-        ensures seen { OnOk result (copies_of self.new ≡ (if is_some (copy_at au (copies_of self.old)) then copies_of self.old else copies_of self.old ++ deposited au blocks.now ∷ [])) }
+        ensures seen { OnOk result
+            (copies_of self.new
+            ≡ (if is_some (copy_at au (copies_of self.old)) then copies_of self.old
+            else copies_of self.old ++ deposited_copy au blocks.now ∷ [])) }
         ensures of { All (IsOf pool.now) self.old → All (IsOf pool.now) self.new }
         ensures err { OnErr result (self.new ≡ self.old) }
     {

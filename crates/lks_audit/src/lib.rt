@@ -1,9 +1,9 @@
-//! The audits of a peer: the copies that it holds, its polls that run on them, and what each poll makes it add to its journal
-//! and send (Maniatis et al., ACM TOCS 23(1), 2005).
+//! The audits of a peer: the copies that it holds, its polls that run on them, and what each poll makes it add to its
+//! journal and send (Maniatis et al., ACM TOCS 23(1), 2005).
 //!
-//! A row, as [`voting::vote`], says what the rules add and send, and changes nothing that is seen. A call of [`Copies`] or
-//! [`Polls`] notes what one record says. Both are stated over the state of a peer (`State` in `lks_law`), whose copies
-//! and polls these are.
+//! A row, as [`voting::vote`], says what the rules add and send, and changes nothing that is seen. A call of [`Copies`]
+//! or [`Polls`] notes what one record says. Both are stated over the state of a peer (`State` in `lks_law`), whose
+//! copies and polls these are.
 #![tactic(auto)]
 
 mod audits;

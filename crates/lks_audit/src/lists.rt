@@ -7,7 +7,7 @@ ghost use Rattle.lks_law.specs.References.{picked_friends};
 ghost use Rattle.lks_audit.specs.Copied.{copies_of, IsOf};
 ghost use Rattle.lks_audit.specs.Counted.{IsCountedOn};
 ghost use Rattle.lks_audit.specs.Seen.{poll_of, IsOn};
-ghost use Rattle.lks_refs.specs.Lists.{list_after};
+ghost use Rattle.lks_choice.specs.Lists.{list_after};
 ghost use Rattle.lks_tally.specs.declared.ballots.Verdict.TheVariants as verdict;
 
 use crate::copies::Copies;
@@ -16,8 +16,8 @@ use crate::stations::Station;
 use crate::tallies::count;
 use lks_base::{Contents, Ids, OutOfMemory};
 use lks_blocks::BlockPool;
+use lks_choice::References;
 use lks_poller::PollSession;
-use lks_refs::References;
 use std::alloc::Global;
 
 /// The inner voters against the copy at its last block, whose hashes are kept once the votes were counted.
@@ -58,7 +58,11 @@ fn change<C: Contents>(
     requires on { IsCountedOn own.now.id (C.blocks copy.now) poll.old }
     requires agreed { verdict_of own.now (poll_of poll.old) (C.blocks copy.now) ≡ verdict.Agreed }
     requires owner { references.old.own ≡ own.now.id }
-    ensures list { OnOk result (references.new.list ≡ list_after own.now.id references.old.list (leavers own.now (poll_of poll.old) (C.blocks copy.now)) (comers own.now (poll_of poll.old) (C.blocks copy.now)) (picked_friends own.now (poll_of poll.old).number)) }
+    ensures list { OnOk result
+        (references.new.list
+        ≡ list_after own.now.id references.old.list (leavers own.now (poll_of poll.old) (C.blocks copy.now))
+        (comers own.now (poll_of poll.old) (C.blocks copy.now))
+        (picked_friends own.now (poll_of poll.old).number)) }
     ensures owner { references.new.own ≡ references.old.own }
     ensures err { OnErr result (references.new ≡ references.old) }
     ensures on { IsCountedOn own.now.id (C.blocks copy.now) poll.new }
@@ -82,9 +86,13 @@ pub fn change_held(
 ) -> Result<(), OutOfMemory>
     requires of { All (IsOf pool.now) copies.now }
     requires on { IsOn own.now.id (copies_of copies.now) poll.old }
-    requires agreed { verdict_of own.now (poll_of poll.old) (blocks_at poll.old.tally.ballot.au (copies_of copies.now)) ≡ verdict.Agreed }
+    requires agreed { verdict_of own.now (poll_of poll.old)
+        (blocks_at poll.old.tally.ballot.au (copies_of copies.now))
+        ≡ verdict.Agreed }
     requires owner { references.old.own ≡ own.now.id }
-    ensures list { OnOk result (references.new.list ≡ refs_agreed own.now references.old.list (copies_of copies.now) (Some (poll_of poll.old))) }
+    ensures list { OnOk result
+        (references.new.list
+        ≡ refs_agreed own.now references.old.list (copies_of copies.now) (Some (poll_of poll.old))) }
     ensures owner { references.new.own ≡ references.old.own }
     ensures err { OnErr result (references.new ≡ references.old) }
     ensures on { IsOn own.now.id (copies_of copies.now) poll.new }

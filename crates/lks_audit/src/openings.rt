@@ -3,7 +3,7 @@
 ghost use Rattle.std.specs.Prelude.{◌≡◌, ◌≤◌, ℕ, List, IfOk, length};
 ghost use Rattle.lks_base.specs.declared.limits.TheConstants.{MOST_CIRCLE};
 ghost use Rattle.lks_law.specs.Polls.{limits_of};
-ghost use Rattle.lks_law.specs.State.{begun, settled};
+ghost use Rattle.lks_law.specs.State.{begun_poll, settled_opening};
 ghost use Rattle.lks_audit.specs.Counted.{IsCountedOn};
 ghost use Rattle.lks_audit.specs.Seen.{poll_of};
 
@@ -28,7 +28,8 @@ impl<'a> Model for Opening<'a> {
 
     ghost Value = { Opened };
 
-    ghost view = { λ o. record { au = o.au; nonce = o.nonce.now; inner = o.inner.now; limits = o.limits; kind = o.kind } };
+    ghost view = { λ o.
+        record { au = o.au; nonce = o.nonce.now; inner = o.inner.now; limits = o.limits; kind = o.kind } };
 }
 
 // The rules with the numbers of this poll.
@@ -55,7 +56,7 @@ pub fn begin(
 ) -> Result<PollSession, OutOfMemory>
     requires few { length opening.now.inner ≤ MOST_CIRCLE }
     requires some { 1 ≤ count }
-    ensures seen { IfOk result (λ s. poll_of s ≡ begun number (settled own.now.rules opening.now)) }
+    ensures seen { IfOk result (λ s. poll_of s ≡ begun_poll number (settled_opening own.now.rules opening.now)) }
     ensures au { IfOk result (λ s. s.tally.ballot.au ≡ opening.now.au) }
     ensures kept { IfOk result (λ s. s.tally.kept ≡ 0) }
     ensures on { (blocks : List (List ℕ)) → count ≡ length blocks → IfOk result (λ s. IsCountedOn own.now.id blocks s) }

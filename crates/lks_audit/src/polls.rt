@@ -1,10 +1,12 @@
 //! The polls of a peer that run.
 
-ghost use Rattle.std.specs.Prelude.{◌≡◌, ◌==◌, ◌++◌, ◌∷◌, [], ℕ, List, None, Some, false, true, length, map, option_map, find, OnOk, OnErr, IfOk, IfSome, All};
+ghost use Rattle.std.specs.Prelude.{◌≡◌, ◌==◌, ◌++◌, ◌∷◌, [], ℕ, List, None, Some, false, true, length, map};
+ghost use Rattle.std.specs.Prelude.{option_map, find, OnOk, OnErr, IfOk, IfSome, All};
 ghost use Rattle.std.specs.List.{position};
 ghost use Rattle.std.specs.Option.{option_copied};
 ghost use Rattle.lks_blocks.specs.Block.{AllOf};
-ghost use Rattle.lks_law.specs.State.{Copy, poll_at, refs_agreed, changed, without_poll, nominated_by, widened_to, voted_by, shut_now, asking, answered};
+ghost use Rattle.lks_law.specs.State.{Copy, poll_at, refs_agreed, changed_poll, without_poll, nominated_by};
+ghost use Rattle.lks_law.specs.State.{widened_to, voted_by, shut_now, request_sent, request_answered};
 ghost use Rattle.lks_law.specs.Reacting.{for_poll, tally_in, repair_in};
 ghost use Rattle.lks_law.specs.Turning.{has_inner_of};
 ghost use Rattle.lks_audit.specs.Copied.{copies_of, IsOf, HasBlocks};
@@ -20,8 +22,8 @@ use crate::tallies::{repair_held, tally_held};
 use crate::tallying::{job_held, tally_done};
 use lks_base::{AuId, Bytes, Hashes, Ids, OutOfMemory, PeerId, Reaction};
 use lks_blocks::BlockPool;
+use lks_choice::References;
 use lks_poller::PollSession;
-use lks_refs::References;
 use lks_versions::Place;
 use lks_work::{TallyDone, TallyJob};
 use std::alloc::Global;
@@ -38,7 +40,8 @@ fn find(polls: &[PollSession], number: u32) -> Option<&PollSession>
 pub fn find_poll(polls: &[PollSession], number: u32) -> Option<&PollSession>
     ensures seen { poll_at number (polls_of polls.now) ≡ option_map poll_of (option_copied result) }
     ensures kept { kept_at number (kept_of polls.now) ≡ option_map (λ s. s.tally.kept) (option_copied result) }
-    ensures on { (id : ℕ) (copies : List Copy) → All (IsOn id copies) polls.now → IfSome (option_copied result) (IsOn id copies) }
+    ensures on { (id : ℕ) (copies : List Copy) → All (IsOn id copies) polls.now
+        → IfSome (option_copied result) (IsOn id copies) }
 {
     find(polls, number)
 }
@@ -110,10 +113,14 @@ impl Polls {
         requires of { All (IsOf pool.now) copies.now }
         requires counted { All HasBlocks (copies_of copies.now) }
         requires on { All (IsOn own.now.id (copies_of copies.now)) self.old }
-        ensures reaction { IfOk result (λ r. r ≡ for_poll (poll_at number (polls_of self.old)) (tally_in own.now tick (copies_of copies.now))) }
+        ensures reaction { IfOk result
+            (λ r. r
+            ≡ for_poll (poll_at number (polls_of self.old)) (tally_in own.now tick (copies_of copies.now))) }
         ensures seen { polls_of self.new ≡ polls_of self.old }
         ensures on { All (IsOn own.now.id (copies_of copies.now)) self.new }
-        ensures kept { kept_of self.new ≡ kept_by_tally own.now (copies_of copies.now) number (poll_at number (polls_of self.old)) (kept_of self.old) }
+        ensures kept { kept_of self.new
+            ≡ kept_by_tally own.now (copies_of copies.now) number (poll_at number (polls_of self.old))
+            (kept_of self.old) }
     {
         match self.place(number) {
             Some(i) => tally_held(alloc, own, pool, copies, tick, &mut self.list[i]),
@@ -132,9 +139,11 @@ impl Polls {
         number: u32,
     ) -> Result<Option<TallyJob>, OutOfMemory>
         requires on { All (IsOn own.now.id (copies_of copies.now)) self.now }
-        ensures job { IfOk result (IsTallyIn own.now places.now (copies_of copies.now) (poll_at number (polls_of self.now))) }
+        ensures job { IfOk result
+            (IsTallyIn own.now places.now (copies_of copies.now) (poll_at number (polls_of self.now))) }
         ensures kept { IfOk result (λ o. IfSome o (λ j. Some j.tally.kept ≡ kept_at number (kept_of self.now))) }
-        ensures of { IfOk result (λ o. IfSome o (λ j. (pool : List ℕ) → All (IsOf pool) copies.now → AllOf pool j.refs)) }
+        ensures of { IfOk result
+            (λ o. IfSome o (λ j. (pool : List ℕ) → All (IsOf pool) copies.now → AllOf pool j.refs)) }
     {
         match self.place(number) {
             Some(i) => job_held(alloc, own, copies, places, &self.list[i]),
@@ -157,10 +166,15 @@ impl Polls {
         requires counted { All HasBlocks (copies_of copies.now) }
         requires on { All (IsOn own.now.id (copies_of copies.now)) self.old }
         requires refs { AllOf pool.now done.job.refs }
-        ensures reaction { IfOk result (λ r. r ≡ for_poll (poll_at done.job.number (polls_of self.old)) (tally_in own.now tick (copies_of copies.now))) }
+        ensures reaction { IfOk result
+            (λ r. r
+            ≡ for_poll (poll_at done.job.number (polls_of self.old))
+            (tally_in own.now tick (copies_of copies.now))) }
         ensures seen { polls_of self.new ≡ polls_of self.old }
         ensures on { All (IsOn own.now.id (copies_of copies.now)) self.new }
-        ensures kept { kept_of self.new ≡ kept_by_tally own.now (copies_of copies.now) done.job.number (poll_at done.job.number (polls_of self.old)) (kept_of self.old) }
+        ensures kept { kept_of self.new
+            ≡ kept_by_tally own.now (copies_of copies.now) done.job.number
+            (poll_at done.job.number (polls_of self.old)) (kept_of self.old) }
     {
         match self.place(done.job.number) {
             Some(i) => tally_done(alloc, own, pool, copies, tick, &mut self.list[i], done),
@@ -183,7 +197,10 @@ impl Polls {
     ) -> Result<Reaction, OutOfMemory>
         requires of { All (IsOf pool.now) copies.now }
         requires on { All (IsOn own.now.id (copies_of copies.now)) self.old }
-        ensures reaction { IfOk result (λ r. r ≡ for_poll (poll_at number (polls_of self.old)) (repair_in own.now from block bytes.now (copies_of copies.now))) }
+        ensures reaction { IfOk result
+            (λ r. r
+            ≡ for_poll (poll_at number (polls_of self.old))
+            (repair_in own.now from block bytes.now (copies_of copies.now))) }
         ensures same { self.new ≡ self.old }
     {
         match self.place(number) {
@@ -201,7 +218,8 @@ impl Polls {
         }
     }
 
-    /// What the poll of this number, which is agreed, makes of the reference list, if it runs; and the AU that it was on.
+    /// What the poll of this number, which is agreed, makes of the reference list, if it runs; and the AU that it was
+    /// on.
     #[tactic(auto, using(crate::proofs::Sessions::found_poll, crate::proofs::Sessions::no_poll, crate::proofs::Sessions::seen_still, crate::proofs::Running::on_place, crate::proofs::Running::on_set, crate::proofs::Sessions::agreed_at_place, crate::proofs::Keeping::kept_agreed))]
     pub fn agree(
         &mut self,
@@ -217,7 +235,10 @@ impl Polls {
         requires agreed { AreAgreed own.now number (copies_of copies.now) (polls_of self.old) }
         requires owner { references.old.own ≡ own.now.id }
         ensures au { IfOk result (λ au. au ≡ option_map (λ p. p.opening.au) (poll_at number (polls_of self.old))) }
-        ensures list { OnOk result (references.new.list ≡ refs_agreed own.now references.old.list (copies_of copies.now) (poll_at number (polls_of self.old))) }
+        ensures list { OnOk result
+            (references.new.list
+            ≡ refs_agreed own.now references.old.list (copies_of copies.now)
+            (poll_at number (polls_of self.old))) }
         ensures owner { references.new.own ≡ references.old.own }
         ensures err { OnErr result (references.new ≡ references.old) }
         ensures seen { polls_of self.new ≡ polls_of self.old }
@@ -237,7 +258,8 @@ impl Polls {
     /// Notes a nomination.
     #[tactic(auto, using(crate::proofs::Running::on_nominated, crate::proofs::Sessions::put_nominated, crate::proofs::Sessions::put_nothing, crate::proofs::Running::on_none, crate::proofs::Keeping::kept_still))]
     pub fn nominate(&mut self, number: u32, voter: PeerId, nominees: Ids) -> Result<(), OutOfMemory>
-        ensures seen { OnOk result (polls_of self.new ≡ changed number (nominated_by voter nominees) (polls_of self.old)) }
+        ensures seen { OnOk result
+            (polls_of self.new ≡ changed_poll number (nominated_by voter nominees) (polls_of self.old)) }
         ensures on { OnOk result (RunsOn self.old self.new) }
         ensures err { OnErr result (self.new ≡ self.old) }
         ensures kept { OnOk result (kept_of self.new ≡ kept_of self.old) }
@@ -251,7 +273,7 @@ impl Polls {
     /// Notes that the outer circle was invited.
     #[tactic(auto, using(crate::proofs::Running::on_widened, crate::proofs::Sessions::put_widened, crate::proofs::Sessions::put_nothing, crate::proofs::Running::on_none, crate::proofs::Keeping::kept_still))]
     pub fn widen(&mut self, number: u32, outer: Ids)
-        ensures seen { polls_of self.new ≡ changed number (widened_to outer) (polls_of self.old) }
+        ensures seen { polls_of self.new ≡ changed_poll number (widened_to outer) (polls_of self.old) }
         ensures on { RunsOn self.old self.new }
         ensures kept { kept_of self.new ≡ kept_of self.old }
     {
@@ -263,7 +285,7 @@ impl Polls {
     /// Notes that voting ended.
     #[tactic(auto, using(crate::proofs::Running::on_shut, crate::proofs::Sessions::put_shut, crate::proofs::Sessions::put_nothing, crate::proofs::Running::on_none, crate::proofs::Keeping::kept_still))]
     pub fn shut(&mut self, number: u32)
-        ensures seen { polls_of self.new ≡ changed number shut_now (polls_of self.old) }
+        ensures seen { polls_of self.new ≡ changed_poll number shut_now (polls_of self.old) }
         ensures on { RunsOn self.old self.new }
         ensures kept { kept_of self.new ≡ kept_of self.old }
     {
@@ -275,7 +297,7 @@ impl Polls {
     /// Notes that a request was answered, or given up.
     #[tactic(auto, using(crate::proofs::Running::on_answered, crate::proofs::Sessions::put_answered, crate::proofs::Sessions::put_nothing, crate::proofs::Running::on_none, crate::proofs::Keeping::kept_still))]
     pub fn answer(&mut self, number: u32)
-        ensures seen { polls_of self.new ≡ changed number answered (polls_of self.old) }
+        ensures seen { polls_of self.new ≡ changed_poll number request_answered (polls_of self.old) }
         ensures on { RunsOn self.old self.new }
         ensures kept { kept_of self.new ≡ kept_of self.old }
     {
@@ -301,7 +323,9 @@ impl Polls {
     #[tactic(auto, using(crate::proofs::Running::on_asked, crate::proofs::Sessions::put_asked, crate::proofs::Sessions::put_nothing, crate::proofs::Running::on_none, crate::proofs::Keeping::kept_still))]
     pub fn ask(&mut self, number: u32, block: u16, voter: PeerId) -> Result<(), OutOfMemory>
         requires { MayAsk number block self.old }
-        ensures seen { OnOk result (polls_of self.new ≡ changed number (asking (record { block = block; voter = voter })) (polls_of self.old)) }
+        ensures seen { OnOk result
+            (polls_of self.new
+            ≡ changed_poll number (request_sent (record { block = block; voter = voter })) (polls_of self.old)) }
         ensures on { OnOk result (RunsOn self.old self.new) }
         ensures err { OnErr result (self.new ≡ self.old) }
         ensures kept { OnOk result (kept_of self.new ≡ kept_of self.old) }
@@ -316,10 +340,14 @@ impl Polls {
     #[tactic(auto, using(crate::proofs::Running::on_voted, crate::proofs::Sessions::put_voted, crate::proofs::Sessions::put_nothing, crate::proofs::Running::on_none, crate::proofs::Keeping::kept_voted_in, crate::proofs::Keeping::kept_unvoted))]
     pub fn vote(&mut self, number: u32, voter: PeerId, hashes: Hashes) -> Result<(), OutOfMemory>
         requires { MayVote number voter hashes self.old }
-        ensures seen { OnOk result (polls_of self.new ≡ changed number (voted_by (record { voter = voter; hashes = hashes })) (polls_of self.old)) }
+        ensures seen { OnOk result
+            (polls_of self.new
+            ≡ changed_poll number (voted_by (record { voter = voter; hashes = hashes })) (polls_of self.old)) }
         ensures on { OnOk result (RunsOn self.old self.new) }
         ensures err { OnErr result (self.new ≡ self.old) }
-        ensures kept { OnOk result (kept_of self.new ≡ kept_voted number (has_inner_of (poll_at number (polls_of self.old)) voter) (kept_of self.old)) }
+        ensures kept { OnOk result
+            (kept_of self.new
+            ≡ kept_voted number (has_inner_of (poll_at number (polls_of self.old)) voter) (kept_of self.old)) }
     {
         match self.place(number) {
             Some(i) => self.list[i].voted(voter, hashes),

@@ -1,14 +1,14 @@
 //! What a peer adds and sends.
 
 ghost use Rattle.std.specs.Prelude.{◌≡◌, IfOk, [], ◌∷◌};
-ghost use Rattle.lks_law.specs.Reaction.{nothing};
+ghost use Rattle.lks_law.specs.Reaction.{no_effect};
 
 use lks_base::{OutOfMemory, Outgoing, Reaction, Record, Seq};
 use std::alloc::Global;
 
 /// Neither a record nor a message.
 pub fn no_reaction(alloc: Global) -> Reaction
-    ensures { result ≡ nothing }
+    ensures { result ≡ no_effect }
 {
     Reaction {
         records: Seq::from_vec(Vec::new(alloc)),

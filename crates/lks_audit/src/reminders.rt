@@ -4,7 +4,7 @@ ghost use Rattle.std.specs.Prelude.{◌≡◌, ◌≤◌, IfOk, IfSome, option_m
 ghost use Rattle.lks_base.specs.declared.limits.TheConstants.{LAST_BLOCK};
 ghost use Rattle.lks_law.specs.Reaction.{asked_again, given_up};
 ghost use Rattle.lks_law.specs.Reacting.{nudge_in, give_up_in};
-ghost use Rattle.lks_repair.specs.Asking.{awaited};
+ghost use Rattle.lks_choice.specs.Asking.{awaited};
 ghost use Rattle.lks_audit.specs.Seen.{poll_of, request_of};
 
 use crate::letters::{invite, write};

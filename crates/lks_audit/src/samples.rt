@@ -5,13 +5,13 @@ ghost use Rattle.lks_draw.specs.Picks.{picked_by};
 ghost use Rattle.lks_draw.specs.Words.{drawn_from};
 ghost use Rattle.lks_law.specs.Reacting.{inner_of};
 ghost use Rattle.lks_law.specs.References.{picked_friends};
-ghost use Rattle.lks_refs.specs.Circles.{circle_of};
+ghost use Rattle.lks_choice.specs.Circles.{circle_of};
 
 use crate::stations::Station;
 use lks_base::{Ids, OutOfMemory, PeerId, Seq};
+use lks_choice::outer_circle;
 use lks_draw::Draws;
 use lks_poller::Nomination;
-use lks_refs::outer_circle;
 use std::alloc::Global;
 
 /// The labels of the draws of inner circles, of outer circles, and of friends.
@@ -79,7 +79,10 @@ pub fn sample_outer(
     inner: &[PeerId],
     nominations: &[Nomination],
 ) -> Result<Ids, OutOfMemory>
-    ensures { IfOk result (λ outer. outer ≡ (circle_of (drawn_from own.now.seed 2 number) own.now.id inner.now (map (λ n. n.nominees) nominations.now) own.now.rules.outer).peers) }
+    ensures { IfOk result
+        (λ outer. outer
+        ≡ (circle_of (drawn_from own.now.seed 2 number) own.now.id inner.now
+        (map (λ n. n.nominees) nominations.now) own.now.rules.outer).peers) }
 {
     let nominated = copy_nominees(alloc, nominations)?;
     let mut draws = Draws::new(&own.seed, OUTER_CIRCLE, number);

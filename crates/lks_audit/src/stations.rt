@@ -25,7 +25,17 @@ impl Model for Station {
 
     ghost Value = { Stationed };
 
-    ghost view = { λ a. record { rules = a.rules; aus = a.aus; id = a.id; seed = a.seed; proof = a.proof; refs = a.refs; friends = a.friends; hash = a.hash } };
+    ghost view = { λ a.
+        record {
+          rules = a.rules;
+          aus = a.aus;
+          id = a.id;
+          seed = a.seed;
+          proof = a.proof;
+          refs = a.refs;
+          friends = a.friends;
+          hash = a.hash;
+        } };
 }
 
 impl Station {

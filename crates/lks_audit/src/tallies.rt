@@ -2,7 +2,8 @@
 
 ghost use Rattle.std.specs.Prelude.{◌≡◌, ◌≤◌, ◌<◌, ℕ, List, IfOk, All, length};
 ghost use Rattle.lks_base.specs.declared.limits.TheConstants.{MOST_BLOCKS};
-ghost use Rattle.lks_law.specs.Reacting.{asked_of, tallied_as, tally_over, verdict_of, tally_in, repair_over, repair_in};
+ghost use Rattle.lks_law.specs.Reacting.{asked_of, tallied_as, tally_over, verdict_of, tally_in, repair_over};
+ghost use Rattle.lks_law.specs.Reacting.{repair_in};
 ghost use Rattle.lks_audit.specs.Counted.{IsCountedOn, IsSmall, done, answered_by};
 ghost use Rattle.lks_audit.specs.Copied.{copies_of, IsOf, HasBlocks};
 ghost use Rattle.lks_audit.specs.Kept.{kept_over, kept_tallied};
@@ -122,7 +123,8 @@ pub fn repair<C: Contents>(
     bytes: &Bytes,
 ) -> Result<Reaction, OutOfMemory>
     requires on { IsCountedOn own.now.id (C.blocks copy.now) poll.old }
-    ensures reaction { IfOk result (λ r. r ≡ repair_over own.now from block bytes.now (C.blocks copy.now) (poll_of poll.old)) }
+    ensures reaction { IfOk result
+        (λ r. r ≡ repair_over own.now from block bytes.now (C.blocks copy.now) (poll_of poll.old)) }
     ensures same { poll.new ≡ poll.old }
 {
     let answer = poll.answer_of(from, block, bytes.as_slice(), copy);
@@ -179,7 +181,8 @@ pub fn tally_held(
     ensures reaction { IfOk result (λ r. r ≡ tally_in own.now tick (copies_of copies.now) (poll_of poll.old)) }
     ensures seen { poll_of poll.new ≡ poll_of poll.old }
     ensures on { IsOn own.now.id (copies_of copies.now) poll.new }
-    ensures kept { poll.new.tally.kept ≡ kept_tallied own.now (copies_of copies.now) (poll_of poll.old) poll.old.tally.kept }
+    ensures kept { poll.new.tally.kept
+        ≡ kept_tallied own.now (copies_of copies.now) (poll_of poll.old) poll.old.tally.kept }
 {
     let copy = copies.read(pool, poll.au());
     tally(alloc, own, tick, poll, &copy)
@@ -199,7 +202,8 @@ pub fn repair_held(
 ) -> Result<Reaction, OutOfMemory>
     requires of { All (IsOf pool.now) copies.now }
     requires on { IsOn own.now.id (copies_of copies.now) poll.old }
-    ensures reaction { IfOk result (λ r. r ≡ repair_in own.now from block bytes.now (copies_of copies.now) (poll_of poll.old)) }
+    ensures reaction { IfOk result
+        (λ r. r ≡ repair_in own.now from block bytes.now (copies_of copies.now) (poll_of poll.old)) }
     ensures same { poll.new ≡ poll.old }
 {
     let copy = copies.read(pool, poll.au());

@@ -64,8 +64,8 @@ pub fn job_held(
     }))
 }
 
-/// Whether a tally that was hashed is of this peer's poll, its votes and the newest version of its copy, and keeps the hashes
-/// that a count here would keep.
+/// Whether a tally that was hashed is of this peer's poll, its votes and the newest version of its copy, and keeps the
+/// hashes that a count here would keep.
 fn is_same(
     own: &Station,
     pool: &BlockPool,
@@ -92,15 +92,16 @@ fn take(own: &Station, pool: &BlockPool, copies: &Copies, poll: &mut PollSession
     requires refs { AllOf pool.now done.job.refs }
     ensures seen { poll_of poll.new ≡ poll_of poll.old }
     ensures on { IsOn own.now.id (copies_of copies.now) poll.new }
-    ensures kept { kept_tallied own.now (copies_of copies.now) (poll_of poll.old) poll.new.tally.kept ≡ kept_tallied own.now (copies_of copies.now) (poll_of poll.old) poll.old.tally.kept }
+    ensures kept { kept_tallied own.now (copies_of copies.now) (poll_of poll.old) poll.new.tally.kept
+        ≡ kept_tallied own.now (copies_of copies.now) (poll_of poll.old) poll.old.tally.kept }
 {
     if poll.may_tally() && is_same(own, pool, copies, poll, &done) {
         poll.put_tally(done.job.tally);
     }
 }
 
-/// What the rules say about the votes of a poll over the copy that is held, once they were counted elsewhere: what is hashed
-/// already isn't hashed again. Where the result isn't of this poll as it is now, they are counted here.
+/// What the rules say about the votes of a poll over the copy that is held, once they were counted elsewhere: what is
+/// hashed already isn't hashed again. Where the result isn't of this poll as it is now, they are counted here.
 pub fn tally_done(
     alloc: Global,
     own: &Station,
@@ -117,7 +118,8 @@ pub fn tally_done(
     ensures reaction { IfOk result (λ r. r ≡ tally_in own.now tick (copies_of copies.now) (poll_of poll.old)) }
     ensures seen { poll_of poll.new ≡ poll_of poll.old }
     ensures on { IsOn own.now.id (copies_of copies.now) poll.new }
-    ensures kept { poll.new.tally.kept ≡ kept_tallied own.now (copies_of copies.now) (poll_of poll.old) poll.old.tally.kept }
+    ensures kept { poll.new.tally.kept
+        ≡ kept_tallied own.now (copies_of copies.now) (poll_of poll.old) poll.old.tally.kept }
 {
     take(own, pool, copies, poll, done);
     tally_held(alloc, own, pool, copies, tick, poll)

@@ -5,7 +5,8 @@ ghost use Rattle.lks_base.specs.declared.names.Outcome.TheVariants as outcome;
 ghost use Rattle.lks_base.specs.declared.records.Record.TheVariants as record_of;
 ghost use Rattle.lks_base.specs.declared.limits.TheConstants.{MOST_PROOF_BYTES};
 ghost use Rattle.lks_law.specs.Reaction.{is_accepted as accepted};
-ghost use Rattle.lks_law.specs.Reacting.{outer_of_poll, widen_in, shut_in, receipts_of, closed_as, challenge_in, nominate_in, vote_in_poll};
+ghost use Rattle.lks_law.specs.Reacting.{outer_of_poll, widen_in, shut_in, receipts_of, closed_as, challenge_in};
+ghost use Rattle.lks_law.specs.Reacting.{nominate_in, vote_in_poll};
 ghost use Rattle.lks_law.specs.State.{Copy};
 ghost use Rattle.lks_audit.specs.Seen.{poll_of, IsOn};
 
@@ -169,7 +170,8 @@ pub fn vote(
     hashes: &Hashes,
     judged: Judged,
 ) -> Result<Reaction, OutOfMemory>
-    ensures { (id : ℕ) (copies : List Copy) → IsOn id copies poll.now → IfOk result (λ r. r ≡ vote_in_poll from hashes.now judged copies (poll_of poll.now)) }
+    ensures { (id : ℕ) (copies : List Copy) → IsOn id copies poll.now
+        → IfOk result (λ r. r ≡ vote_in_poll from hashes.now judged copies (poll_of poll.now)) }
 {
     if !(is_accepted(judged) && poll.may_vote(from, hashes.as_slice().len())) {
         return Ok(no_reaction(alloc));

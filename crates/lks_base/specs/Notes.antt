@@ -1,7 +1,9 @@
 -- What a note says of its peer's copies and polls.
 use Rattle.std.specs.Prelude.{ℕ, Bool, Option, Some, None}
 use Rattle.lks_base.specs.declared.entries.Note.{Note}
-use Rattle.lks_base.specs.declared.entries.Note.TheVariants.{Opened, Nominated, Outer, VoteIn, Shut, Asked, RepairBad, Replaced, Closed, Overdue, Joined, Committed, Voted, Served, Ended, Tuned}
+use Rattle.lks_base.specs.declared.entries.Note.TheVariants.{Opened, Nominated, Outer, VoteIn, Shut, Asked, RepairBad}
+use Rattle.lks_base.specs.declared.entries.Note.TheVariants.{Replaced, Closed, Overdue, Joined, Committed, Voted}
+use Rattle.lks_base.specs.declared.entries.Note.TheVariants.{Served, Ended, Tuned}
 use Rattle.lks_base.specs.declared.names.Outcome.{Outcome}
 
 -- a poll that was opened

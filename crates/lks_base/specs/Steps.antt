@@ -1,7 +1,8 @@
 -- What a step is, whatever a peer does in it.
 use Rattle.std.specs.Prelude.{ℕ}
 use Rattle.lks_base.specs.declared.events.PeerStep.{PeerStep}
-use Rattle.lks_base.specs.declared.events.PeerStep.TheVariants.{OpenPoll, Widen, Shut, Tally, Nudge, GiveUp, Work, Expire, Check, Tune, Deliver}
+use Rattle.lks_base.specs.declared.events.PeerStep.TheVariants.{OpenPoll, Widen, Shut, Tally, Nudge, GiveUp, Work}
+use Rattle.lks_base.specs.declared.events.PeerStep.TheVariants.{Expire, Check, Tune, Deliver}
 use Rattle.lks_base.specs.declared.names.Judged.{Judged}
 
 -- a peer takes it by itself, or an envelope is delivered

@@ -1,7 +1,10 @@
 //! Whether a plan is good, and if not, which rule it breaks first.
 
 ghost use Rattle.std.specs.Prelude.{◌≡◌, ◌+◌, ◌<◌, IfSome, IfNone, nat_le, []};
-ghost use Rattle.lks_base.specs.Checking.{fault_of, unless, each, is_within, are_bounded, are_ordered, has_au, au_fault, has_peer, has_corrupt, has_honest, has_member, member_fault, has_counted, has_copy, are_short, copy_fault, is_bare, is_fit, peer_fault, bytes_of_blocks, bytes_of_copies, bytes_of_peers, plan_fault};
+ghost use Rattle.lks_base.specs.Checking.{fault_of, unless, each, is_within, are_bounded, are_ordered, has_au};
+ghost use Rattle.lks_base.specs.Checking.{au_fault, has_peer, has_corrupt, has_honest, has_member, member_fault};
+ghost use Rattle.lks_base.specs.Checking.{has_counted, has_copy, are_short, copy_fault, is_bare, is_fit, peer_fault};
+ghost use Rattle.lks_base.specs.Checking.{bytes_of_blocks, bytes_of_copies, bytes_of_peers, plan_fault};
 
 use crate::limits::{
     LAST_NUMBER, MOST_AUS, MOST_BLOCK_BYTES, MOST_BLOCKS, MOST_CIRCLE, MOST_COPY_BYTES,

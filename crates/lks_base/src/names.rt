@@ -46,8 +46,8 @@ pub struct Limits {
     pub minority: u16,
 }
 
-/// The numbers in force, which an operator can tune: what decides polls to come, and how many blocks a voter serves in a
-/// session to come.
+/// The numbers in force, which an operator can tune: what decides polls to come, and how many blocks a voter serves in
+/// a session to come.
 #[derive(Clone, Copy, Debug, PartialEq, Eq)]
 pub struct Numbers {
     pub quorum: u16,

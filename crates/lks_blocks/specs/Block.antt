@@ -25,14 +25,17 @@ pub all_none : (pool : List ℕ) → AllOf pool []
 unfolding AllOf
 all_none pool = All-nil (λ (b : Block). b.pool ≡ pool)
 
-pub all_push : (pool : List ℕ) (blocks : List Block) (block : Block) → AllOf pool blocks → block.pool ≡ pool → AllOf pool (blocks ++ block ∷ [])
+pub all_push : (pool : List ℕ) (blocks : List Block) (block : Block) → AllOf pool blocks → block.pool ≡ pool
+    → AllOf pool (blocks ++ block ∷ [])
 unfolding AllOf
 all_push pool blocks block each of = All-push (λ (b : Block). b.pool ≡ pool) blocks block each of
 
-pub all_set : (pool : List ℕ) (blocks : List Block) (place : ℕ) (block : Block) → AllOf pool blocks → block.pool ≡ pool → AllOf pool (slice_set blocks place block)
+pub all_set : (pool : List ℕ) (blocks : List Block) (place : ℕ) (block : Block) → AllOf pool blocks
+    → block.pool ≡ pool → AllOf pool (slice_set blocks place block)
 unfolding AllOf
 all_set pool blocks place block each of = All-set (λ (b : Block). b.pool ≡ pool) blocks place block of each
 
-pub all_at : (pool : List ℕ) (blocks : List Block) (place : ℕ) (block : Block) → AllOf pool blocks → place < length blocks → (slice_index_or blocks place block).pool ≡ pool
+pub all_at : (pool : List ℕ) (blocks : List Block) (place : ℕ) (block : Block) → AllOf pool blocks
+    → place < length blocks → (slice_index_or blocks place block).pool ≡ pool
 unfolding AllOf
 all_at pool blocks place block each within = each place block within

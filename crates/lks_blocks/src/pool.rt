@@ -28,7 +28,8 @@ impl Model for BlockPool {
     ghost view = { λ p. key_of p.blocks };
 }
 
-/// Which pool it is, without its blocks. It takes no memory, so whatever keeps references keeps one to say whose they are.
+/// Which pool it is, without its blocks. It takes no memory, so whatever keeps references keeps one to say whose they
+/// are.
 #[derive(Drop)]
 pub struct PoolMark {
     tag: Tag,

@@ -11,7 +11,8 @@ left_behind (suc n) old new set passed =
     let rest = left_behind n passed.0 new (passed.1.stays_set ∙ set) passed.2 in
     omega (arith, one, rest)
 
-pub burns_behind : (n : ℕ) (first mid last : FuseTold) → first.set ≡ true → first.left ≡ first.calls → Passed n first mid → Fused {T = Unit {0}} mid last (Err Cut) → n ≡ first.calls
+pub burns_behind : (n : ℕ) (first mid last : FuseTold) → first.set ≡ true → first.left ≡ first.calls
+    → Passed n first mid → Fused {T = Unit {0}} mid last (Err Cut) → n ≡ first.calls
 burns_behind n first mid last set whole passed cut =
     let all = left_behind n first mid set passed in
     let none = (cut.cut refl).1 in

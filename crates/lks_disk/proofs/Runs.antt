@@ -4,20 +4,25 @@ use Rattle.lks_disk.specs.Device.{Elapses, LeavesOnly}
 
 module _ {D : Type 0} (moment : D → ℕ) (left_since : D → ℕ → List ℕ → Type 0) where
   -- before the first call
-  pub started : (old : D) (P : List ℕ → Type 0) → ((c : List ℕ) → left_since old (moment old) c → P c) → LeavesOnly moment left_since old old P
+  pub started : (old : D) (P : List ℕ → Type 0) → ((c : List ℕ) → left_since old (moment old) c → P c)
+      → LeavesOnly moment left_since old old P
   started old P here = record { later = omega arith; each = here; before = λ t c le left. inl left }
 
   -- one call more, after which a crash leaves what has P
-  pub goes_on : (old mid new : D) (P may_leave : List ℕ → Type 0) → LeavesOnly moment left_since old mid P → Elapses (moment mid) (moment new) (left_since mid) (left_since new) may_leave
+  pub goes_on : (old mid new : D) (P may_leave : List ℕ → Type 0) → LeavesOnly moment left_since old mid P
+      → Elapses (moment mid) (moment new) (left_since mid) (left_since new) may_leave
       → ((c : List ℕ) → may_leave c → P c) → LeavesOnly moment left_since old new P
   goes_on old mid new P may_leave so_far time here = record {
     later = omega (arith, so_far.later, time.later);
     each = λ c left. ⊎_elim (so_far.each c) (here c) (time.nothing_else (moment old) c so_far.later left);
-    before = λ t c le left. ⊎_elim (so_far.before t c le) (λ now. inr (here c now)) (time.nothing_else t c (omega (arith, le, so_far.later)) left);
+    before =
+        λ t c le left. ⊎_elim (so_far.before t c le) (λ now. inr (here c now))
+        (time.nothing_else t c (omega (arith, le, so_far.later)) left);
   }
 
   -- what is left has less
-  pub weaker : (old new : D) (P Q : List ℕ → Type 0) → ((c : List ℕ) → P c → Q c) → LeavesOnly moment left_since old new P → LeavesOnly moment left_since old new Q
+  pub weaker : (old new : D) (P Q : List ℕ → Type 0) → ((c : List ℕ) → P c → Q c)
+      → LeavesOnly moment left_since old new P → LeavesOnly moment left_since old new Q
   weaker old new P Q less run = record {
     later = run.later;
     each = λ c left. less c (run.each c left);
@@ -25,14 +30,24 @@ module _ {D : Type 0} (moment : D → ℕ) (left_since : D → ℕ → List ℕ 
   }
 
   -- a run after a run
-  pub joined : (old mid new : D) (P : List ℕ → Type 0) → LeavesOnly moment left_since old mid P → LeavesOnly moment left_since mid new P → LeavesOnly moment left_since old new P
+  pub joined : (old mid new : D) (P : List ℕ → Type 0) → LeavesOnly moment left_since old mid P
+      → LeavesOnly moment left_since mid new P → LeavesOnly moment left_since old new P
   joined old mid new P first second = record {
     later = omega (arith, first.later, second.later);
     each = λ c left. ⊎_elim (first.each c) (λ p. p) (second.before (moment old) c first.later left);
-    before = λ t c le left. ⊎_elim (first.before t c le) (λ p. inr p) (second.before t c (omega (arith, le, first.later)) left);
+    before =
+        λ t c le left. ⊎_elim (first.before t c le) (λ p. inr p)
+        (second.before t c (omega (arith, le, first.later)) left);
   }
 
   -- a call that changed nothing
-  pub still : (old new : D) (P : List ℕ → Type 0) → moment new ≡ moment old → ((t : ℕ) (c : List ℕ) → left_since new t c → left_since old t c) → ((c : List ℕ) → left_since old (moment old) c → P c)
+  pub still : (old new : D) (P : List ℕ → Type 0) → moment new ≡ moment old
+      → ((t : ℕ) (c : List ℕ) → left_since new t c → left_since old t c)
+      → ((c : List ℕ) → left_since old (moment old) c → P c)
       → LeavesOnly moment left_since old new P
-  still old new P same past here = record { later = omega (arith, same); each = λ c left. here c (past (moment old) c left); before = λ t c le left. inl (past t c left) }
+  still old new P same past here =
+      record {
+        later = omega (arith, same);
+        each = λ c left. here c (past (moment old) c left);
+        before = λ t c le left. inl (past t c left);
+      }

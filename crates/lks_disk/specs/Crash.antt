@@ -1,5 +1,6 @@
 -- What a crash leaves of a disk in memory: its bytes, and its writes and syncs with what undoes them, newest first.
-use Rattle.std.specs.Prelude.{◌≡◌, ◌⊎◌, ◌==◌, ℕ, zero, suc, Bool, true, false, ◌-◌, ◌<◌, List, [], ◌∷◌, length, take, drop, if◌then◌else◌, Result, Err}
+use Rattle.std.specs.Prelude.{◌≡◌, ◌⊎◌, ◌==◌, ℕ, zero, suc, Bool, true, false, ◌-◌, ◌<◌, List, [], ◌∷◌, length, take}
+use Rattle.std.specs.Prelude.{drop, if◌then◌else◌, Result, Err}
 use Rattle.lks_disk.specs.Device.{Holds, Torn}
 use Rattle.lks_disk.specs.Ranges.{replaced, counting, Fits}
 use Rattle.lks_disk.specs.declared.disks.DiskFail.{DiskFail}
@@ -23,7 +24,8 @@ undone Synced x = x
 abbrev pub IsImage : List Call → List ℕ → List ℕ → Type 0
 IsImage [] x c = c ≡ x
 IsImage (Synced ∷ calls) x c = c ≡ x
-IsImage (Written at n over ∷ calls) x c = (c ≡ x) ⊎ ((d : List ℕ) × IsImage calls (replaced at n over x) d × Torn at n d c)
+IsImage (Written at n over ∷ calls) x c =
+    (c ≡ x) ⊎ ((d : List ℕ) × IsImage calls (replaced at n over x) d × Torn at n d c)
 
 -- a crash now, or before one of the last so many calls, may leave c
 abbrev pub WasImage : ℕ → List Call → List ℕ → List ℕ → Type 0
@@ -86,7 +88,8 @@ pub record IsWritten (at : ℕ) (piece : List ℕ) (old new : Kept) : Type 0 whe
 abbrev pub synced : List Call → List Call
 synced calls = if is_pending calls then Synced ∷ calls else calls
 
--- the bytes and calls after a write with this fate: one that fails or is cut off leaves nothing, one that burns the fuse is done
+-- the bytes and calls after a write with this fate: one that fails or is cut off leaves nothing, one that burns the
+-- fuse is done
 abbrev pub Writes : Fate → ℕ → List ℕ → Kept → Kept → Type 0
 Writes Passes at piece old new = IsWritten at piece old new
 Writes Burns at piece old new = IsWritten at piece old new

@@ -1,5 +1,6 @@
 -- What the calls of a disk do to its bytes, and what a crash may do between two syncs.
-use Rattle.std.specs.Prelude.{◌≡◌, ◌⊎◌, ℕ, zero, suc, Bool, true, false, ◌+◌, ◌-◌, ◌≤◌, max, min, List, ◌++◌, length, take, drop, Result, Ok, Err, OnOk, IsErrOf}
+use Rattle.std.specs.Prelude.{◌≡◌, ◌⊎◌, ℕ, zero, suc, Bool, true, false, ◌+◌, ◌-◌, ◌≤◌, max, min, List, ◌++◌, length}
+use Rattle.std.specs.Prelude.{take, drop, Result, Ok, Err, OnOk, IsErrOf}
 use Rattle.lks_disk.specs.Counts.{Rose, raised}
 use Rattle.lks_disk.specs.declared.disks.DiskFail.{DiskFail}
 use Rattle.lks_disk.specs.declared.disks.DiskFail.TheVariants.{Failed, Cut, Memory}
@@ -8,7 +9,8 @@ use Rattle.lks_disk.specs.declared.disks.DiskFail.TheVariants.{Failed, Cut, Memo
 abbrev pub Holds : List ℕ → ℕ → List ℕ → List ℕ → Type 0
 Holds old at bytes new = new ≡ take at old ++ bytes ++ drop (at + length bytes) old
 
--- after a write of n bytes that a crash or a failure cut short: any bytes in the range and past the old end, the same elsewhere
+-- after a write of n bytes that a crash or a failure cut short: any bytes in the range and past the old end, the same
+-- elsewhere
 pub record Torn (at n : ℕ) (old new : List ℕ) : Type 0 where
   pub before : take at new ≡ take at old
   pub after : drop (at + n) new ≡ drop (at + n) old
@@ -42,14 +44,15 @@ pub record Elapses (before now : ℕ) (past since : ℕ → List ℕ → Type 0)
   pub keeps : (t : ℕ) (c : List ℕ) → t ≤ before → past t c → since t c
 
 -- a crash at any moment since old leaves bytes that have P
-pub record LeavesOnly {D : Type 0} (moment : D → ℕ) (left_since : D → ℕ → List ℕ → Type 0) (old new : D) (P : List ℕ → Type 0) : Type 0 where
+pub record LeavesOnly {D : Type 0} (moment : D → ℕ) (left_since : D → ℕ → List ℕ → Type 0) (old new : D)
+    (P : List ℕ → Type 0) : Type 0 where
   pub later : moment old ≤ moment new
   pub each : (c : List ℕ) → left_since new (moment old) c → P c
   -- for a run that began earlier
   pub before : (t : ℕ) (c : List ℕ) → t ≤ moment old → left_since new t c → left_since old t c ⊎ P c
 
--- `Failed` is answered only where the count of faults rose in the call. It never falls, and it rises with no other answer:
--- no fault is passed over.
+-- `Failed` is answered only where the count of faults rose in the call. It never falls, and it rises with no other
+-- answer: no fault is passed over.
 pub record HasCause {T : Type 0} (before now : ℕ) (result : Result T DiskFail) : Type 0 where
   pub later : before ≤ now
   pub failed : IsErrOf result Failed → Rose before now

@@ -9,14 +9,16 @@ pub record Face (D : Type 0) : Type 1 where
   pub seen : D → List ℕ  -- the bytes that a read gives
   pub may_leave : D → List ℕ → Type 0  -- what a crash at this moment may leave
   pub moment : D → ℕ  -- the moment, as a number that doesn't fall
-  pub left_since : D → ℕ → List ℕ → Type 0  -- what a crash at some moment from that one on might have left, during a call or between two
+  -- what a crash at some moment from that one on might have left, during a call or between two
+  pub left_since : D → ℕ → List ℕ → Type 0
   pub faults : D → ℕ  -- how often the disk has failed
   pub burns : D → ℕ  -- how many fuses have burned
   pub cuts : D → ℕ  -- how often the power was cut
   pub fused : D → Bool  -- a fuse is set
   pub burned : D → Bool  -- the fuse that is set has burned
   pub left : D → ℕ  -- how many calls of `write_at` and `sync` the fuse still lets pass
-  pub calls : D → ℕ  -- how many of them the fuse was set to let pass, or the one that the last power cut ended where no fuse is set
+  -- how many of them the fuse was set to let pass, or the one that the last power cut ended where no fuse is set
+  pub calls : D → ℕ
   pub choice : D → ℕ  -- which of the outcomes of a crash a power cut leaves, or the last one left where no fuse is set
 
 -- a call changed nothing of what a read gives and a crash leaves
@@ -39,7 +41,16 @@ AlwaysLeaves f old new P = LeavesOnly f.moment f.left_since old new P
 
 -- the fuse and the power of a disk
 abbrev pub fuse_of : {D : Type 0} → Face D → D → FuseTold
-fuse_of f disk = record { set = f.fused disk; burned = f.burned disk; left = f.left disk; calls = f.calls disk; choice = f.choice disk; burns = f.burns disk; cuts = f.cuts disk }
+fuse_of f disk =
+    record {
+      set = f.fused disk;
+      burned = f.burned disk;
+      left = f.left disk;
+      calls = f.calls disk;
+      choice = f.choice disk;
+      burns = f.burns disk;
+      cuts = f.cuts disk;
+    }
 
 -- what a write or a sync did to them
 abbrev pub Burns : {D T : Type 0} → Face D → D → D → Result T DiskFail → Type 0
@@ -61,8 +72,8 @@ pub record HasFuse {D : Type 0} (f : Face D) (calls choice : ℕ) (old new : D) 
   pub burns : f.burns new ≡ f.burns old
   pub cuts : f.cuts new ≡ f.cuts old
 
--- the power was cut, once more: what is there is what a crash may have left, by the choice of the fuse, nothing is pending, and
--- no fuse is set
+-- the power was cut, once more: what is there is what a crash may have left, by the choice of the fuse, nothing is
+-- pending, and no fuse is set
 pub record HasLost {D : Type 0} (f : Face D) (old new : D) : Type 0 where
   pub left : f.may_leave old (f.seen new)
   pub durable : Only (f.seen new) (f.may_leave new)

@@ -49,7 +49,16 @@ setting_of fuse = record { calls = if is_set fuse then last_calls fuse else 0; c
 
 -- what is told of it
 abbrev pub tells_of : Control → FuseTold
-tells_of c = record { set = is_set c.fuse; burned = is_burned c.fuse; left = lets c.fuse; calls = last_calls c.fuse; choice = last_choice c.fuse; burns = c.burns; cuts = c.cuts }
+tells_of c =
+    record {
+      set = is_set c.fuse;
+      burned = is_burned c.fuse;
+      left = lets c.fuse;
+      calls = last_calls c.fuse;
+      choice = last_choice c.fuse;
+      burns = c.burns;
+      cuts = c.cuts;
+    }
 
 -- the fuse after a write or a sync
 abbrev pub fuse_after : Fuse → Fuse

@@ -1,6 +1,8 @@
 //! The bytes of a disk in memory, and what a power cut makes of them.
-ghost use Rattle.std.specs.Prelude.{◌≡◌, ◌+◌, ◌<◌, ◌≤◌, ◌++◌, ◌∷◌, [], length, reverse, vec_len, vec_capacity, OnOk, OnErr};
-ghost use Rattle.lks_disk.specs.Crash.{Kept, AllFit, IsSound, IsWritten, all_undone, all_garbled, left_by, may_leave, synced};
+ghost use Rattle.std.specs.Prelude.{◌≡◌, ◌+◌, ◌<◌, ◌≤◌, ◌++◌, ◌∷◌, [], length, reverse, vec_len, vec_capacity, OnOk};
+ghost use Rattle.std.specs.Prelude.{OnErr};
+ghost use Rattle.lks_disk.specs.Crash.{Kept, AllFit, IsSound, IsWritten, all_undone, all_garbled, left_by, may_leave};
+ghost use Rattle.lks_disk.specs.Crash.{synced};
 
 use crate::calls::{Call, Over};
 use crate::ranges::{garble, put, restore};
@@ -21,7 +23,8 @@ impl Model for Content {
 
     ghost view = { λ s. record { bytes = s.bytes.items; calls = reverse s.calls.items } };
 
-    ghost invariant = { λ s. IsSound s.bytes.items (reverse s.calls.items) s.pending (vec_len s.calls) (vec_capacity s.calls) };
+    ghost invariant = { λ s. IsSound s.bytes.items (reverse s.calls.items) s.pending (vec_len s.calls)
+        (vec_capacity s.calls) };
 }
 
 impl Content {

@@ -2,7 +2,8 @@
 ghost use Rattle.std.specs.Prelude.{◌≡◌, ◌-◌, if◌then◌else◌};
 ghost use Rattle.lks_disk.specs.Counts.{next_fails, raised};
 ghost use Rattle.lks_disk.specs.Device.{HasCause, Fused, SameFuse};
-ghost use Rattle.lks_disk.specs.Fuse.{choice_of, setting_of, tells_of, fuse_after, fate_of, answer_of, settled, read_answer, after_read};
+ghost use Rattle.lks_disk.specs.Fuse.{choice_of, setting_of, tells_of, fuse_after, fate_of, answer_of, settled};
+ghost use Rattle.lks_disk.specs.Fuse.{read_answer, after_read};
 
 use crate::disks::DiskFail;
 
@@ -70,7 +71,17 @@ pub struct Control {
 
 impl Control {
     pub fn new(fail: Vec<u32>, fail_reads: Vec<u32>) -> Self
-        ensures { result ≡ record { fail = fail; fail_reads = fail_reads; calls = 0; reads = 0; faults = 0; burns = 0; cuts = 0; fuse = Fuse.Unset (record { calls = 0; choice = 0 }) } }
+        ensures { result
+            ≡ record {
+              fail = fail;
+              fail_reads = fail_reads;
+              calls = 0;
+              reads = 0;
+              faults = 0;
+              burns = 0;
+              cuts = 0;
+              fuse = Fuse.Unset (record { calls = 0; choice = 0 });
+            } }
     {
         Control {
             fail,
@@ -177,7 +188,8 @@ impl Control {
     /// Ends the fuse, counts a power cut, and says which outcome it leaves.
     pub fn cut_power(&mut self) -> u64
         ensures choice { result ≡ choice_of self.old.fuse }
-        ensures after { self.new ≡ record self.old { fuse = Fuse.Unset (setting_of self.old.fuse); cuts = raised self.old.cuts } }
+        ensures after { self.new
+            ≡ record self.old { fuse = Fuse.Unset (setting_of self.old.fuse); cuts = raised self.old.cuts } }
     {
         let last = self.setting();
         self.fuse = Fuse::Unset { last };

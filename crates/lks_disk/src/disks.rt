@@ -52,8 +52,10 @@ pub trait Disk {
         requires ends { at + length piece.now < 2 ^ 63 }
         ensures told { face.told self.old ↔ face.told self.new }
         ensures wrote { face.told self.old → Wrote (face.seen self.old) at piece.now (face.seen self.new) result }
-        ensures crash { face.told self.old → Follows (Torn at (length piece.now)) (face.may_leave self.old) (face.may_leave self.new) }
-        ensures memory { face.told self.old → IsErrOf result DiskFail.Memory → (c : List ℕ) → face.may_leave self.new c → face.may_leave self.old c }
+        ensures crash { face.told self.old
+            → Follows (Torn at (length piece.now)) (face.may_leave self.old) (face.may_leave self.new) }
+        ensures memory { face.told self.old → IsErrOf result DiskFail.Memory → (c : List ℕ)
+            → face.may_leave self.new c → face.may_leave self.old c }
         ensures time { face.told self.old → Passes face self.old self.new }
         ensures cause { HasCause (face.faults self.old) (face.faults self.new) result }
         ensures fuse { Burns face self.old self.new result };
@@ -70,10 +72,12 @@ pub trait Disk {
         ensures fuse { Burns face self.old self.new result };
 
     /// This moment is one of those since an earlier one.
-    ghost counts_now: { (disk : Self) (t : ℕ) (c : List ℕ) → face.told disk → t ≤ face.moment disk → face.may_leave disk c → face.left_since disk t c };
+    ghost counts_now: { (disk : Self) (t : ℕ) (c : List ℕ) → face.told disk → t ≤ face.moment disk
+        → face.may_leave disk c → face.left_since disk t c };
 
     /// Since this moment there is no other.
-    ghost only_now: { (disk : Self) (c : List ℕ) → face.told disk → face.left_since disk (face.moment disk) c → face.may_leave disk c };
+    ghost only_now: { (disk : Self) (c : List ℕ) → face.told disk → face.left_since disk (face.moment disk) c
+        → face.may_leave disk c };
 
     /// What a read gives is one of the things that a crash may leave.
     ghost seen_is_left: { (disk : Self) → face.told disk → face.may_leave disk (face.seen disk) };
@@ -88,8 +92,8 @@ pub trait CrashDisk: Disk + Send {
     fn fuse(&mut self, calls: u32, choice: u64)
         ensures fused { HasFuse Self.face calls choice self.old self.new };
 
-    /// Ends the fuse, and leaves one outcome of a crash, which the fuse's choice picks. Nothing is pending then. The disk counts
-    /// it.
+    /// Ends the fuse, and leaves one outcome of a crash, which the fuse's choice picks. Nothing is pending then. The
+    /// disk counts it.
     fn power_cut(&mut self)
         ensures lost { HasLost Self.face self.old self.new };
 

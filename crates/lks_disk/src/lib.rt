@@ -3,6 +3,8 @@
 //! A disk that tells its bytes has exact contracts: what a read gives, and what a crash may leave, now or
 //! at any moment since an earlier one. A fault is answered only where the disk's count of faults rose,
 //! and a cut only where a fuse has burned.
+//!
+//! Its trials: `lks_format_trials`, `disk`.
 #![tactic(auto)]
 
 mod calls;

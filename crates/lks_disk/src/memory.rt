@@ -1,10 +1,12 @@
 //! A disk in memory, with calls that fail and a fuse.
-ghost use Rattle.std.specs.Prelude.{◌≡◌, ◌↔◌, ◌+◌, ◌^◌, ◌<◌, ◌≤◌, ℕ, List, [], true, false, length, IfOk, OnOk, OnErr, IsErrOf};
+ghost use Rattle.std.specs.Prelude.{◌≡◌, ◌↔◌, ◌+◌, ◌^◌, ◌<◌, ◌≤◌, ℕ, List, [], true, false, length, IfOk, OnOk, OnErr};
+ghost use Rattle.std.specs.Prelude.{IsErrOf};
 ghost use Rattle.lks_disk.specs.Device.{Wrote, ReadAt, Torn, Follows, Only, HasCause, NoMemory};
 ghost use Rattle.lks_disk.specs.Face.{Same, Passes, Burns, KeepsFuse, HasFuse, HasLost};
 ghost use Rattle.lks_disk.specs.Counts.{next_fails, raised};
 ghost use Rattle.lks_disk.specs.Crash.{may_leave, moment, left_since, left_by, WritesBy, synced_by};
-ghost use Rattle.lks_disk.specs.Fuse.{is_set, is_burned, lets, choice_of, setting_of, fate_of, answer_of, settled, read_answer, after_read, AnswersBy, CountsBy, RefusedBy, Starts};
+ghost use Rattle.lks_disk.specs.Fuse.{is_set, is_burned, lets, choice_of, setting_of, fate_of, answer_of, settled};
+ghost use Rattle.lks_disk.specs.Fuse.{read_answer, after_read, AnswersBy, CountsBy, RefusedBy, Starts};
 ghost use Rattle.lks_disk.specs.declared.controls.Fuse.{Fuse};
 ghost use Rattle.lks_disk.specs.Moments.{counts_now, only_now};
 ghost use Rattle.lks_disk.specs.MemDisk.{set_is_burned_out};
@@ -69,7 +71,9 @@ impl Disk for MemDisk {
         ensures memory { NoMemory result }
         ensures fuse { KeepsFuse mem_face self.old self.new result }
 
-        ensures answer { RefusedBy (read_answer self.old.control.fuse (next_fails self.old.control.fail_reads.items self.old.control.reads)) result }
+        ensures answer { RefusedBy
+            (read_answer self.old.control.fuse
+            (next_fails self.old.control.fail_reads.items self.old.control.reads)) result }
         ensures content { self.new.content ≡ self.old.content }
         ensures control { self.new.control ≡ after_read self.old.control result }
     {
@@ -86,7 +90,9 @@ impl Disk for MemDisk {
 
         ensures memory { NoMemory result }
         ensures untouched { OnErr result (buf.new ≡ buf.old) }
-        ensures answer { RefusedBy (read_answer self.old.control.fuse (next_fails self.old.control.fail_reads.items self.old.control.reads)) result }
+        ensures answer { RefusedBy
+            (read_answer self.old.control.fuse
+            (next_fails self.old.control.fail_reads.items self.old.control.reads)) result }
         ensures content { self.new.content ≡ self.old.content }
         ensures control { self.new.control ≡ after_read self.old.control result }
     {
@@ -99,8 +105,10 @@ impl Disk for MemDisk {
         requires ends { at + length piece.now < 2 ^ 63 }
         ensures told { Unit {0} ↔ Unit {0} }
         ensures wrote { Unit {0} → Wrote self.old.content.bytes at piece.now self.new.content.bytes result }
-        ensures crash { Unit {0} → Follows (Torn at (length piece.now)) (may_leave self.old.content) (may_leave self.new.content) }
-        ensures memory { Unit {0} → IsErrOf result DiskFail.Memory → (c : List ℕ) → may_leave self.new.content c → may_leave self.old.content c }
+        ensures crash { Unit {0}
+            → Follows (Torn at (length piece.now)) (may_leave self.old.content) (may_leave self.new.content) }
+        ensures memory { Unit {0} → IsErrOf result DiskFail.Memory → (c : List ℕ) → may_leave self.new.content c
+            → may_leave self.old.content c }
         ensures time { Unit {0} → Passes mem_face self.old self.new }
         ensures cause { HasCause self.old.control.faults self.new.control.faults result }
         ensures fuse { Burns mem_face self.old self.new result }
@@ -143,7 +151,8 @@ impl CrashDisk for MemDisk {
         ensures fused { HasFuse mem_face calls choice self.old self.new }
 
         ensures content { self.new.content ≡ self.old.content }
-        ensures control { self.new.control ≡ record self.old.control { fuse = Fuse.Set calls (record { calls = calls; choice = choice }) } }
+        ensures control { self.new.control
+            ≡ record self.old.control { fuse = Fuse.Set calls (record { calls = calls; choice = choice }) } }
     {
         self.control.set_fuse(Setting { calls, choice });
     }
@@ -151,8 +160,17 @@ impl CrashDisk for MemDisk {
     fn power_cut(&mut self)
         ensures lost { HasLost mem_face self.old self.new }
 
-        ensures content { self.new.content ≡ record { bytes = left_by (choice_of self.old.control.fuse) self.old.content.calls self.old.content.bytes; calls = [] } }
-        ensures control { self.new.control ≡ record self.old.control { fuse = Fuse.Unset (setting_of self.old.control.fuse); cuts = raised self.old.control.cuts } }
+        ensures content { self.new.content
+            ≡ record {
+              bytes = left_by (choice_of self.old.control.fuse) self.old.content.calls
+                  self.old.content.bytes;
+              calls = [];
+            } }
+        ensures control { self.new.control
+            ≡ record self.old.control {
+              fuse = Fuse.Unset (setting_of self.old.control.fuse);
+              cuts = raised self.old.control.cuts;
+            } }
     {
         let choice = self.control.cut_power();
         self.content.cut(choice);

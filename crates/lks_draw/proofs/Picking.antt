@@ -1,11 +1,13 @@
 -- What a loop that picks needs, and what is true of each pick.
-use Rattle.std.proofs.Common.{◌%◌, ◌≡◌, ◌≢◌, ℕ, zero, suc, ◌+◌, ◌-◌, ◌<◌, ◌≤◌, ◌^◌, Bool, true, false, List, [], ◌∷◌, ◌++◌, length, get_or, refl, ap, sym, subst, ◌∙◌, append_assoc, add-one, arith, inl, inr}
+use Rattle.std.proofs.Common.{◌%◌, ◌≡◌, ◌≢◌, ℕ, zero, suc, ◌+◌, ◌-◌, ◌<◌, ◌≤◌, ◌^◌, Bool, true, false, List, [], ◌∷◌}
+use Rattle.std.proofs.Common.{◌++◌, length, get_or, refl, ap, sym, subst, ◌∙◌, append_assoc, add-one, arith, inl, inr}
 use Rattle.std.specs.Prelude.{nat_le, if◌then◌else◌}
 use Rattle.std.specs.List.{remove, All, AllPairs, Contains}
 use Rattle.std.proofs.lemmas.Bool.{cases_lt}
 use Rattle.std.proofs.lemmas.List.{get_or_default}
 use Rattle.std.proofs.lemmas.List.Edits.{length-remove, get_or-remove_below, get_or-remove_above}
-use Rattle.std.proofs.lemmas.List.Elements.{All-nil, All-cons, All-weaker, All-contains, All-take, All-drop, All-append, All-from_get_or, All-contains_itself, Contains-get_or}
+use Rattle.std.proofs.lemmas.List.Elements.{All-nil, All-cons, All-weaker, All-contains, All-take, All-drop}
+use Rattle.std.proofs.lemmas.List.Elements.{All-append, All-from_get_or, All-contains_itself, Contains-get_or}
 use Rattle.std.proofs.lemmas.List.Kept.{AllPairs-cons}
 use Rattle.std.proofs.lemmas.List.Quantifiers.{all_pairs_remove}
 use Rattle.std.proofs.Math.Nat.{mod-add-mod}
@@ -17,10 +19,13 @@ use Rattle.lks_draw.specs.Picks.{taken, picked, IsPickOf}
 -- one member more
 pub taken_more : (words : ℕ → ℕ) (place : ℕ) (front list : List ℕ) (n m : ℕ) → n ≡ m + 1
     → front ++ taken words place list n
-    ≡ (front ++ get_or list (scaled (words place) (length list)) 0 ∷ []) ++ taken words (place + 1) (remove list (scaled (words place) (length list))) m
+    ≡ (front ++ get_or list (scaled (words place) (length list)) 0 ∷ [])
+    ++ taken words (place + 1) (remove list (scaled (words place) (length list))) m
 taken_more words place front list n m is =
     ap (λ k. front ++ taken words place list k) (is ∙ add-one m)
-    ∙ sym (append_assoc front (get_or list (scaled (words place) (length list)) 0 ∷ []) (taken words (place + 1) (remove list (scaled (words place) (length list))) m))
+    ∙ sym
+    (append_assoc front (get_or list (scaled (words place) (length list)) 0 ∷ [])
+    (taken words (place + 1) (remove list (scaled (words place) (length list))) m))
 
 -- a list without one member has only members of the list
 pub within_remove : (list : List ℕ) (i : ℕ) → All (Contains list) (remove list i)
@@ -29,12 +34,15 @@ within_remove list i =
     All-append (Contains list) _ _ (All-take (Contains list) i list whole) (All-drop (Contains list) (suc i) list whole)
 
 -- where no member stands twice, a member that is taken out is none of the rest
-pub apart_from_rest : (list : List ℕ) (i : ℕ) → i < length list → AllPairs ◌≢◌ list → All (λ y. get_or list i 0 ≢ y) (remove list i)
+pub apart_from_rest : (list : List ℕ) (i : ℕ) → i < length list → AllPairs ◌≢◌ list
+    → All (λ y. get_or list i 0 ≢ y) (remove list i)
 apart_from_rest list i within once =
     All-from_get_or (λ y. get_or list i 0 ≢ y) (remove list i) 0 (λ k h.
     elim (cases_lt k i) [
       | inl below ↦ λ same. once k i 0 below within (sym (same ∙ get_or-remove_below list i 0 k below within))
-      | inr above ↦ λ same. once i (k + 1) 0 (omega arith) (omega (arith, length-remove list i within)) (same ∙ get_or-remove_above list i 0 k above within)
+      | inr above
+          ↦ λ same. once i (k + 1) 0 (omega arith) (omega (arith, length-remove list i within))
+          (same ∙ get_or-remove_above list i 0 k above within)
     ])
 
 taken_length : (words : ℕ → ℕ) (place : ℕ) (list : List ℕ) (n : ℕ) → length (taken words place list n) ≡ n
@@ -54,7 +62,8 @@ taken_members words fits place list (suc n) enough =
     let within : i < length list = found words fits place list n enough in
     let rest = remove list i in
     All-cons (Contains list) _ _ (Contains-get_or list i 0 within)
-    (All-weaker (Contains rest) (Contains list) (λ x here. All-contains (Contains list) rest x (within_remove list i) here) _
+    (All-weaker (Contains rest) (Contains list)
+    (λ x here. All-contains (Contains list) rest x (within_remove list i) here) _
     (taken_members words fits (place + 1) rest n (omega (arith, length-remove list i within))))
 
 taken_once : (words : ℕ → ℕ) → ((p : ℕ) → words p < 2 ^ 32) → (place : ℕ) (list : List ℕ) (n : ℕ) → n ≤ length list
@@ -66,12 +75,14 @@ taken_once words fits place list (suc n) enough once =
     let rest = remove list i in
     let room : n ≤ length rest = omega (arith, length-remove list i within) in
     AllPairs-cons ◌≢◌ _ _
-    (All-weaker (Contains rest) (λ y. get_or list i 0 ≢ y) (λ x here. All-contains (λ y. get_or list i 0 ≢ y) rest x (apart_from_rest list i within once) here) _
+    (All-weaker (Contains rest) (λ y. get_or list i 0 ≢ y)
+    (λ x here. All-contains (λ y. get_or list i 0 ≢ y) rest x (apart_from_rest list i within once) here) _
     (taken_members words fits (place + 1) rest n room))
     (taken_once words fits (place + 1) rest n room (all_pairs_remove ◌≢◌ list i within once))
 
 -- what is true of each pick
-pub pick_law : (words : ℕ → ℕ) → ((p : ℕ) → words p < 2 ^ 32) → (place : ℕ) (list : List ℕ) (n : ℕ) → IsPickOf list n (picked words place list n)
+pub pick_law : (words : ℕ → ℕ) → ((p : ℕ) → words p < 2 ^ 32) → (place : ℕ) (list : List ℕ) (n : ℕ)
+    → IsPickOf list n (picked words place list n)
 unfolding picked
 pick_law words fits place list n = by_test (nat_le (length list) n) refl where
   by_test : (b : Bool) → nat_le (length list) n ≡ b → IsPickOf list n (if b then list else taken words place list n)
@@ -85,8 +96,10 @@ pick_law words fits place list n = by_test (nat_le (length list) n) refl where
       }
 
 -- a list that is picked by the words of a key
-pub IsPickOf-by_key : (key : List ℕ) (place : ℕ) (list : List ℕ) (n : ℕ) (result : List ℕ) → result ≡ picked (words_of key) place list n → IsPickOf list n result
-IsPickOf-by_key key place list n result is = subst (IsPickOf list n) (sym is) (pick_law (words_of key) (word_fits key) place list n)
+pub IsPickOf-by_key : (key : List ℕ) (place : ℕ) (list : List ℕ) (n : ℕ) (result : List ℕ)
+    → result ≡ picked (words_of key) place list n → IsPickOf list n result
+IsPickOf-by_key key place list n result is =
+    subst (IsPickOf list n) (sym is) (pick_law (words_of key) (word_fits key) place list n)
 
 -- a turn of the loop that picks: the member at the drawn place is put behind those in front
 pub picked_one : (d s : Drawn) (i n at member : ℕ) (front list front2 list2 all : List ℕ)
@@ -104,10 +117,12 @@ picked_one d s i n at member front list front2 list2 all s_is more at_is member_
     front_is ∙ ap (λ x. front ++ x ∷ []) (first ∙ ap (λ k. get_or list k 0) drawn) in
     let lists : list2 ≡ remove list (scaled (words (d.place + i)) (length list)) = list_is ∙ ap (remove list) drawn in
     let places : d.place + (i + 1) ≡ d.place + i + 1 = omega arith in
-    rw (fronts, lists, places) (sym (taken_more words (d.place + i) front list (n - i) (n - (i + 1)) (omega arith)) ∙ before)
+    rw (fronts, lists, places)
+    (sym (taken_more words (d.place + i) front list (n - i) (n - (i + 1)) (omega arith)) ∙ before)
 
 -- words that are some way on in a stream pick as from there
-taken_same : (key : List ℕ) (p q : ℕ) (list : List ℕ) (n : ℕ) → p % 2 ^ 68 ≡ q % 2 ^ 68 → taken (words_of key) p list n ≡ taken (words_of key) q list n
+taken_same : (key : List ℕ) (p q : ℕ) (list : List ℕ) (n : ℕ) → p % 2 ^ 68 ≡ q % 2 ^ 68
+    → taken (words_of key) p list n ≡ taken (words_of key) q list n
 unfolding words_of
 taken_same key p q list zero same = refl
 taken_same key p q list (suc n) same =
@@ -120,7 +135,8 @@ taken_same key p q list (suc n) same =
 
 -- what a draw picks that has come some words on
 pub picked_moved : (d : Drawn) (words : ℕ) (list : List ℕ) (n : ℕ)
-    → picked (words_of (moved d words).key) (moved d words).place list n ≡ picked (words_of d.key) (d.place + words) list n
+    → picked (words_of (moved d words).key) (moved d words).place list n
+    ≡ picked (words_of d.key) (d.place + words) list n
 unfolding picked
 picked_moved d words list n =
     ap (λ taken. if nat_le (length list) n then list else taken)

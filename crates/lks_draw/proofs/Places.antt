@@ -1,5 +1,6 @@
 -- Places of words: a stream repeats, and a word is below 2 ^ 32.
-use Rattle.std.proofs.Common.{sym, zero, suc, add-zero, zero-add, ◌≡◌, ℕ, ◌+◌, ◌%◌, ◌^◌, ◌<◌, List, ap, ◌∙◌, arith, lit<}
+use Rattle.std.proofs.Common.{sym, zero, suc, add-zero, zero-add, ◌≡◌, ℕ, ◌+◌, ◌%◌, ◌^◌, ◌<◌, List, ap, ◌∙◌, arith}
+use Rattle.std.proofs.Common.{lit<}
 use Rattle.std.proofs.Math.Nat.{mod-mod, mod-add-mod, mod-lt, div-lt_iff_lt-mul, mul-lt-mul_of_pos_right, mul_comm}
 use Rattle.rand_chacha.specs.Block.{block_word}
 use Rattle.rand_chacha.specs.ChaCha.{word_at}
@@ -34,4 +35,6 @@ word_fits key place = mod-lt _ (lit< tt)
 
 -- what is drawn below n is below n
 pub scaled_below : (word n : ℕ) → word < 2 ^ 32 → 0 < n → scaled word n < n
-scaled_below word n fits some = (div-lt_iff_lt-mul {k = 2 ^ 32} (lit< tt)).1 (omega (arith, mul-lt-mul_of_pos_right fits some, mul_comm n (2 ^ 32)))
+scaled_below word n fits some =
+    (div-lt_iff_lt-mul {k = 2 ^ 32} (lit< tt)).1
+    (omega (arith, mul-lt-mul_of_pos_right fits some, mul_comm n (2 ^ 32)))

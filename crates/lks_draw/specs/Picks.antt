@@ -1,5 +1,6 @@
 -- What is picked from a list by random words.
-use Rattle.std.specs.Prelude.{◌≡◌, ◌≢◌, ℕ, zero, suc, ◌+◌, min, nat_le, if◌then◌else◌, List, [], ◌∷◌, length, slice_index, remove, All, AllPairs, Contains}
+use Rattle.std.specs.Prelude.{◌≡◌, ◌≢◌, ℕ, zero, suc, ◌+◌, min, nat_le, if◌then◌else◌, List, [], ◌∷◌, length}
+use Rattle.std.specs.Prelude.{slice_index, remove, All, AllPairs, Contains}
 use Rattle.lks_draw.specs.Words.{Drawn, words_of, scaled}
 
 -- n members taken out of a list one after another, by the words from a place on; the rest keeps its order

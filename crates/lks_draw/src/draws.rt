@@ -1,6 +1,7 @@
 //! Words drawn one after another, and members picked by them.
 
-ghost use Rattle.std.specs.Prelude.{◌≡◌, ◌+◌, ◌^◌, ◌<◌, ◌≤◌, [], ◌∷◌, ◌++◌, length, vec_len, vec_capacity, IfOk, OnOk, OnErr};
+ghost use Rattle.std.specs.Prelude.{◌≡◌, ◌+◌, ◌^◌, ◌<◌, ◌≤◌, [], ◌∷◌, ◌++◌, length, vec_len, vec_capacity, IfOk, OnOk};
+ghost use Rattle.std.specs.Prelude.{OnErr};
 ghost use Rattle.lks_draw.specs.Picks.{picked_by, taken, words_taken, IsPickOf};
 ghost use Rattle.lks_draw.specs.Words.{drawn_from, next_of, words_of, moved};
 
@@ -88,7 +89,8 @@ impl Draws {
     fn take_out(&mut self, rest: &mut Vec<u16>, members: &mut Vec<u16>, n: usize)
         requires enough { n ≤ vec_len rest.old }
         requires room { vec_len members.old + n ≤ vec_capacity members.old }
-        ensures members { members.new.items ≡ members.old.items ++ taken (words_of self.old.key) self.old.place rest.old.items n }
+        ensures members { members.new.items
+            ≡ members.old.items ++ taken (words_of self.old.key) self.old.place rest.old.items n }
         ensures moved { self.new ≡ moved self.old n }
     {
         for _i in 0..n {

@@ -17,6 +17,8 @@
 //!     Draws::new(seed, 1, poll).pick(alloc, refs, 8)
 //! }
 //! ```
+//!
+//! Its trials: `lks_rule_trials`, `draw`.
 #![tactic(auto)]
 
 mod draws;

@@ -3,7 +3,8 @@ use Rattle.std.proofs.Common.{◌≡◌, ◌+◌, ◌-◌, ◌*◌, ◌≤◌, �
 use Rattle.std.proofs.lemmas.List.FromFn.{length-map-range_with_len}
 use Rattle.lks_draw.specs.Words.{Drawn, moved}
 use Rattle.lks_draw.proofs.Places.{moved_on}
-use Rattle.lks_drill.specs.Drill.{au_numbers, block_of, whole_copy, holding_of, after_copy, draw_before, draw_of, copies_of}
+use Rattle.lks_drill.specs.Drill.{au_numbers, block_of, whole_copy, holding_of, after_copy, draw_before, draw_of}
+use Rattle.lks_drill.specs.Drill.{copies_of}
 
 -- a copy has 128 blocks
 pub whole_has_128 : length whole_copy ≡ 128
@@ -36,7 +37,8 @@ draw_on d m (suc n) =
     one_more (draw_before d m) n ∙ ap after_copy (draw_on d m n) ∙ sym (one_more d (m + n)) ∙ ap (draw_before d) more
 
 -- the draw behind the copies of one peer more
-pub draw_past : (d e : Drawn) (peer : ℕ) → 1 ≤ peer → e ≡ draw_before d (2 * (peer - 1)) → draw_before e 2 ≡ draw_before d (2 * (peer + 1 - 1))
+pub draw_past : (d e : Drawn) (peer : ℕ) → 1 ≤ peer → e ≡ draw_before d (2 * (peer - 1))
+    → draw_before e 2 ≡ draw_before d (2 * (peer + 1 - 1))
 draw_past d e peer some is =
     let more : 2 * (peer - 1) + 2 ≡ 2 * (peer + 1 - 1) = omega arith in
     ap (λ e. draw_before e 2) is ∙ draw_on d (2 * (peer - 1)) 2 ∙ ap (draw_before d) more

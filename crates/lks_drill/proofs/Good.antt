@@ -1,13 +1,16 @@
 -- The plan of a drill breaks no rule, and each step of a drill is one that a script with the plan can have.
 use Rattle.std.proofs.Common.{◌≡◌, ◌∙◌, ap, refl, ℕ, Bool, true, List, [], ◌∷◌}
 use Rattle.std.specs.Prelude.{Option, None, not, nat_le}
-use Rattle.lks_base.specs.Checking.{unless, ◌▹◌, each, are_bounded, are_ordered, has_au, au_fault, has_peer, has_honest, has_member, member_fault, has_counted, has_copy, copy_fault, is_fit, peer_fault, bytes_of_copies, bytes_of_peers, plan_fault}
+use Rattle.lks_base.specs.Checking.{unless, ◌▹◌, each, are_bounded, are_ordered, has_au, au_fault, has_peer}
+use Rattle.lks_base.specs.Checking.{has_honest, has_member, member_fault, has_counted, has_copy, copy_fault, is_fit}
+use Rattle.lks_base.specs.Checking.{peer_fault, bytes_of_copies, bytes_of_peers, plan_fault}
 use Rattle.lks_base.specs.declared.plans.Holding.{Holding}
 use Rattle.lks_base.specs.declared.plans.PlanFault.{PlanFault}
 use Rattle.lks_base.specs.declared.plans.PlanFault.TheVariants.{Bounds, Repeat, BlockCount}
 use Rattle.lks_draw.specs.Words.{Drawn}
 use Rattle.lks_script.specs.StepRules.{is_own_step, is_step_of, are_steps_of}
-use Rattle.lks_drill.specs.Drill.{holding_of, copies_of, others_than, friends_of, peer_with, peers_of, aus_of_drill, plan_of, audits_of, steps_of_drill}
+use Rattle.lks_drill.specs.Drill.{holding_of, copies_of, others_than, friends_of, peer_with, peers_of, aus_of_drill}
+use Rattle.lks_drill.specs.Drill.{plan_of, audits_of, steps_of_drill}
 use Rattle.lks_drill.proofs.Sizes.{copy_has_128, short_copy, copy_bytes}
 
 -- neither of two rules fails
@@ -18,7 +21,8 @@ passes : (test : Bool) (fault : PlanFault) → test ≡ true → unless test fau
 passes test fault holds = ap (λ test. unless test fault) holds
 
 -- a copy is good beside those before it, of which none is of its AU
-good_copy : (before : List Holding) (peer au : ℕ) (d : Drawn) → has_counted aus_of_drill au 128 ≡ true → not (has_copy before au) ≡ true
+good_copy : (before : List Holding) (peer au : ℕ) (d : Drawn) → has_counted aus_of_drill au 128 ≡ true
+    → not (has_copy before au) ≡ true
     → copy_fault aus_of_drill before (holding_of peer au d) ≡ None
 unfolding copy_fault
 good_copy before peer au d counted alone =

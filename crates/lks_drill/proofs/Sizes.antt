@@ -1,5 +1,6 @@
 -- The sizes of copies: damaged or not, one has 128 blocks of 512 bytes.
-use Rattle.std.proofs.Common.{◌≡◌, ◌*◌, ◌∙◌, ap, refl, ℕ, zero, suc, Bool, true, false, List, [], ◌∷◌, map, length, set, arith}
+use Rattle.std.proofs.Common.{◌≡◌, ◌*◌, ◌∙◌, ap, refl, ℕ, zero, suc, Bool, true, false, List, [], ◌∷◌, map, length}
+use Rattle.std.proofs.Common.{set, arith}
 use Rattle.std.specs.Prelude.{◌&&◌, nat_le, if◌then◌else◌}
 use Rattle.std.specs.List.{list_all, range_with_len}
 use Rattle.std.proofs.lemmas.List.{length-replicate, length-set}
@@ -27,7 +28,8 @@ unfolding whole_copy
 sized_whole = sized_map (range_with_len 0 128)
 
 -- one block in the place of another
-sized_set : (blocks : List (List ℕ)) (at : ℕ) (block : List ℕ) → length block ≡ 512 → AreSized blocks → AreSized (set blocks at block)
+sized_set : (blocks : List (List ℕ)) (at : ℕ) (block : List ℕ) → length block ≡ 512 → AreSized blocks
+    → AreSized (set blocks at block)
 sized_set [] at block new old = old
 sized_set (b ∷ bs) zero block new old = (new, old.1)
 sized_set (b ∷ bs) (suc at) block new old = (old.0, sized_set bs at block new old.1)
@@ -38,16 +40,20 @@ either P false x y at_x at_y = at_y
 
 sized_copy : (peer : ℕ) (d : Drawn) → AreSized (blocks_of peer d)
 unfolding blocks_of
-sized_copy peer d = either AreSized (is_damaged d) _ _ (sized_set whole_copy _ _ (sized_block _) sized_whole) sized_whole
+sized_copy peer d =
+    either AreSized (is_damaged d) _ _ (sized_set whole_copy _ _ (sized_block _) sized_whole) sized_whole
 
 -- a copy has 128 blocks
 pub copy_has_128 : (peer : ℕ) (d : Drawn) → length (blocks_of peer d) ≡ 128
 unfolding blocks_of
-copy_has_128 peer d = either (λ (blocks : List (List ℕ)). length blocks ≡ 128) (is_damaged d) _ _ (length-set whole_copy _ _ ∙ whole_has_128) whole_has_128
+copy_has_128 peer d =
+    either (λ (blocks : List (List ℕ)). length blocks ≡ 128) (is_damaged d) _ _
+    (length-set whole_copy _ _ ∙ whole_has_128) whole_has_128
 
 short_blocks : (blocks : List (List ℕ)) → AreSized blocks → list_all (λ b. nat_le (length b) 16384) blocks ≡ true
 short_blocks [] sized = refl
-short_blocks (b ∷ bs) sized = ap (λ n. nat_le n 16384 && list_all (λ b. nat_le (length b) 16384) bs) sized.0 ∙ short_blocks bs sized.1
+short_blocks (b ∷ bs) sized =
+    ap (λ n. nat_le n 16384 && list_all (λ b. nat_le (length b) 16384) bs) sized.0 ∙ short_blocks bs sized.1
 
 -- no block of a copy is too long
 pub short_copy : (peer : ℕ) (d : Drawn) → are_short (blocks_of peer d) ≡ true

@@ -1,5 +1,6 @@
 -- The scenario of a drill, as its seed gives it: which plan, and which steps.
-use Rattle.std.specs.Prelude.{ℕ, zero, suc, ◌+◌, ◌-◌, ◌*◌, Bool, false, not, ◌==◌, if◌then◌else◌, List, [], ◌∷◌, ◌++◌, map, replicate, slice_set, filter}
+use Rattle.std.specs.Prelude.{ℕ, zero, suc, ◌+◌, ◌-◌, ◌*◌, Bool, false, not, ◌==◌, if◌then◌else◌, List, [], ◌∷◌, ◌++◌}
+use Rattle.std.specs.Prelude.{map, replicate, slice_set, filter}
 use Rattle.std.specs.Int.{w16, w64, to_be_bytes}
 use Rattle.std.specs.List.{range_with_len, flat_map}
 use Rattle.lks_base.specs.declared.events.PeerStep.TheVariants.{OpenPoll}
@@ -37,7 +38,8 @@ is_damaged d = next_of d 8 == 0
 
 -- the blocks of a peer's copy: the second word says which block of a damaged one is the byte 200 + peer
 unfoldable pub blocks_of : ℕ → Drawn → List (List ℕ)
-blocks_of peer d = if is_damaged d then slice_set whole_copy (next_of (moved d 1) 128) (block_of (200 + peer)) else whole_copy
+blocks_of peer d =
+    if is_damaged d then slice_set whole_copy (next_of (moved d 1) 128) (block_of (200 + peer)) else whole_copy
 
 -- a damaged copy takes two words of the draw, and another takes one
 unfoldable pub after_copy : Drawn → Drawn

@@ -1,7 +1,8 @@
 //! The copies of a drill, and how a draw damages them.
 
 ghost use Rattle.std.specs.Prelude.{◌≡◌, ◌≤◌, ◌-◌, map, IfOk, OnOk};
-ghost use Rattle.lks_drill.specs.Drill.{au_numbers, block_of, whole_copy, blocks_of, holding_of, after_copy, draw_before};
+ghost use Rattle.lks_drill.specs.Drill.{au_numbers, block_of, whole_copy, blocks_of, holding_of, after_copy};
+ghost use Rattle.lks_drill.specs.Drill.{draw_before};
 
 use lks_base::{AuId, Blocks, Bytes, Holding, OutOfMemory, PeerId, Seq};
 use lks_draw::Draws;
@@ -63,7 +64,8 @@ fn blocks(alloc: Global, peer: PeerId, draws: &mut Draws) -> Result<Blocks, OutO
 #[tactic(auto, using(crate::proofs::Drawing::draw_to, crate::proofs::Drawing::none_before, crate::proofs::Ranges::map_to))]
 pub fn copies(alloc: Global, peer: PeerId, draws: &mut Draws) -> Result<Seq<Holding>, OutOfMemory>
     requires { peer ≤ 12 }
-    ensures copies { IfOk result (λ copies. copies ≡ map (λ a. holding_of peer a (draw_before draws.old (a - 1))) au_numbers) }
+    ensures copies { IfOk result
+        (λ copies. copies ≡ map (λ a. holding_of peer a (draw_before draws.old (a - 1))) au_numbers) }
     ensures draws { OnOk result (draws.new ≡ draw_before draws.old 2) }
 {
     let mut copies = Vec::new(alloc);

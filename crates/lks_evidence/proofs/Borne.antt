@@ -18,21 +18,27 @@ over_if q v (Some blocks) = is_over q blocks v
 module _ (aus : List AuPlan) (q : Ballot) (journal : List Record) (v : Vote) where
   by_version : over_if q v (version_of aus q journal) ≡ bears_out aus q journal v
   unfolding version_of bears_out is_committed
-  by_version = by_tests (is_deposited aus q.au journal) (is_joined q journal) (commitments q.poll journal == 1) (commitment_of q.poll journal)
+  by_version =
+      by_tests (is_deposited aus q.au journal) (is_joined q journal) (commitments q.poll journal == 1)
+      (commitment_of q.poll journal)
     where
-      by_for : (c : Commitment) (t : Bool) → over_if q v (cond t (Some (contents_at q.au c.version journal)) None) ≡ (t && is_over q (contents_at q.au c.version journal) v)
+      by_for : (c : Commitment) (t : Bool)
+          → over_if q v (cond t (Some (contents_at q.au c.version journal)) None)
+          ≡ (t && is_over q (contents_at q.au c.version journal) v)
       by_for c true = refl
       by_for c false = refl
 
       by_tests : (a b d : Bool) (o : Option Commitment)
-          → over_if q v (cond (a && (b && d)) (version_if q journal o) None) ≡ (a && (b && (d && is_committed q journal v o)))
+          → over_if q v (cond (a && (b && d)) (version_if q journal o) None)
+          ≡ (a && (b && (d && is_committed q journal v o)))
       by_tests true true true None = refl
       by_tests true true true (Some c) = by_for c (is_for q journal c)
       by_tests true true false o = refl
       by_tests true false d o = refl
       by_tests false b d o = refl
 
-  pub borne : (blocks : List (List ℕ)) → Some blocks ≡ version_of aus q journal → is_over q blocks v ≡ bears_out aus q journal v
+  pub borne : (blocks : List (List ℕ)) → Some blocks ≡ version_of aus q journal
+      → is_over q blocks v ≡ bears_out aus q journal v
   borne blocks e = ap (over_if q v) e ∙ by_version
 
   pub not_borne : None ≡ version_of aus q journal → false ≡ bears_out aus q journal v

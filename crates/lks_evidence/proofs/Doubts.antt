@@ -1,5 +1,6 @@
 -- Where there is no doubt.
-use Rattle.std.proofs.Common.{◌≡◌, ◌≢◌, ◌∙◌, ap, sym, ℕ, zero, suc, Bool, true, false, cond, eqb, List, [], ◌∷◌, ◌++◌, take, refl, arith, append_assoc}
+use Rattle.std.proofs.Common.{◌≡◌, ◌≢◌, ◌∙◌, ap, sym, ℕ, zero, suc, Bool, true, false, cond, eqb, List, [], ◌∷◌, ◌++◌}
+use Rattle.std.proofs.Common.{take, refl, arith, append_assoc}
 use Rattle.std.specs.Prelude.{Option, Some, None, option_map, slice_get, ◌==◌, ◌||◌}
 use Rattle.std.specs.List.{All}
 use Rattle.std.proofs.lemmas.Bool.{eqb-true, eq-eqb, false≢true}
@@ -58,11 +59,13 @@ pub none_each : {X : Type 0} (rule : List X → X → Option Doubt) (before xs :
 none_each rule before [] f = refl
 none_each rule before (y ∷ xs) f =
     none_or (rule before y) _ (ap (λ b. rule b y) (sym (append-nil before)) ∙ f 0 y refl)
-    (none_each rule (before ++ y ∷ []) xs (λ i x at. ap (λ b. rule b x) (append_assoc before (y ∷ []) (take i xs)) ∙ f (suc i) x at))
+    (none_each rule (before ++ y ∷ []) xs
+    (λ i x at. ap (λ b. rule b x) (append_assoc before (y ∷ []) (take i xs)) ∙ f (suc i) x at))
 
 -- Votes.
 
-pub failing_none : (passes : Vote → Bool) (vs : List Vote) → first_failing passes vs ≡ None → All (λ v. passes v ≡ true) vs
+pub failing_none : (passes : Vote → Bool) (vs : List Vote) → first_failing passes vs ≡ None
+    → All (λ v. passes v ≡ true) vs
 failing_none passes [] e = All-nil _
 failing_none passes (v ∷ vs) e = by_test (passes v) refl e (failing_none passes vs)
   where
@@ -71,7 +74,8 @@ failing_none passes (v ∷ vs) e = by_test (passes v) refl e (failing_none passe
     by_test true is e rest = All-cons (λ v. passes v ≡ true) v vs is (rest e)
     by_test false is e rest = absurd cc
 
-pub none_failing : (passes : Vote → Bool) (vs : List Vote) → All (λ v. passes v ≡ true) vs → first_failing passes vs ≡ None
+pub none_failing : (passes : Vote → Bool) (vs : List Vote) → All (λ v. passes v ≡ true) vs
+    → first_failing passes vs ≡ None
 none_failing passes [] all = refl
 none_failing passes (v ∷ vs) all =
     ap (λ t. cond t (first_failing passes vs) (Some v.voter)) (All-head (λ v. passes v ≡ true) v vs all)
@@ -84,7 +88,8 @@ unvoted vs voter new = λ k d within same.
 
 voted_not : (vs : List Vote) (voter : ℕ) → All (λ w. voter ≢ w.voter) vs → has_voted vs voter ≡ false
 voted_not [] voter all = refl
-voted_not (w ∷ vs) voter all = by_test (eqb w.voter voter) refl (voted_not vs voter (All-tail (λ w. voter ≢ w.voter) w vs all))
+voted_not (w ∷ vs) voter all =
+    by_test (eqb w.voter voter) refl (voted_not vs voter (All-tail (λ w. voter ≢ w.voter) w vs all))
   where
     by_test : (t : Bool) → eqb w.voter voter ≡ t → has_voted vs voter ≡ false → has_voted (w ∷ vs) voter ≡ false
     by_test true is rest = absurd (All-head (λ w. voter ≢ w.voter) w vs all (sym (eqb-true w.voter voter is)))
@@ -94,12 +99,14 @@ pub twice_none : (vs : List Vote) → first_twice vs ≡ None → AreDistinct vs
 twice_none [] e = λ i j d before within. absurd (omega arith)
 twice_none (v ∷ vs) e = by_test (has_voted vs v.voter) refl e (twice_none vs)
   where
-    by_test : (t : Bool) → has_voted vs v.voter ≡ t → cond t (Some v.voter) (first_twice vs) ≡ None → (first_twice vs ≡ None → AreDistinct vs) → AreDistinct (v ∷ vs)
+    by_test : (t : Bool) → has_voted vs v.voter ≡ t → cond t (Some v.voter) (first_twice vs) ≡ None
+        → (first_twice vs ≡ None → AreDistinct vs) → AreDistinct (v ∷ vs)
     by_test true is e rest = absurd cc
     by_test false is e rest = AllPairs-cons (λ v w. v.voter ≢ w.voter) v vs (unvoted vs v.voter is) (rest e)
 
 pub none_twice : (vs : List Vote) → AreDistinct vs → first_twice vs ≡ None
 none_twice [] distinct = refl
 none_twice (v ∷ vs) distinct =
-    ap (λ t. cond t (Some v.voter) (first_twice vs)) (voted_not vs v.voter (λ k d within. distinct 0 (suc k) d (omega arith) (omega arith)))
+    ap (λ t. cond t (Some v.voter) (first_twice vs))
+    (voted_not vs v.voter (λ k d within. distinct 0 (suc k) d (omega arith) (omega arith)))
     ∙ none_twice vs (λ i j d before within. distinct (suc i) (suc j) d (omega arith) (omega arith))

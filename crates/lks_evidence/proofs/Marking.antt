@@ -1,5 +1,6 @@
 -- What stands before a mark says nothing of a poll with a higher number.
-use Rattle.std.proofs.Common.{◌≡◌, ◌∙◌, ◌≤◌, ◌<◌, ◌+◌, ◌++◌, ap, sym, subst, ℕ, max, Bool, true, false, cond, List, [], ◌∷◌, length, take, drop, refl, arith}
+use Rattle.std.proofs.Common.{◌≡◌, ◌∙◌, ◌≤◌, ◌<◌, ◌+◌, ◌++◌, ap, sym, subst, ℕ, max, Bool, true, false, cond, List}
+use Rattle.std.proofs.Common.{[], ◌∷◌, length, take, drop, refl, arith}
 use Rattle.std.specs.Prelude.{Option, Some, None, is_some, unwrap_or, option_map, nat_lt, ◌==◌, ◌||◌, filter}
 use Rattle.std.specs.List.{All, list_any, filter_map, cons_option}
 use Rattle.std.proofs.lemmas.Bool.{eqb-true, ltb-true}
@@ -10,12 +11,15 @@ use Rattle.std.proofs.lemmas.List.Sums.{sum_by-cons}
 use Rattle.lks_base.specs.Checking.{has_member}
 use Rattle.lks_base.specs.declared.plans.Plan.{Plan}
 use Rattle.lks_base.specs.declared.records.Record.{Record}
-use Rattle.lks_law.specs.Journal.{Opening, Opened, Told, Repair, said, opening_if, opening_in, opening_of, vote_in, told_of, shuts, is_shut, is_number}
+use Rattle.lks_law.specs.Journal.{Opening, Opened, Told, Repair, said_by, opening_if, opening_in, opening_of, vote_in}
+use Rattle.lks_law.specs.Journal.{told_of, shuts, is_shut, is_number}
 use Rattle.lks_law.specs.Polls.{votes, inner_votes}
 use Rattle.lks_tally.specs.declared.ballots.Vote.{Vote}
 use Rattle.lks_evidence.specs.declared.findings.Shelf.{Shelf}
 use Rattle.lks_evidence.specs.declared.marks.Mark.{Mark}
-use Rattle.lks_base.specs.declared.records.Record.TheVariants.{Deposit, PollOpened, Nominated, OuterOpened, VoteIn, Shut, Asked, RepairBad, Replaced, Closed, Overdue, Joined, Committed, Voted, Served, Ended, Tuned}
+use Rattle.lks_base.specs.declared.records.Record.TheVariants.{Deposit, PollOpened, Nominated, OuterOpened, VoteIn}
+use Rattle.lks_base.specs.declared.records.Record.TheVariants.{Shut, Asked, RepairBad, Replaced, Closed, Overdue}
+use Rattle.lks_base.specs.declared.records.Record.TheVariants.{Joined, Committed, Voted, Served, Ended, Tuned}
 use Rattle.lks_evidence.specs.Marks.{polled_in, AtMost, IsUpTo, IsMark, recent, mark_after}
 use Rattle.lks_evidence.specs.Records.{openings, repair_in}
 use Rattle.lks_evidence.specs.Rules.{is_polled}
@@ -36,9 +40,9 @@ other k n high small above = by_test (k == n) refl
 
 silent : (n high : ℕ) (r : Record) → high < n → IsUpTo high r → Silent n r
 silent n high r above upto = record {
-  no_opening = by_opened (said r).opened upto.0;
-  no_vote = by_voted (said r).voted upto.1;
-  no_shut = by_shut (said r).shut upto.2;
+  no_opening = by_opened (said_by r).opened upto.0;
+  no_vote = by_voted (said_by r).voted upto.1;
+  no_shut = by_shut (said_by r).shut upto.2;
 }
   where
     by_opened : (o : Option Opened) → AtMost high (option_map (λ o. o.number) o) → opening_if n o ≡ None
@@ -53,7 +57,8 @@ silent n high r above upto = record {
     by_shut None small = refl
     by_shut (Some k) small = other k n high small above
 
-openings-cons : (n : ℕ) (x : Record) (js : List Record) → openings n (x ∷ js) ≡ cond (is_some (opening_in n x)) 1 0 + openings n js
+openings-cons : (n : ℕ) (x : Record) (js : List Record)
+    → openings n (x ∷ js) ≡ cond (is_some (opening_in n x)) 1 0 + openings n js
 unfolding openings
 openings-cons n x js = sum_by-cons (λ r. cond (is_some (opening_in n r)) 1 0) x js
 
@@ -64,7 +69,8 @@ module _ (n high : ℕ) (above : high < n) (ys : List Record) where
   unfolding opening_of
   opening_recent [] upto = refl
   opening_recent (x ∷ xs) upto =
-      ap (λ o. cond (is_some o) o (opening_of n (xs ++ ys))) (silent n high x above (All-head (IsUpTo high) x xs upto)).no_opening
+      ap (λ o. cond (is_some o) o (opening_of n (xs ++ ys)))
+      (silent n high x above (All-head (IsUpTo high) x xs upto)).no_opening
       ∙ opening_recent xs (All-tail (IsUpTo high) x xs upto)
 
   openings_recent : (xs : List Record) → All (IsUpTo high) xs → openings n (xs ++ ys) ≡ openings n ys
@@ -88,29 +94,41 @@ module _ (n high : ℕ) (above : high < n) (ys : List Record) where
   unfolding votes
   votes_recent [] upto = refl
   votes_recent (x ∷ xs) upto =
-      ap (λ o. cons_option o (filter_map (vote_in n) (xs ++ ys))) (silent n high x above (All-head (IsUpTo high) x xs upto)).no_vote
+      ap (λ o. cons_option o (filter_map (vote_in n) (xs ++ ys)))
+      (silent n high x above (All-head (IsUpTo high) x xs upto)).no_vote
       ∙ votes_recent xs (All-tail (IsUpTo high) x xs upto)
 
-  inner_recent : (inner : List ℕ) (xs : List Record) → All (IsUpTo high) xs → inner_votes n inner (xs ++ ys) ≡ inner_votes n inner ys
+  inner_recent : (inner : List ℕ) (xs : List Record) → All (IsUpTo high) xs
+      → inner_votes n inner (xs ++ ys) ≡ inner_votes n inner ys
   unfolding inner_votes
   inner_recent inner xs upto = ap (filter (λ v. has_member inner v.voter)) (votes_recent xs upto)
 
 -- a poll is recounted by what is recent as by all
 module _ (plan : Plan) (set : List Shelf) (poller : ℕ) (copy : List (List ℕ)) (r : Repair) where
-  same_on : (high : ℕ) (xs ys : List Record) → high < r.number → All (IsUpTo high) xs → recount_of plan set poller ys copy r ≡ recount_of plan set poller (xs ++ ys) copy r
+  same_on : (high : ℕ) (xs ys : List Record) → high < r.number → All (IsUpTo high) xs
+      → recount_of plan set poller ys copy r ≡ recount_of plan set poller (xs ++ ys) copy r
   unfolding recount_of recount_by is_polled
   same_on high xs ys above upto =
-      by_opening (opening_of r.number ys) ∙ ap (recount_if plan set poller (xs ++ ys) copy r) (sym (opening_recent r.number high above ys xs upto))
+      by_opening (opening_of r.number ys)
+      ∙ ap (recount_if plan set poller (xs ++ ys) copy r) (sym (opening_recent r.number high above ys xs upto))
     where
-      by_opening : (o : Option Opening) → recount_if plan set poller ys copy r o ≡ recount_if plan set poller (xs ++ ys) copy r o
+      by_opening : (o : Option Opening)
+          → recount_if plan set poller ys copy r o ≡ recount_if plan set poller (xs ++ ys) copy r o
       by_opening None = refl
       by_opening (Some o) =
-          rw (openings_recent r.number high above ys xs upto, shut_recent r.number high above ys xs upto, inner_recent r.number high above ys o.inner xs upto) refl
+          rw (
+            openings_recent r.number high above ys xs upto,
+            shut_recent r.number high above ys xs upto,
+            inner_recent r.number high above ys o.inner xs upto,
+          ) refl
 
-  pub recent_is : (before : List Record) (m : Mark) → IsMark before m → recount_of plan set poller (recent m r.number before) copy r ≡ recount_of plan set poller before copy r
+  pub recent_is : (before : List Record) (m : Mark) → IsMark before m
+      → recount_of plan set poller (recent m r.number before) copy r ≡ recount_of plan set poller before copy r
   recent_is before m is = by_test (nat_lt m.high r.number) refl
     where
-      by_test : (t : Bool) → nat_lt m.high r.number ≡ t → recount_of plan set poller (cond t (drop m.place before) before) copy r ≡ recount_of plan set poller before copy r
+      by_test : (t : Bool) → nat_lt m.high r.number ≡ t
+          → recount_of plan set poller (cond t (drop m.place before) before) copy r
+          ≡ recount_of plan set poller before copy r
       by_test false e = refl
       by_test true e =
           same_on m.high (take m.place before) (drop m.place before) (ltb-true m.high r.number e) is.marked
@@ -148,7 +166,8 @@ upto_more a b less r upto = (more a b _ less upto.0, more a b _ less upto.1, mor
 pub mark_start : IsMark [] (record { place = 0; high = 0; seen = 0 })
 mark_start = record { within = omega arith; marked = All-nil _; seen = All-nil _ }
 
-pub mark_on : (before : List Record) (m : Mark) (item : Record) → IsMark before m → IsMark (before ++ item ∷ []) (mark_after (length before) m item)
+pub mark_on : (before : List Record) (m : Mark) (item : Record) → IsMark before m
+    → IsMark (before ++ item ∷ []) (mark_after (length before) m item)
 unfolding mark_after
 mark_on before m item is = by_test (is_some (repair_in item))
   where
@@ -164,7 +183,10 @@ mark_on before m item is = by_test (is_some (repair_in item))
     longer : length (before ++ item ∷ []) ≡ length before + 1
     longer = length-append before (item ∷ [])
 
-    by_test : (t : Bool) → IsMark (before ++ item ∷ []) (cond t (record { place = length before; high = m.seen; seen = seen }) (record { place = m.place; high = m.high; seen = seen }))
+    by_test : (t : Bool)
+        → IsMark (before ++ item ∷ [])
+        (cond t (record { place = length before; high = m.seen; seen = seen })
+        (record { place = m.place; high = m.high; seen = seen }))
     by_test true = record {
       within = omega (arith, longer);
       marked = subst (All (IsUpTo m.seen)) (sym (take-append_seam before (item ∷ []))) is.seen;

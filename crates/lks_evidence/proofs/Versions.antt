@@ -7,8 +7,10 @@ use Rattle.lks_law.specs.Journal.{deposit_of, replacements, replaced_by, content
 use Rattle.lks_evidence.specs.Records.{version_now}
 use Rattle.lks_evidence.proofs.Counts.{version_count}
 
-pub newest_version : (au : ℕ) (journal : List Record) → contents_at au (version_now au journal) journal ≡ contents_of au journal
+pub newest_version : (au : ℕ) (journal : List Record)
+    → contents_at au (version_now au journal) journal ≡ contents_of au journal
 unfolding contents_at contents_of
 newest_version au journal =
     ap (replaced_by (unwrap_or (deposit_of au journal) []))
-    (ap (λ n. take n (replacements au journal)) (sym (version_count au journal)) ∙ take-length (replacements au journal))
+    (ap (λ n. take n (replacements au journal)) (sym (version_count au journal))
+    ∙ take-length (replacements au journal))

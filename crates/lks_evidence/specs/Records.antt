@@ -1,12 +1,13 @@
--- What a journal says that evidence rests on, beside its contents and the votes in it: replaced blocks, and the peer's part in polls of others.
+-- What a journal says that evidence rests on, beside its contents and the votes in it: replaced blocks, and the peer's
+-- part in polls of others.
 use Rattle.std.specs.Prelude.{ℕ, Option, is_some, option_map, List, count_by}
 use Rattle.lks_base.specs.declared.names.PollName.{PollName}
 use Rattle.lks_base.specs.declared.records.Record.{Record}
-use Rattle.lks_law.specs.Journal.{Repair, said, deposit_in, opening_in, replacement_in}
+use Rattle.lks_law.specs.Journal.{Repair, said_by, deposit_in, opening_in, replacement_in}
 use Rattle.lks_law.specs.Sessions.{Join, part_of, join_by, of_poll, commitment_in, first_in}
 
 abbrev pub repair_in : Record → Option Repair
-repair_in r = (said r).replaced
+repair_in r = (said_by r).replaced
 
 -- the AU of the poll that the peer joined
 abbrev pub join_in : PollName → Record → Option ℕ

@@ -1,12 +1,14 @@
 -- The recount of a poll, which the checker keeps from one of its repairs to the next.
-use Rattle.std.specs.Prelude.{◌≡◌, ℕ, Bool, true, false, ◌==◌, ◌&&◌, ◌||◌, nat_lt, if◌then◌else◌, Option, Some, None, is_some, unwrap_or, List, take, slice_set}
+use Rattle.std.specs.Prelude.{◌≡◌, ℕ, Bool, true, false, ◌==◌, ◌&&◌, ◌||◌, nat_lt, if◌then◌else◌, Option, Some, None}
+use Rattle.std.specs.Prelude.{is_some, unwrap_or, List, take, slice_set}
 use Rattle.lks_base.specs.Quorums.{obeys_quorum_rule}
 use Rattle.lks_base.specs.declared.names.Limits.{Limits}
 use Rattle.lks_base.specs.declared.plans.AuPlan.{AuPlan}
 use Rattle.lks_base.specs.declared.plans.Plan.{Plan}
 use Rattle.lks_base.specs.declared.records.Record.{Record}
 use Rattle.lks_hash.specs.Running.{linked}
-use Rattle.lks_law.specs.Journal.{Opening, Repair, Replacement, deposit_in, opening_in, vote_in, replacement_in, opening_of, is_shut, contents_at, contents_of}
+use Rattle.lks_law.specs.Journal.{Opening, Repair, Replacement, deposit_in, opening_in, vote_in, replacement_in}
+use Rattle.lks_law.specs.Journal.{opening_of, is_shut, contents_at, contents_of}
 use Rattle.lks_law.specs.Sessions.{Commitment, commitment_of}
 use Rattle.lks_law.specs.Polls.{limits_of, inner_votes, ballot_for}
 use Rattle.lks_tally.specs.declared.ballots.Ballot.{Ballot}
@@ -17,8 +19,8 @@ use Rattle.lks_evidence.specs.declared.findings.Why.{Why}
 use Rattle.lks_evidence.specs.Records.{commitments, openings}
 use Rattle.lks_evidence.specs.Rules.{count_in, is_polled, is_deposited, is_joined, is_for, voter_doubt}
 
--- what is kept of a poll: its votes, the copy as it stands, each voter's running hash over the first `front` blocks of that, and
--- what the voters' journals leave in doubt
+-- what is kept of a poll: its votes, the copy as it stands, each voter's running hash over the first `front` blocks of
+-- that, and what the voters' journals leave in doubt
 pub record Recounted : Type 0 where
   pub number : ℕ
   pub limits : Limits
@@ -75,10 +77,20 @@ abbrev pub recounted : Plan → List Shelf → ℕ → List Record → List (Lis
 recounted plan set poller before copy r o =
     let q = ballot_for poller r.number o (unwrap_or (count_in plan.aus r.au) 0) in
     let votes = inner_votes r.number o.inner before in
-    record { number = r.number; limits = limits_of plan.rules o; ballot = q; votes = votes; copy = copy; front = r.block; hashes = heads q (take r.block copy) votes; doubt = voter_doubt plan.aus set q votes }
+    record {
+      number = r.number;
+      limits = limits_of plan.rules o;
+      ballot = q;
+      votes = votes;
+      copy = copy;
+      front = r.block;
+      hashes = heads q (take r.block copy) votes;
+      doubt = voter_doubt plan.aus set q votes;
+    }
 
 unfoldable pub recount_by : Plan → List Shelf → ℕ → List Record → List (List ℕ) → Repair → Opening → Option Recounted
-recount_by plan set poller before copy r o = if is_polled (limits_of plan.rules o) before r o then Some (recounted plan set poller before copy r o) else None
+recount_by plan set poller before copy r o =
+    if is_polled (limits_of plan.rules o) before r o then Some (recounted plan set poller before copy r o) else None
 
 abbrev pub recount_if : Plan → List Shelf → ℕ → List Record → List (List ℕ) → Repair → Option Opening → Option Recounted
 recount_if plan set poller before copy r None = None
@@ -101,7 +113,8 @@ version_if q journal (Some c) = if is_for q journal c then Some (contents_at q.a
 -- the one to which the voter's journal commits it, if it does as it has to
 unfoldable pub version_of : List AuPlan → Ballot → List Record → Option (List (List ℕ))
 version_of aus q journal =
-    if is_deposited aus q.au journal && (is_joined q journal && commitments q.poll journal == 1) then version_if q journal (commitment_of q.poll journal) else None
+    if is_deposited aus q.au journal && (is_joined q journal && commitments q.poll journal == 1)
+    then version_if q journal (commitment_of q.poll journal) else None
 
 -- One record more.
 

@@ -1,5 +1,6 @@
 -- What a shelf and each replaced block on it owe, rule by rule, and the doubt where a rule fails.
-use Rattle.std.specs.Prelude.{ℕ, Bool, true, false, not, ◌==◌, ◌&&◌, nat_lt, nat_le, min, if◌then◌else◌, Option, Some, None, unwrap_or, option_map, List, [], ◌∷◌, length, slice_set}
+use Rattle.std.specs.Prelude.{ℕ, Bool, true, false, not, ◌==◌, ◌&&◌, nat_lt, nat_le, min, if◌then◌else◌, Option, Some}
+use Rattle.std.specs.Prelude.{None, unwrap_or, option_map, List, [], ◌∷◌, length, slice_set}
 use Rattle.std.specs.List.{list_any}
 use Rattle.std.specs.Cmp.Lexicographic.{pointwise}
 use Rattle.lks_base.specs.Checking.{has_honest}
@@ -57,7 +58,8 @@ is_deposited aus au journal = deposits au journal == 1 && is_number (count_in au
 
 -- whether the AU is deposited before the place and nowhere else in the journal, and has the block
 unfoldable pub is_held : List AuPlan → List Record → List Record → Repair → Bool
-is_held aus journal before r = is_deposited aus r.au before && (deposits r.au journal == 1 && nat_lt r.block (length (deposited r.au before)))
+is_held aus journal before r =
+    is_deposited aus r.au before && (deposits r.au journal == 1 && nat_lt r.block (length (deposited r.au before)))
 
 -- The second round: the poll that replaced the block.
 
@@ -67,7 +69,9 @@ told votes = min votes 65535
 
 -- whether the poll was opened once, on the AU and with such numbers, and shut
 unfoldable pub is_polled : Limits → List Record → Repair → Opening → Bool
-is_polled limits before r o = openings r.number before == 1 && (o.au == r.au && (is_shut r.number before && obeys_quorum_rule limits.quorum limits.minority))
+is_polled limits before r o =
+    openings r.number before == 1
+    && (o.au == r.au && (is_shut r.number before && obeys_quorum_rule limits.quorum limits.minority))
 
 -- the first voter, in order of votes, who has two
 abbrev pub first_twice : List Vote → Option ℕ
@@ -95,7 +99,8 @@ loss_doubt limits q votes copy b =
 
 -- a minority at most votes against what came
 unfoldable pub win_doubt : Limits → Ballot → List Vote → List (List ℕ) → ℕ → Option Why
-win_doubt limits q votes copy b = unless (nat_le (against_at q votes copy b) limits.minority) (why.Against (told (against_at q votes copy b)))
+win_doubt limits q votes copy b =
+    unless (nat_le (against_at q votes copy b) limits.minority) (why.Against (told (against_at q votes copy b)))
 
 -- Voters whose journals are in the set.
 
@@ -105,7 +110,8 @@ is_over q blocks v = pointwise (pointwise ◌==◌) v.hashes (hashes_of (is_seco
 
 -- whether the voter committed to a version that it has, for the poll's nonce and kind of hash
 unfoldable pub is_for : Ballot → List Record → Commitment → Bool
-is_for q journal c = pointwise ◌==◌ c.nonce q.nonce && (is_kind c.kind q.kind && nat_le c.version (version_now q.au journal))
+is_for q journal c =
+    pointwise ◌==◌ c.nonce q.nonce && (is_kind c.kind q.kind && nat_le c.version (version_now q.au journal))
 
 -- whether it did, and the vote is the one over that version
 unfoldable pub is_committed : Ballot → List Record → Vote → Option Commitment → Bool
@@ -156,7 +162,8 @@ votes_doubt plan set limits q votes copy r =
 unfoldable pub opened_doubt : Plan → List Shelf → ℕ → List Record → Repair → Opening → Option Why
 opened_doubt plan set poller before r o =
     unless (is_polled (limits_of plan.rules o) before r o) why.Poll
-    ▹ votes_doubt plan set (limits_of plan.rules o) (ballot_for poller r.number o (unwrap_or (count_in plan.aus r.au) 0))
+    ▹ votes_doubt plan set (limits_of plan.rules o)
+    (ballot_for poller r.number o (unwrap_or (count_in plan.aus r.au) 0))
     (inner_votes r.number o.inner before) (contents_of r.au before) r
 
 -- of the poll

@@ -23,13 +23,15 @@ doubt_at peer place doubt = option_map (λ w. record { peer = peer; place = plac
 -- The first round.
 
 unfoldable pub held_doubt : Plan → List Record → List Record → Record → Option Why
-held_doubt plan journal before item = option_and_then (λ r. unless (is_held plan.aus journal before r) why.Copy) (repair_in item)
+held_doubt plan journal before item =
+    option_and_then (λ r. unless (is_held plan.aus journal before r) why.Copy) (repair_in item)
 
 abbrev pub first_at : Plan → Shelf → List Record → Record → Option Doubt
 first_at plan s before item = doubt_at s.peer (length before) (held_doubt plan s.list.items before item)
 
 unfoldable pub first_of_shelf : Plan → List Shelf → Shelf → Option Doubt
-first_of_shelf plan earlier s = doubt_at s.peer 0 (unless (is_new plan earlier s.peer) why.Peer) ▹ each (first_at plan s) [] s.list.items
+first_of_shelf plan earlier s =
+    doubt_at s.peer 0 (unless (is_new plan earlier s.peer) why.Peer) ▹ each (first_at plan s) [] s.list.items
 
 -- The second round.
 

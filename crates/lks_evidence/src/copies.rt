@@ -28,10 +28,13 @@ pub fn put(blocks: &mut Vec<Bytes>, block: u16, bytes: &Bytes) -> Result<(), Out
     Ok(())
 }
 
-/// Makes the replacement that a record names, if it is of the AU and `left` of them are left to make. Answers how many are
-/// left then.
+/// Makes the replacement that a record names, if it is of the AU and `left` of them are left to make. Answers how many
+/// are left then.
 fn replace(blocks: &mut Vec<Bytes>, r: &Record, au: AuId, left: usize) -> Result<usize, OutOfMemory>
-    ensures { IfOk result (λ n. (rs : List Rec) → replaced_by blocks.new.items (take n (replacements au rs)) ≡ replaced_by blocks.old.items (take left (replacements au (r.now ∷ rs)))) }
+    ensures { IfOk result
+        (λ n. (rs : List Rec)
+        → replaced_by blocks.new.items (take n (replacements au rs))
+        ≡ replaced_by blocks.old.items (take left (replacements au (r.now ∷ rs)))) }
 {
     if let Record::Replaced {
         au: a,

@@ -40,8 +40,8 @@ struct Held {
     count: usize,
 }
 
-/// Whether the AU is deposited before the place and nowhere else in the journal, and has the block. Finds it among the AUs
-/// that are held, or puts it there.
+/// Whether the AU is deposited before the place and nowhere else in the journal, and has the block. Finds it among the
+/// AUs that are held, or puts it there.
 #[tactic(auto, unfolding(crate::specs::Rules::is_held))]
 fn is_held(
     aus: &[AuPlan],
@@ -95,7 +95,8 @@ fn doubt_held(
 ) -> Result<Option<Why>, OutOfMemory>
     requires within { place ≤ length journal.now }
     requires held { All (IsHeldFrom plan.now.aus journal.now place) held.old.items }
-    ensures why { IfOk result (λ why. why ≡ search_of.held_doubt plan.now journal.now (take place journal.now) item.now) }
+    ensures why { IfOk result
+        (λ why. why ≡ search_of.held_doubt plan.now journal.now (take place journal.now) item.now) }
     ensures held { OnOk result (All (IsHeldFrom plan.now.aus journal.now place) held.new.items) }
 {
     match as_repair(item) {
@@ -248,11 +249,12 @@ fn find_doubt(alloc: Global, plan: &Plan, set: &[Shelf]) -> Result<Option<Doubt>
     second_round(alloc, plan, set)
 }
 
-/// Examines journals, each the records of one peer, oldest first, and trusts the plan alone: whoever wrote them, `Yes` says
-/// of each replaced block in them that a poll stands behind it (Maniatis et al., ACM TOCS 23(1), 2005, section 4). The
-/// poll was on this AU and was over; at least its quorum of distinct peers of its inner circle had voted; a minority at
-/// most of these votes was for the block as it was, and a minority at most is against the block as it became. And where a
-/// voter's journal is there too, it bears out the vote: it names the version of the copy whose hashes these are.
+/// Examines journals, each the records of one peer, oldest first, and trusts the plan alone: whoever wrote them, `Yes`
+/// says of each replaced block in them that a poll stands behind it (Maniatis et al., ACM TOCS 23(1), 2005, section 4).
+/// The poll was on this AU and was over; at least its quorum of distinct peers of its inner circle had voted; a
+/// minority at most of these votes was for the block as it was, and a minority at most is against the block as it
+/// became. And where a voter's journal is there too, it bears out the vote: it names the version of the copy whose
+/// hashes these are.
 ///
 /// `No` has the first rule that fails, in two rounds over the journals and their places. Any want of memory, and that
 /// alone, is answered by `OutOfMemory`.

@@ -14,10 +14,11 @@ pub struct Shelf {
 pub enum Why {
     /// The peer isn't an honest one of the plan, or has a shelf already.
     Peer,
-    /// Of the AU there isn't one deposit alone, before the place, with the plan's number of blocks; or it has no such block.
+    /// Of the AU there isn't one deposit alone, before the place, with the plan's number of blocks; or it has no such
+    /// block.
     Copy,
-    /// The poll wasn't opened exactly once, or on another AU, or with numbers by which votes may be a landslide both ways,
-    /// or voting in it hadn't ended.
+    /// The poll wasn't opened exactly once, or on another AU, or with numbers by which votes may be a landslide both
+    /// ways, or voting in it hadn't ended.
     Poll,
     /// An inner peer has two votes.
     Twice { voter: PeerId },

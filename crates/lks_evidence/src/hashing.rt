@@ -82,16 +82,16 @@ fn same_front(a: &[Bytes], b: &[Bytes], n: usize) -> bool
     true
 }
 
-/// What a vote comes to that is over a version of its voter's copy: whether it is the one, and the voter's running hash over
-/// the blocks of another copy before block `b`. Where those are the version's, they are hashed once for both.
+/// What a vote comes to that is over a version of its voter's copy: whether it is the one, and the voter's running hash
+/// over the blocks of another copy before block `b`. Where those are the version's, they are hashed once for both.
 #[derive(Clone, Copy)]
 pub struct Start {
     pub founded: bool,
     pub hash: [u8; 32],
 }
 
-/// The voter's running hash over the blocks of the copy before block `b`: one of its hashes over the version, where these
-/// blocks are the version's.
+/// The voter's running hash over the blocks of the copy before block `b`: one of its hashes over the version, where
+/// these blocks are the version's.
 fn hash_by(
     ballot: &Ballot,
     voter: PeerId,
@@ -120,7 +120,8 @@ pub fn start_over(
     b: u16,
 ) -> Result<Start, OutOfMemory>
     ensures founded { IfOk result (λ s. s.founded ≡ is_over ballot.now version.now vote.now) }
-    ensures hash { IfOk result (λ s. s.hash ≡ running (is_second ballot.now.kind) (key_for ballot.now vote.now.voter) (take b copy.now)) }
+    ensures hash { IfOk result
+        (λ s. s.hash ≡ running (is_second ballot.now.kind) (key_for ballot.now vote.now.voter) (take b copy.now)) }
 {
     let hashes = vote_over(alloc, ballot, vote.voter, version)?;
     let founded = vote.hashes.as_slice() == hashes.as_slice();
@@ -192,7 +193,8 @@ fn count_linked(
     block: Option<&Bytes>,
 ) -> usize
     requires { length votes.now ≡ length hashes.now }
-    ensures count { result ≡ matching b votes.now (map (λ h. linked_if second h (option_map (λ x. x.now) block.entry)) hashes.now) }
+    ensures count { result
+        ≡ matching b votes.now (map (λ h. linked_if second h (option_map (λ x. x.now) block.entry)) hashes.now) }
     ensures few { result ≤ length votes.now }
 {
     let mut n = 0;
@@ -268,7 +270,8 @@ fn vote_over(
     voter: PeerId,
     blocks: &[Bytes],
 ) -> Result<Vec<[u8; 32]>, OutOfMemory>
-    ensures { IfOk result (λ hashes. hashes.items ≡ hashes_of (is_second ballot.now.kind) (key_for ballot.now voter) blocks.now) }
+    ensures { IfOk result
+        (λ hashes. hashes.items ≡ hashes_of (is_second ballot.now.kind) (key_for ballot.now voter) blocks.now) }
 {
     hash_each::<Brand>(
         alloc,

@@ -44,7 +44,10 @@ fn find_recount(
 ) -> Result<Option<Recount>, OutOfMemory>
     requires copy { HasCopy before.now last }
     requires mark { IsMark before.now mark }
-    ensures { IfOk result (λ k. k ≡ cond (is_of_last r.now last) last (recounts.recount_of plan.now set.now poller before.now (contents_of r.now.au before.now) r.now)) }
+    ensures { IfOk result
+        (λ k. k
+        ≡ cond (is_of_last r.now last) last
+        (recounts.recount_of plan.now set.now poller before.now (contents_of r.now.au before.now) r.now)) }
 {
     if covers(&last, r) {
         Ok(last)

@@ -1,16 +1,17 @@
 //! A checker of finished journals, which trusts the plan alone.
 //!
-//! In a sampled poll (Maniatis et al., ACM TOCS 23(1), 2005, section 4) a peer replaces a block of its copy where its voters
-//! are against the block and for the one that a voter sent. [`examine`] reads the journals that peers left and says whether
-//! each replaced block in them has such votes behind it. It counts from the records alone and shares nothing with the peers
-//! but the definitions. Where a voter's journal is there too, its vote has to be the one over the version of its copy to
-//! which that journal commits it.
+//! In a sampled poll (Maniatis et al., ACM TOCS 23(1), 2005, section 4) a peer replaces a block of its copy where its
+//! voters are against the block and for the one that a voter sent. [`examine`] reads the journals that peers left and
+//! says whether each replaced block in them has such votes behind it. It counts from the records alone and shares
+//! nothing with the peers but the definitions. Where a voter's journal is there too, its vote has to be the one over
+//! the version of its copy to which that journal commits it.
 //!
-//! From one repair of a poll to the next it keeps the votes, the copy as it stands, each voter's running hash over the blocks
-//! before the last repaired one, and what the voters' journals leave in doubt: so repairs of one poll, in order of their
-//! blocks, hash each block of the copy once a vote, and two blocks a vote and repair. Blocks that a voter's version shares
-//! with the copy up to the first repaired block are hashed once for both. Another poll begins anew, with the copy where it is
-//! on the same AU; where its number is above those of all polls before the last repaired block, it is read from there on.
+//! From one repair of a poll to the next it keeps the votes, the copy as it stands, each voter's running hash over the
+//! blocks before the last repaired one, and what the voters' journals leave in doubt: so repairs of one poll, in order
+//! of their blocks, hash each block of the copy once a vote, and two blocks a vote and repair. Blocks that a voter's
+//! version shares with the copy up to the first repaired block are hashed once for both. Another poll begins anew, with
+//! the copy where it is on the same AU; where its number is above those of all polls before the last repaired block, it
+//! is read from there on.
 //!
 //! A set that is examined:
 //!
@@ -40,8 +41,10 @@
 //! Ok(())
 //! ```
 //!
-//! These are the lines of the test `a_set_that_is_examined` (`lks_peer_trials`). Its `plan_of` reads a plan by
+//! These are the lines of the test `a_set_that_is_examined` (`lks_run_trials`). Its `plan_of` reads a plan by
 //! `read_script` (`lks_script`).
+//!
+//! Its trials: `lks_run_trials`, `evidence`.
 #![tactic(auto)]
 
 mod copies;

@@ -7,7 +7,8 @@ ghost use Rattle.lks_evidence.specs.Marks as marks;
 use crate::records::{Repair, as_repair};
 use lks_base::Record;
 
-/// Before this place of a journal no poll of the peer's own has a number above `high`, and none so far has one above `seen`.
+/// Before this place of a journal no poll of the peer's own has a number above `high`, and none so far has one above
+/// `seen`.
 #[derive(Clone, Copy)]
 pub struct Mark {
     pub place: usize,

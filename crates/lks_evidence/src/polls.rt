@@ -56,7 +56,9 @@ pub fn doubt_shape(count: u16, votes: &[Vote]) -> Option<Why>
 
 /// Whether a quorum votes, and a minority at most for what was there.
 pub fn doubt_loss(limits: Limits, votes: usize, votes_for: usize) -> Option<Why>
-    ensures { result ≡ unless (nat_le limits.quorum votes) (why.Quorum (told votes)) ▹ unless (nat_le votes_for limits.minority) (why.For (told votes_for)) }
+    ensures { result
+        ≡ unless (nat_le limits.quorum votes) (why.Quorum (told votes))
+        ▹ unless (nat_le votes_for limits.minority) (why.For (told votes_for)) }
 {
     if votes < limits.quorum as usize {
         return Some(Why::Quorum { votes: told(votes) });

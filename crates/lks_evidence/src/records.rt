@@ -4,7 +4,8 @@ ghost use Rattle.std.specs.Prelude.{◌≡◌, ◌≤◌, IfOk, length, is_some,
 ghost use Rattle.lks_law.specs.Journal.{deposit_in, deposit_of, opening_in, opening_of, is_shut, vote_in};
 ghost use Rattle.lks_law.specs.Polls.{votes, inner_votes};
 ghost use Rattle.lks_law.specs.Sessions.{is_poll, commitment_in, commitment_of};
-ghost use Rattle.lks_evidence.specs.Records.{repair_in, join_in, deposits, openings, version_now, joins, join_of, commitments, repairs};
+ghost use Rattle.lks_evidence.specs.Records.{repair_in, join_in, deposits, openings, version_now, joins, join_of};
+ghost use Rattle.lks_evidence.specs.Records.{commitments, repairs};
 
 use lks_base::{AuId, Bytes, HashKind, Limits, OutOfMemory, PollName, Record, has_member};
 use lks_tally::Vote;
@@ -43,7 +44,8 @@ impl<'a> Model for Opening<'a> {
 
     ghost Value = { Kept };
 
-    ghost view = { λ a. record { au = a.au; nonce = a.nonce.now; inner = a.inner.now; limits = a.limits; kind = a.kind } };
+    ghost view = { λ a.
+        record { au = a.au; nonce = a.nonce.now; inner = a.inner.now; limits = a.limits; kind = a.kind } };
 }
 
 /// To which version of its copy a voter committed, for which nonce and kind of hash.

@@ -4,7 +4,8 @@ ghost use Rattle.std.specs.Prelude.{◌≡◌, ◌≤◌, IfOk, OnOk, Some, List
 ghost use Rattle.lks_base.specs.declared.plans.Plan.{Plan as Planned};
 ghost use Rattle.lks_evidence.specs.declared.findings.Shelf.{Shelf as OnShelf};
 ghost use Rattle.lks_law.specs.Journal.{contents_of};
-ghost use Rattle.lks_evidence.specs.Recounts.{HasCopy, HasDoubt, HasHashes, IsSame, is_of, recount_by, recount_after, last_after, unsettles, mended};
+ghost use Rattle.lks_evidence.specs.Recounts.{HasCopy, HasDoubt, HasHashes, IsSame, is_of, recount_by, recount_after};
+ghost use Rattle.lks_evidence.specs.Recounts.{last_after, unsettles, mended};
 ghost use Rattle.lks_evidence.specs.Recounts as recounts;
 ghost use Rattle.lks_evidence.specs.Rules as rules;
 ghost use Rattle.lks_tally.specs.Heads.{heads};
@@ -22,8 +23,8 @@ use lks_tally::{Ballot, Vote};
 use std::alloc::Global;
 use std::marker::Model;
 
-/// A poll that replaced a block, as the poller's journal has it so far: the votes, the copy as it stands, and each voter's
-/// running hash over the first `front` blocks of that.
+/// A poll that replaced a block, as the poller's journal has it so far: the votes, the copy as it stands, and each
+/// voter's running hash over the first `front` blocks of that.
 #[derive(Drop)]
 pub struct Recount {
     number: u32,
@@ -41,7 +42,17 @@ impl Model for Recount {
 
     ghost Value = { Recounted };
 
-    ghost view = { λ a. record { number = a.number; limits = a.limits; ballot = a.ballot; votes = a.votes.items; copy = a.copy.items; front = a.front; hashes = a.hashes.items; doubt = a.doubt } };
+    ghost view = { λ a.
+        record {
+          number = a.number;
+          limits = a.limits;
+          ballot = a.ballot;
+          votes = a.votes.items;
+          copy = a.copy.items;
+          front = a.front;
+          hashes = a.hashes.items;
+          doubt = a.doubt;
+        } };
 }
 
 impl Recount {
@@ -61,7 +72,12 @@ impl Recount {
     /// Takes the hashes to the blocks before `b`, from those over fewer blocks, or afresh.
     fn reach(&mut self, alloc: Global, b: u16) -> Result<(), OutOfMemory>
         requires { HasHashes self.old }
-        ensures { OnOk result (self.new ≡ record self.old { front = b; hashes = heads self.old.ballot (take b self.old.copy) self.old.votes }) }
+        ensures { OnOk result
+            (self.new
+            ≡ record self.old {
+              front = b;
+              hashes = heads self.old.ballot (take b self.old.copy) self.old.votes;
+            }) }
     {
         if b < self.front {
             self.hashes = keys(alloc, &self.ballot, &self.votes)?;
@@ -93,7 +109,9 @@ impl Recount {
     #[tactic(auto, unfolding(crate::specs::Rules::win_doubt))]
     fn doubt_win(&self, b: u16, bytes: &Bytes) -> Option<Why>
         requires { self.now.hashes ≡ heads self.now.ballot (take b self.now.copy) self.now.votes }
-        ensures { result ≡ rules.win_doubt self.now.limits self.now.ballot self.now.votes (slice_set self.now.copy b bytes.now) b }
+        ensures { result
+            ≡ rules.win_doubt self.now.limits self.now.ballot self.now.votes (slice_set self.now.copy b bytes.now)
+            b }
     {
         let votes_for = count_for_new(
             &self.ballot,
@@ -109,7 +127,10 @@ impl Recount {
     /// What the votes leave in doubt of a repair of the copy as it stands.
     pub fn doubt_votes(&mut self, alloc: Global, r: &Repair<'_>) -> Result<Option<Why>, OutOfMemory>
         requires { HasHashes self.old }
-        ensures why { IfOk result (λ why. (plan : Planned) (set : List OnShelf) → HasDoubt plan set self.old → why ≡ rules.votes_doubt plan set self.old.limits self.old.ballot self.old.votes self.old.copy r.now) }
+        ensures why { IfOk result
+            (λ why. (plan : Planned) (set : List OnShelf) → HasDoubt plan set self.old
+            → why
+            ≡ rules.votes_doubt plan set self.old.limits self.old.ballot self.old.votes self.old.copy r.now) }
         ensures hashes { OnOk result (HasHashes self.new) }
         ensures same { OnOk result (IsSame self.new self.old) }
     {

@@ -85,7 +85,9 @@ fn version_if(
     ballot: &Ballot,
     journal: &[Record],
 ) -> Result<Option<Vec<Bytes>>, OutOfMemory>
-    ensures { IfOk result (λ o. option_map (λ v. v.items) o ≡ recounts.version_if ballot.now journal.now (commitment_of ballot.now.poll journal.now)) }
+    ensures { IfOk result
+        (λ o. option_map (λ v. v.items) o
+        ≡ recounts.version_if ballot.now journal.now (commitment_of ballot.now.poll journal.now)) }
 {
     match find_commitment(journal, &ballot.poll) {
         Some(named) if is_for(ballot, journal, &named) => {
@@ -138,7 +140,8 @@ fn start_of(
     b: u16,
 ) -> Result<Start, OutOfMemory>
     ensures founded { IfOk result (λ s. s.founded ≡ bears_out aus.now ballot.now journal.now vote.now) }
-    ensures hash { IfOk result (λ s. s.hash ≡ running (is_second ballot.now.kind) (key_for ballot.now vote.now.voter) (take b copy.now)) }
+    ensures hash { IfOk result
+        (λ s. s.hash ≡ running (is_second ballot.now.kind) (key_for ballot.now vote.now.voter) (take b copy.now)) }
 {
     match version_of(alloc, aus, ballot, journal)? {
         Some(version) => start_over(alloc, ballot, vote, &version, copy, b),
@@ -149,8 +152,8 @@ fn start_of(
     }
 }
 
-/// What a vote comes to: whether nothing in the set speaks against it, and the voter's running hash over the blocks of the
-/// copy before block `b`.
+/// What a vote comes to: whether nothing in the set speaks against it, and the voter's running hash over the blocks of
+/// the copy before block `b`.
 #[tactic(auto, unfolding(crate::specs::Rules::is_founded))]
 fn start(
     alloc: Global,
@@ -162,7 +165,8 @@ fn start(
     b: u16,
 ) -> Result<Start, OutOfMemory>
     ensures founded { IfOk result (λ s. s.founded ≡ is_founded aus.now set.now ballot.now vote.now) }
-    ensures hash { IfOk result (λ s. s.hash ≡ running (is_second ballot.now.kind) (key_for ballot.now vote.now.voter) (take b copy.now)) }
+    ensures hash { IfOk result
+        (λ s. s.hash ≡ running (is_second ballot.now.kind) (key_for ballot.now vote.now.voter) (take b copy.now)) }
 {
     match shelf_of(set, vote.voter) {
         Some(shelf) => start_of(alloc, aus, ballot, &shelf.list, vote, copy, b),

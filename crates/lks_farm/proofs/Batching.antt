@@ -33,21 +33,26 @@ pub refs_told : (d : JobDone) → asked_refs (asked_done d) ≡ refs_done d
 refs_told (results.Vote done) = refl
 refs_told (results.Tally done) = refl
 
-pub one_of : (pool : List ℕ) (j : Job) (d : JobDone) → asked_done d ≡ asked_of j → AllOf pool (refs_of j) → AllOf pool (refs_done d)
+pub one_of : (pool : List ℕ) (j : Job) (d : JobDone) → asked_done d ≡ asked_of j → AllOf pool (refs_of j)
+    → AllOf pool (refs_done d)
 one_of pool j d same of = subst (AllOf pool) (sym (refs_asked j) ∙ ap asked_refs (sym same) ∙ refs_told d) of
 
 -- what is done of jobs over blocks of a pool is over such blocks
-pub done_of : (pool : List ℕ) (jobs : List Job) (done : List JobDone) → map asked_done done ≡ map asked_of jobs → AreOf pool jobs → AreDoneOf pool done
+pub done_of : (pool : List ℕ) (jobs : List Job) (done : List JobDone) → map asked_done done ≡ map asked_of jobs
+    → AreOf pool jobs → AreDoneOf pool done
 done_of pool [] [] same of = All-nil (λ d. AllOf pool (refs_done d))
 done_of pool [] (d ∷ done) same of = absurd cc
 done_of pool (j ∷ jobs) [] same of = absurd cc
 done_of pool (j ∷ jobs) (d ∷ done) same of =
     let first : asked_done d ≡ asked_of j = cc in
     let rest : map asked_done done ≡ map asked_of jobs = cc in
-    All-cons (λ e. AllOf pool (refs_done e)) d done (one_of pool j d first (All-head (λ i. AllOf pool (refs_of i)) j jobs of)) (done_of pool jobs done rest (All-tail (λ i. AllOf pool (refs_of i)) j jobs of))
+    All-cons (λ e. AllOf pool (refs_done e)) d done
+    (one_of pool j d first (All-head (λ i. AllOf pool (refs_of i)) j jobs of))
+    (done_of pool jobs done rest (All-tail (λ i. AllOf pool (refs_of i)) j jobs of))
 
 -- all jobs are done
-pub all_done : (jobs : List Job) (done : List JobDone) (left : List Job) → length left ≡ 0 → map asked_done done ++ map asked_of left ≡ map asked_of jobs → AreDone jobs done
+pub all_done : (jobs : List Job) (done : List JobDone) (left : List Job) → length left ≡ 0
+    → map asked_done done ++ map asked_of left ≡ map asked_of jobs → AreDone jobs done
 unfolding AreDone
 all_done jobs done (j ∷ left) none so = absurd (omega (arith, none))
 all_done jobs done [] none so = sym (append-nil (map asked_done done)) ∙ so

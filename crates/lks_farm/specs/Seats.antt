@@ -1,8 +1,9 @@
 -- A farm and its seats, as contracts see them.
-use Rattle.std.specs.Prelude.{◌≡◌, ◌==◌, ℕ, ◌+◌, ◌<◌, ◌≤◌, Option, None, Some, List, [], ◌∷◌, ◌++◌, All, cond, length, map, flat_map, option_map, option_to_list, slice_get}
+use Rattle.std.specs.Prelude.{◌≡◌, ◌==◌, ℕ, ◌+◌, ◌<◌, ◌≤◌, Option, None, Some, List, [], ◌∷◌, ◌++◌, All, cond, length}
+use Rattle.std.specs.Prelude.{map, flat_map, option_map, option_to_list, slice_get}
 use Rattle.atomic_table.specs.Seated.{TableId}
 use Rattle.lks_farm.specs.declared.jobs.JobNumber.{JobNumber}
-use Rattle.lks_farm.specs.declared.entries.Entry.{Entry}
+use Rattle.lks_farm.specs.declared.entries.NumberedJob.{NumberedJob}
 use Rattle.lks_farm.specs.declared.rule.View.{View}
 use Rattle.lks_farm.specs.Entries.{IsOf}
 use Rattle.lks_farm.specs.Sharing.{known}
@@ -36,13 +37,13 @@ pub record Badge : Type 0 where
 -- the entries that were offered, handed in and collected by way of the seat, and the one that it holds
 pub record SeatSeen : Type 0 where
   pub badge : Badge
-  pub offered : List Entry
-  pub handed : List Entry
-  pub collected : List Entry
-  pub held : Option Entry
+  pub offered : List NumberedJob
+  pub handed : List NumberedJob
+  pub collected : List NumberedJob
+  pub held : Option NumberedJob
 
 -- the entries that were taken: those handed in, and the one that is held
-abbrev pub taken_of : SeatSeen → List Entry
+abbrev pub taken_of : SeatSeen → List NumberedJob
 taken_of s = s.handed ++ option_to_list s.held
 
 -- the view of the seat's pass on the queue of jobs, and on that of results
@@ -57,22 +58,22 @@ abbrev pub next_number : SeatSeen → JobNumber
 next_number s = record { seat = s.badge.number; count = length s.offered }
 
 abbrev pub number_held : SeatSeen → Option JobNumber
-number_held s = option_map (λ (e : Entry). e.number) s.held
+number_held s = option_map (λ (e : NumberedJob). e.number) s.held
 
 -- all entries of these seats
-abbrev pub all_offered : List SeatSeen → List Entry
+abbrev pub all_offered : List SeatSeen → List NumberedJob
 all_offered seats = flat_map (λ (s : SeatSeen). s.offered) seats
 
-abbrev pub all_handed : List SeatSeen → List Entry
+abbrev pub all_handed : List SeatSeen → List NumberedJob
 all_handed seats = flat_map (λ (s : SeatSeen). s.handed) seats
 
-abbrev pub all_taken : List SeatSeen → List Entry
+abbrev pub all_taken : List SeatSeen → List NumberedJob
 all_taken seats = flat_map taken_of seats
 
-abbrev pub all_collected : List SeatSeen → List Entry
+abbrev pub all_collected : List SeatSeen → List NumberedJob
 all_collected seats = flat_map (λ (s : SeatSeen). s.collected) seats
 
-abbrev pub all_held : List SeatSeen → List Entry
+abbrev pub all_held : List SeatSeen → List NumberedJob
 all_held seats = flat_map (λ (s : SeatSeen). option_to_list s.held) seats
 
 -- the parts of these seats, added up
@@ -113,12 +114,12 @@ AreFresh farm k [] = Unit {0}
 AreFresh farm k (s ∷ ss) = (s ≡ fresh farm k s.badge.parts) × AreFresh farm (k + 1) ss
 
 -- the entries have the numbers of this seat, counted from k
-abbrev pub AreCounted : ℕ → ℕ → List Entry → Type 0
+abbrev pub AreCounted : ℕ → ℕ → List NumberedJob → Type 0
 AreCounted seat k [] = Unit {0}
 AreCounted seat k (e ∷ es) = (e.number ≡ record { seat = seat; count = k }) × AreCounted seat (k + 1) es
 
 -- the entry that a seat holds: the one that was got from the queue of jobs and not yet put into that of results
-abbrev pub held_by : View → View → Option Entry
+abbrev pub held_by : View → View → Option NumberedJob
 held_by jobs results = slice_get jobs.got (length results.put)
 
 -- what a seat stores agrees with the views of its two passes
@@ -129,13 +130,18 @@ pub record Keeps (number offers : ℕ) (holds : Option JobNumber) (jobs results 
   pub count : offers ≡ length jobs.put
   pub counted : AreCounted number 0 jobs.put
   pub taken : jobs.got ≡ results.put ++ option_to_list (held_by jobs results)
-  pub held : holds ≡ option_map (λ (e : Entry). e.number) (held_by jobs results)
-  pub of : (e : Entry) → held_by jobs results ≡ Some e → IsOf jobs.pool e
+  pub held : holds ≡ option_map (λ (e : NumberedJob). e.number) (held_by jobs results)
+  pub of : (e : NumberedJob) → held_by jobs results ≡ Some e → IsOf jobs.pool e
 
 -- the seat as contracts see it, by its number and its two passes
 abbrev pub seat_seen : ℕ → HandSeen → HandSeen → SeatSeen
 seat_seen number jobs results = record {
-  badge = record { farm = record { jobs = jobs.table; results = results.table; pool = jobs.knows.pool }; number = number; parts = jobs.knows.parts };
+  badge =
+      record {
+        farm = record { jobs = jobs.table; results = results.table; pool = jobs.knows.pool };
+        number = number;
+        parts = jobs.knows.parts;
+      };
   offered = jobs.knows.put;
   handed = results.knows.put;
   collected = results.knows.got;

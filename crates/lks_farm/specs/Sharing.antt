@@ -2,19 +2,19 @@
 use Rattle.std.specs.Prelude.{◌≡◌, ℕ, ◌+◌, ◌<◌, List, [], ◌∷◌, ◌++◌, length, flat_map, IsPermutation}
 use mathlib.Core.Option.{some}
 use lib.ListN.{get_elem?}
-use Rattle.lks_farm.specs.declared.entries.Entry.{Entry}
+use Rattle.lks_farm.specs.declared.entries.NumberedJob.{NumberedJob}
 use Rattle.lks_farm.specs.declared.rule.View.{View}
 use Rattle.lks_farm.specs.Entries.{EachIsOf}
 
 -- what a pass knows: its parts, the pool, and the entries that it put and got
-abbrev pub known : ℕ → List ℕ → List Entry → List Entry → View
+abbrev pub known : ℕ → List ℕ → List NumberedJob → List NumberedJob → View
 known parts pool put got = record { parts = parts; pool = pool; put = put; got = got }
 
 -- the view with one entry more
-abbrev pub putting : View → Entry → View
+abbrev pub putting : View → NumberedJob → View
 putting v e = known v.parts v.pool (v.put ++ e ∷ []) v.got
 
-abbrev pub getting : View → Entry → View
+abbrev pub getting : View → NumberedJob → View
 getting v e = known v.parts v.pool v.put (v.got ++ e ∷ [])
 
 -- one view of two
@@ -27,10 +27,10 @@ parts_of [] = 0
 parts_of (v ∷ vs) = v.parts + parts_of vs
 
 -- what all passes put, and what all got
-abbrev pub all_put : List View → List Entry
+abbrev pub all_put : List View → List NumberedJob
 all_put views = flat_map (λ (v : View). v.put) views
 
-abbrev pub all_got : List View → List Entry
+abbrev pub all_got : List View → List NumberedJob
 all_got views = flat_map (λ (v : View). v.got) views
 
 -- a view with no part has empty lists; one with a part names the pool
@@ -40,9 +40,9 @@ pub record Fits (pool : List ℕ) (v : View) : Type 0 where
   pub put : EachIsOf pool v.put
   pub got : EachIsOf pool v.got
 
--- the rule: what was put is, in some order, what was got and what the queue holds; all is of one pool; and there are 128
--- parts
-pub record Shared (entries : List Entry) (views : List View) : Type 0 where
+-- the rule: what was put is, in some order, what was got and what the queue holds; all is of one pool; and there are
+-- 128 parts
+pub record Shared (entries : List NumberedJob) (views : List View) : Type 0 where
   pub pool : List ℕ
   pub parts : parts_of views ≡ 128
   pub balance : IsPermutation (all_put views) (all_got views ++ entries)
@@ -51,7 +51,7 @@ pub record Shared (entries : List Entry) (views : List View) : Type 0 where
 
 -- by the rule the queue held n entries at one moment, at which one of the passes had this view
 pub record Moment (n : ℕ) (v : View) : Type 0 where
-  pub entries : List Entry
+  pub entries : List NumberedJob
   pub views : List View
   pub count : length entries ≡ n
   pub shared : Shared entries views

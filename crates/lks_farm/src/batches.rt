@@ -58,8 +58,8 @@ fn weight_of_all(pool: &BlockPool, jobs: &[Job]) -> u64
     bytes
 }
 
-/// On how many threads these jobs are hashed: on the one that is there where there is but one job, or little to hash, else on as
-/// many as can run, at least two.
+/// On how many threads these jobs are hashed: on the one that is there where there is but one job, or little to hash,
+/// else on as many as can run, at least two.
 fn threads_for<R: Threads>(rt: &R, pool: &BlockPool, jobs: &[Job]) -> usize
     requires { AreOf pool.now jobs.now }
 {
@@ -163,7 +163,8 @@ fn hash_rest<N: Batch, G: Gate>(
     Ok(())
 }
 
-/// Hashes jobs on so many threads, each of which takes the next job whenever it has hashed one. What they leave is hashed here.
+/// Hashes jobs on so many threads, each of which takes the next job whenever it has hashed one. What they leave is
+/// hashed here.
 fn hash_side_by_side<N: Batch + Send + Sync, G: Gate, R: Threads + Wait + Sync>(
     alloc: Global,
     rt: &R,
@@ -186,9 +187,9 @@ fn hash_side_by_side<N: Batch + Send + Sync, G: Gate, R: Threads + Wait + Sync>(
     pile.into_results(alloc)
 }
 
-/// Hashes these jobs, each once the gate let it begin, and gives the results in the order of the jobs. Several threads hash them
-/// where there is enough to do, each the next job whenever it has hashed one; where one can't be started, those that are there do
-/// its part. For want of memory the jobs are dropped.
+/// Hashes these jobs, each once the gate let it begin, and gives the results in the order of the jobs. Several threads
+/// hash them where there is enough to do, each the next job whenever it has hashed one; where one can't be started,
+/// those that are there do its part. For want of memory the jobs are dropped.
 pub fn hash_batch<R: Threads + Wait + Sync, G: Gate>(
     alloc: Global,
     rt: &R,

@@ -26,7 +26,7 @@ pub enum Asked {
 }
 
 /// A job under its number.
-pub struct Entry {
+pub struct NumberedJob {
     pub number: JobNumber,
     pub job: Asked,
 }

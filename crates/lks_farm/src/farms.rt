@@ -1,11 +1,13 @@
 //! The farm.
 
-ghost use Rattle.std.specs.Prelude.{◌≡◌, ◌<◌, ◌≤◌, [], ◌∷◌, ◌++◌, None, Some, length, vec_len, vec_capacity, IfOk, IfErr, IfNone, IfSome, IsNone, OnOk};
+ghost use Rattle.std.specs.Prelude.{◌≡◌, ◌<◌, ◌≤◌, [], ◌∷◌, ◌++◌, None, Some, length, vec_len, vec_capacity, IfOk};
+ghost use Rattle.std.specs.Prelude.{IfErr, IfNone, IfSome, IsNone, OnOk};
 ghost use Rattle.lks_blocks.specs.Block.{AllOf};
 ghost use Rattle.lks_farm.specs.declared.jobs.JobNumber.{JobNumber};
 ghost use Rattle.lks_farm.specs.Ends.{IsClosed, times};
 ghost use Rattle.lks_farm.specs.Entries.{asked_of, entry_done, entry_of, refs_of, under};
-ghost use Rattle.lks_farm.specs.Seats.{AreFresh, AreSeatsOf, all_collected, all_handed, all_offered, all_taken, jobs_view, next_number, results_view};
+ghost use Rattle.lks_farm.specs.Seats.{AreFresh, AreSeatsOf, all_collected, all_handed, all_offered, all_taken};
+ghost use Rattle.lks_farm.specs.Seats.{jobs_view, next_number, results_view};
 ghost use Rattle.lks_farm.specs.Sharing.{Moment, known};
 
 use crate::jobs::{FarmDone, FarmJob, JobNumber};
@@ -33,7 +35,11 @@ impl Model for Farm {
 
     ghost Value = { FarmSeen };
 
-    ghost view = { λ f. record { name = record { jobs = f.jobs.table; results = f.results.table; pool = f.pool }; room = f.jobs.room } };
+    ghost view = { λ f.
+        record {
+          name = record { jobs = f.jobs.table; results = f.results.table; pool = f.pool };
+          room = f.jobs.room;
+        } };
 
     ghost invariant = { λ f. f.results.room ≡ f.jobs.room };
 }
@@ -126,8 +132,10 @@ impl Farm {
         requires of { seat.old.badge.farm ≡ self.now.name }
         requires few { length seat.old.offered < 4294967295 }
         requires pool { AllOf self.now.name.pool (refs_of (asked_of job)) }
-        ensures ok { OnOk result (seat.new ≡ record seat.old { offered = seat.old.offered ++ under (next_number seat.old) job ∷ [] }) }
-        ensures back { IfErr result (λ back. (back ≡ job) × (seat.new ≡ seat.old) × Moment self.now.room (jobs_view seat.old)) }
+        ensures ok { OnOk result
+            (seat.new ≡ record seat.old { offered = seat.old.offered ++ under (next_number seat.old) job ∷ [] }) }
+        ensures back { IfErr result
+            (λ back. (back ≡ job) × (seat.new ≡ seat.old) × Moment self.now.room (jobs_view seat.old)) }
     {
         let number = JobNumber {
             seat: seat.number,
@@ -161,13 +169,15 @@ impl Farm {
         Some(taken)
     }
 
-    /// Hands in the result of the job that the seat holds. It comes back, and the seat still holds the job, where the queue
-    /// of results was full.
+    /// Hands in the result of the job that the seat holds. It comes back, and the seat still holds the job, where the
+    /// queue of results was full.
     pub fn hand_in<R: Wait>(&self, rt: &R, seat: &mut Seat, done: FarmDone) -> Result<(), FarmDone>
         requires of { seat.old.badge.farm ≡ self.now.name }
         requires held { seat.old.held ≡ Some (entry_done done) }
-        ensures ok { OnOk result (seat.new ≡ record seat.old { handed = seat.old.handed ++ entry_done done ∷ []; held = None }) }
-        ensures back { IfErr result (λ back. (back ≡ done) × (seat.new ≡ seat.old) × Moment self.now.room (results_view seat.old)) }
+        ensures ok { OnOk result
+            (seat.new ≡ record seat.old { handed = seat.old.handed ++ entry_done done ∷ []; held = None }) }
+        ensures back { IfErr result
+            (λ back. (back ≡ done) × (seat.new ≡ seat.old) × Moment self.now.room (results_view seat.old)) }
     {
         self.results.push(rt, &mut seat.results, done)?;
         seat.holds = None;
@@ -177,15 +187,16 @@ impl Farm {
     /// Collects a result, of whichever seat's job. There is none where the queue of results was empty.
     pub fn collect<R: Wait>(&self, rt: &R, seat: &mut Seat) -> Option<FarmDone>
         requires of { seat.old.badge.farm ≡ self.now.name }
-        ensures some { IfSome result (λ f. seat.new ≡ record seat.old { collected = seat.old.collected ++ entry_done f ∷ [] }) }
+        ensures some { IfSome result
+            (λ f. seat.new ≡ record seat.old { collected = seat.old.collected ++ entry_done f ∷ [] }) }
         ensures pool { IfSome result (λ f. AllOf self.now.name.pool (refs_of (entry_done f).job)) }
         ensures none { IfNone result ((seat.new ≡ seat.old) × Moment 0 (results_view seat.old)) }
     {
         self.results.pop(rt, &mut seat.results)
     }
 
-    /// Closes the farm, and gives back what is left in it. It takes its memory first, and for want of it, and for nothing
-    /// else, gives all back as it was.
+    /// Closes the farm, and gives back what is left in it. It takes its memory first, and for want of it, and for
+    /// nothing else, gives all back as it was.
     pub fn close<R: Wait>(self, rt: &R, alloc: Global, seats: Vec<Seat>) -> Result<FarmEnd, FarmSet>
         requires { AreSeatsOf self.name seats.items }
         ensures ok { IfOk result (λ left. IsClosed seats.items left) }
@@ -225,7 +236,8 @@ impl Farm {
         requires { AreSeatsOf self.now.name seats.items }
         ensures tables { (result.0.table ≡ self.now.name.jobs) × (result.1.table ≡ self.now.name.results) }
         ensures jobs { result.0.knows ≡ known 128 self.now.name.pool (all_offered seats.items) (all_taken seats.items) }
-        ensures results { result.1.knows ≡ known 128 self.now.name.pool (all_handed seats.items) (all_collected seats.items) }
+        ensures results { result.1.knows
+            ≡ known 128 self.now.name.pool (all_handed seats.items) (all_collected seats.items) }
         ensures once { (n : JobNumber) → times n (all_offered seats.items) ≤ 1 }
     {
         let (mut jobs, mut results) = seats.remove(0).into_hands();

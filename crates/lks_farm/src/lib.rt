@@ -15,6 +15,8 @@
 //!     farm.take(rt, seat)
 //! }
 //! ```
+//!
+//! Its trials: `lks_rule_trials`, `farm`.
 #![tactic(auto)]
 
 mod batches;

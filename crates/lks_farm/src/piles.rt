@@ -23,7 +23,8 @@ impl Batch for Brand {
     ghost asked = { [] };
 }
 
-/// The jobs of a batch that no thread took yet, and a place for the result of each job. Contracts see how many jobs are left.
+/// The jobs of a batch that no thread took yet, and a place for the result of each job. Contracts see how many jobs are
+/// left.
 #[derive(Drop)]
 pub struct Pile<N: Batch> {
     jobs: Vec<Job>,

@@ -1,10 +1,11 @@
 //! A bounded queue under the rule, and the passes to it.
 
-ghost use Rattle.std.specs.Prelude.{◌≡◌, ◌<◌, ◌≤◌, ◌-◌, [], ◌++◌, map, vec_capacity, IfOk, IfErr, IfNone, IfSome, OnOk, IsPermutation};
+ghost use Rattle.std.specs.Prelude.{◌≡◌, ◌<◌, ◌≤◌, ◌-◌, [], ◌++◌, map, vec_capacity, IfOk, IfErr, IfNone, IfSome};
+ghost use Rattle.std.specs.Prelude.{OnOk, IsPermutation};
 ghost use Rattle.lks_farm.specs.Entries.{IsOf};
 ghost use Rattle.lks_farm.specs.Sharing.{Moment, getting, joined, known, putting};
 
-use crate::rule::{Entries, Finds, Names, Naming, Parts, Puts, Rule, Takes, View};
+use crate::rule::{Entries, Finds, Names, Naming, Puts, Rule, Shares, Takes, View};
 use crossbeam_queue::{Pass, RuledArrayQueue};
 use lks_base::OutOfMemory;
 use std::alloc::Global;
@@ -47,7 +48,8 @@ impl<T: Entries> Queue<T> {
     /// A queue with this room, and the pass that has the whole right to it.
     pub fn new<N: Naming>(alloc: Global, room: usize) -> Result<(Queue<T>, Hand<T>), OutOfMemory>
         requires { 0 < room }
-        ensures { IfOk result (λ q. (q.0.room ≡ room) × (q.1.table ≡ q.0.table) × (q.1.knows ≡ known 128 N.pool [] [])) }
+        ensures { IfOk result
+            (λ q. (q.0.room ≡ room) × (q.1.table ≡ q.0.table) × (q.1.knows ≡ known 128 N.pool [] [])) }
     {
         let (line, mut first) = RuledArrayQueue::<T, View, Rule>::ruled(alloc, room)?;
         let pass = line.another::<Names<N>>(&mut first);
@@ -68,7 +70,8 @@ impl<T: Entries> Queue<T> {
         requires pool { IsOf hand.old.knows.pool (T.entry item) }
         ensures same { hand.new.table ≡ hand.old.table }
         ensures ok { OnOk result (hand.new.knows ≡ putting hand.old.knows (T.entry item)) }
-        ensures back { IfErr result (λ back. (back ≡ item) × (hand.new ≡ hand.old) × Moment self.now.room hand.old.knows) }
+        ensures back { IfErr result
+            (λ back. (back ≡ item) × (hand.new ≡ hand.old) × Moment self.now.room hand.old.knows) }
     {
         self.line.push_as::<Puts, R>(rt, &mut hand.pass, item)
     }
@@ -78,7 +81,9 @@ impl<T: Entries> Queue<T> {
         requires of { hand.old.table ≡ self.now.table }
         requires part { 0 < hand.old.knows.parts }
         ensures same { hand.new.table ≡ hand.old.table }
-        ensures some { IfSome result (λ item. (hand.new.knows ≡ getting hand.old.knows (T.entry item)) × IsOf hand.old.knows.pool (T.entry item)) }
+        ensures some { IfSome result
+            (λ item. (hand.new.knows ≡ getting hand.old.knows (T.entry item))
+            × IsOf hand.old.knows.pool (T.entry item)) }
         ensures none { IfNone result ((hand.new ≡ hand.old) × Moment 0 hand.old.knows) }
     {
         self.line.pop_as::<Takes, R>(rt, &mut hand.pass)
@@ -89,11 +94,12 @@ impl<T: Entries> Queue<T> {
         requires of { hand.old.table ≡ self.now.table }
         requires parts { 1 < hand.old.knows.parts }
         ensures same { (hand.new.table ≡ hand.old.table) × (result.table ≡ hand.old.table) }
-        ensures left { hand.new.knows ≡ known (hand.old.knows.parts - 1) hand.old.knows.pool hand.old.knows.put hand.old.knows.got }
+        ensures left { hand.new.knows
+            ≡ known (hand.old.knows.parts - 1) hand.old.knows.pool hand.old.knows.put hand.old.knows.got }
         ensures right { result.knows ≡ known 1 hand.old.knows.pool [] [] }
     {
         Hand {
-            pass: self.line.another::<Parts>(&mut hand.pass),
+            pass: self.line.another::<Shares>(&mut hand.pass),
         }
     }
 
@@ -105,7 +111,7 @@ impl<T: Entries> Queue<T> {
         ensures both { hand.new.knows ≡ joined hand.old.knows other.knows }
     {
         let Hand { pass } = other;
-        self.line.absorb::<Parts>(&mut hand.pass, pass);
+        self.line.absorb::<Shares>(&mut hand.pass, pass);
     }
 
     /// How many items the queue held at one moment of the call.

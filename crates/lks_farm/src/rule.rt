@@ -1,26 +1,26 @@
 //! The rule that both queues have. These types are for the proofs alone.
 
 ghost use Rattle.std.specs.Prelude.{List, ℕ};
-ghost use Rattle.lks_farm.specs.declared.entries.Entry.{Entry};
+ghost use Rattle.lks_farm.specs.declared.entries.NumberedJob.{NumberedJob};
 
-use crate::entries::Entry;
+use crate::entries::NumberedJob;
 use crate::jobs::{FarmDone, FarmJob};
 use crossbeam_queue::protocol::{Join, Lesson, Outcome, Protocol, Split};
 use std::collections::LinkedList;
 use std::marker::{Brand, PhantomData};
 
-/// What a pass knows: its parts of the right to know the whole, the pool, and the entries that it put and got. No value of
-/// it is made.
+/// What a pass knows: its parts of the right to know the whole, the pool, and the entries that it put and got. No value
+/// of it is made.
 pub struct View {
     pub parts: u64,
     pub pool: LinkedList<u64>,
-    pub put: LinkedList<Entry>,
-    pub got: LinkedList<Entry>,
+    pub put: LinkedList<NumberedJob>,
+    pub got: LinkedList<NumberedJob>,
 }
 
 /// What goes through a queue.
 pub trait Entries: Drop {
-    ghost entry: { Self → Entry };
+    ghost entry: { Self → NumberedJob };
 }
 
 impl Entries for FarmJob {
@@ -115,9 +115,9 @@ impl<N: Naming> Split<View> for Names<N> {
 }
 
 /// Gives one part away, and joins passes.
-pub struct Parts;
+pub struct Shares;
 
-impl Split<View> for Parts {
+impl Split<View> for Shares {
     ghost use Rattle.std.specs.Prelude.{[], ◌-◌};
     ghost use Rattle.lks_farm.specs.Sharing.{known};
 
@@ -126,7 +126,7 @@ impl Split<View> for Parts {
     ghost right = { λ v. known 1 v.pool [] [] };
 }
 
-impl Join<View> for Parts {
+impl Join<View> for Shares {
     ghost use Rattle.std.specs.Prelude.{[]};
     ghost use Rattle.lks_farm.specs.Sharing.{joined, known};
 

@@ -8,8 +8,8 @@ use crate::jobs::{FarmDone, FarmJob, JobNumber};
 use crate::queues::Hand;
 use std::marker::Model;
 
-/// A seat of a farm: the right of one thread to offer, take, hand in and collect. Contracts see with it all that was done
-/// by way of it. The program keeps its number, the count of its offers and the number of the job that it holds.
+/// A seat of a farm: the right of one thread to offer, take, hand in and collect. Contracts see with it all that was
+/// done by way of it. The program keeps its number, the count of its offers and the number of the job that it holds.
 #[derive(Drop)]
 pub struct Seat {
     pub(crate) number: u16,
@@ -35,7 +35,9 @@ impl Seat {
         requires part { 0 < jobs.knows.parts }
         requires jobs { jobs.knows ≡ known jobs.knows.parts jobs.knows.pool [] [] }
         requires results { results.knows ≡ jobs.knows }
-        ensures { result ≡ fresh (record { jobs = jobs.table; results = results.table; pool = jobs.knows.pool }) number jobs.knows.parts }
+        ensures { result
+            ≡ fresh (record { jobs = jobs.table; results = results.table; pool = jobs.knows.pool }) number
+            jobs.knows.parts }
     {
         Seat {
             number,

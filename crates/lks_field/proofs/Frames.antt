@@ -1,5 +1,6 @@
 -- One frame more.
-use Rattle.std.proofs.Common.{◌≡◌, ◌≤◌, ◌^◌, ◌<◌, ℕ, List, [], ◌∷◌, ◌++◌, length, refl, sym, ◌∙◌, ap, arith, append_assoc, length-append}
+use Rattle.std.proofs.Common.{◌≡◌, ◌≤◌, ◌^◌, ◌<◌, ℕ, List, [], ◌∷◌, ◌++◌, length, refl, sym, ◌∙◌, ap, arith}
+use Rattle.std.proofs.Common.{append_assoc, length-append}
 use Rattle.std.proofs.lemmas.List.{append-nil}
 use Rattle.lks_field.specs.Frames.{frame, frames, AreBodies}
 
@@ -10,9 +11,12 @@ frames_nil = refl
 pub frames_push : (bodies : List (List ℕ)) (body : List ℕ) → frames (bodies ++ body ∷ []) ≡ frames bodies ++ frame body
 unfolding frames
 frames_push [] body = append-nil (frame body)
-frames_push (b ∷ bodies) body = ap (λ (l : List ℕ). frame b ++ l) (frames_push bodies body) ∙ sym (append_assoc (frame b) (frames bodies) (frame body))
+frames_push (b ∷ bodies) body =
+    ap (λ (l : List ℕ). frame b ++ l) (frames_push bodies body)
+    ∙ sym (append_assoc (frame b) (frames bodies) (frame body))
 
-pub AreBodies_push : (bodies : List (List ℕ)) (body : List ℕ) → AreBodies bodies → length body < 2 ^ 32 → AreBodies (bodies ++ body ∷ [])
+pub AreBodies_push : (bodies : List (List ℕ)) (body : List ℕ) → AreBodies bodies → length body < 2 ^ 32
+    → AreBodies (bodies ++ body ∷ [])
 AreBodies_push [] body are fits = (fits, tt)
 AreBodies_push (b ∷ bodies) body are fits = (are.0, AreBodies_push bodies body are.1 fits)
 

@@ -1,5 +1,6 @@
 -- Big-endian numbers as fields.
-use Rattle.std.proofs.Common.{◌≡◌, ℕ, zero, suc, ◌^◌, ◌<◌, ◌≤◌, false, eqb, ltb, List, [], ◌∷◌, ◌++◌, length, take, drop, Ok, refl, sym, subst, arith}
+use Rattle.std.proofs.Common.{◌≡◌, ℕ, zero, suc, ◌^◌, ◌<◌, ◌≤◌, false, eqb, ltb, List, [], ◌∷◌, ◌++◌, length, take}
+use Rattle.std.proofs.Common.{drop, Ok, refl, sym, subst, arith}
 use Rattle.std.specs.Int.{Width, w16, w32, byte_len, from_be_bytes, to_be_bytes}
 use Rattle.std.proofs.lemmas.Bool.{ltb-false, le-ltb}
 use Rattle.std.proofs.lemmas.List.{take_at, drop_at, take-append-drop, length-append, length-take}
@@ -13,7 +14,8 @@ use Rattle.lks_field.proofs.Takes.{IsBytes, IsBytes-take, IsBytes-drop, Takes, I
 
 pub record IsWide (w : Width) (limit : ℕ) : Type 0 where
   pub len : (n : ℕ) → length (to_be_bytes w n) ≡ byte_len w
-  pub back : (bytes : List ℕ) → length bytes ≡ byte_len w → IsBytes bytes → to_be_bytes w (from_be_bytes w bytes) ≡ bytes
+  pub back : (bytes : List ℕ) → length bytes ≡ byte_len w → IsBytes bytes
+      → to_be_bytes w (from_be_bytes w bytes) ≡ bytes
   pub again : (n : ℕ) → n < limit → from_be_bytes w (to_be_bytes w n) ≡ n
   pub below : (bytes : List ℕ) → IsBytes bytes → from_be_bytes w bytes < limit
 
@@ -36,20 +38,35 @@ wide32 = record {
 number_field : (w : Width) (limit : ℕ) → IsWide w limit → IsField (number_at w) (to_be_bytes w) (λ n. n < limit)
 number_field w limit wide = record { takes = takes; again = again }
   where
-    takes : (bytes : List ℕ) (x : ℕ × List ℕ) → IsBytes bytes → number_at w bytes ≡ Ok x → Takes bytes (to_be_bytes w x.0) x.1 × (x.0 < limit)
+    takes : (bytes : List ℕ) (x : ℕ × List ℕ) → IsBytes bytes → number_at w bytes ≡ Ok x
+        → Takes bytes (to_be_bytes w x.0) x.1 × (x.0 < limit)
     takes bytes x fits e =
         let front = take (byte_len w) bytes in
-        let g = guard_ok (ltb (length bytes) (byte_len w)) Short (from_be_bytes w (take (byte_len w) bytes), drop (byte_len w) bytes) x e in
+        let g = guard_ok (ltb (length bytes) (byte_len w)) Short
+        (from_be_bytes w (take (byte_len w) bytes), drop (byte_len w) bytes) x e in
         let long : byte_len w ≤ length bytes = ltb-false _ _ g.0 in
-        let back : to_be_bytes w (from_be_bytes w (take (byte_len w) bytes)) ≡ take (byte_len w) bytes = wide.back (take (byte_len w) bytes) (omega (arith, length-take (byte_len w) bytes)) (IsBytes-take (byte_len w) bytes fits) in
-        let made : Takes bytes (to_be_bytes w (from_be_bytes w (take (byte_len w) bytes))) (drop (byte_len w) bytes) = record { parts = rw back (sym (take-append-drop (byte_len w) bytes)); rest_fits = IsBytes-drop (byte_len w) bytes fits } in
-        subst (λ (y : ℕ × List ℕ). Takes bytes (to_be_bytes w y.0) y.1 × (y.0 < limit)) g.1 (made, wide.below (take (byte_len w) bytes) (IsBytes-take (byte_len w) bytes fits))
+        let back : to_be_bytes w (from_be_bytes w (take (byte_len w) bytes))
+        ≡ take (byte_len w) bytes = wide.back (take (byte_len w) bytes)
+        (omega (arith, length-take (byte_len w) bytes)) (IsBytes-take (byte_len w) bytes fits) in
+        let made : Takes bytes (to_be_bytes w (from_be_bytes w (take (byte_len w) bytes)))
+        (drop (byte_len w) bytes) = record {
+          parts = rw back (sym (take-append-drop (byte_len w) bytes));
+          rest_fits = IsBytes-drop (byte_len w) bytes fits;
+        } in
+        subst (λ (y : ℕ × List ℕ). Takes bytes (to_be_bytes w y.0) y.1 × (y.0 < limit)) g.1
+        (made, wide.below (take (byte_len w) bytes) (IsBytes-take (byte_len w) bytes fits))
 
     again : (n : ℕ) (rest : List ℕ) → n < limit → number_at w (to_be_bytes w n ++ rest) ≡ Ok (n, rest)
     again n rest lt =
         let len = wide.len n in
-        let long : ltb (length (to_be_bytes w n ++ rest)) (byte_len w) ≡ false = le-ltb _ _ (omega (arith, length-append (to_be_bytes w n) rest)) in
-        rw (long, take_at (to_be_bytes w n) rest (byte_len w) len, drop_at (to_be_bytes w n) rest (byte_len w) len, wide.again n lt) refl
+        let long : ltb (length (to_be_bytes w n ++ rest)) (byte_len w)
+        ≡ false = le-ltb _ _ (omega (arith, length-append (to_be_bytes w n) rest)) in
+        rw (
+          long,
+          take_at (to_be_bytes w n) rest (byte_len w) len,
+          drop_at (to_be_bytes w n) rest (byte_len w) len,
+          wide.again n lt,
+        ) refl
 
 pub be16_field : IsField (number_at w16) (to_be_bytes w16) (λ n. n < 2 ^ 16)
 be16_field = number_field w16 (2 ^ 16) wide16
@@ -58,9 +75,12 @@ pub be32_field : IsField (number_at w32) (to_be_bytes w32) (λ n. n < 2 ^ 32)
 be32_field = number_field w32 (2 ^ 32) wide32
 
 -- a limit below that of the field itself
-upto_field : (most limit : ℕ) {reader : Reader ℕ FieldFault} {spell : ℕ → List ℕ} → most < limit → IsField reader spell (λ n. n < limit) → IsField (upto_at most reader) spell (λ n. n ≤ most)
+upto_field : (most limit : ℕ) {reader : Reader ℕ FieldFault} {spell : ℕ → List ℕ} → most < limit
+    → IsField reader spell (λ n. n < limit) → IsField (upto_at most reader) spell (λ n. n ≤ most)
 unfolding upto_at
-upto_field most limit lt field = field_as (λ n h. ltb-false most n h.1) (λ n le. (omega (arith, lt, le), le-ltb most n le)) (guarded_field Value (λ n. ltb most n) field)
+upto_field most limit lt field =
+    field_as (λ n h. ltb-false most n h.1) (λ n le. (omega (arith, lt, le), le-ltb most n le))
+    (guarded_field Value (λ n. ltb most n) field)
 
 pub u8_upto : (most : ℕ) → most < 256 → IsField (upto_at most byte_at) (λ b. b ∷ []) (λ n. n ≤ most)
 u8_upto most lt = upto_field most 256 lt byte_field

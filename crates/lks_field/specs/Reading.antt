@@ -1,5 +1,6 @@
 -- Reading fields from the left: a field's value and the bytes after it, or the fault.
-use Rattle.std.specs.Prelude.{◌≡◌, ◌==◌, ℕ, zero, suc, Bool, true, false, List, [], ◌∷◌, length, take, drop, Result, Ok, Err, nat_lt, if◌then◌else◌}
+use Rattle.std.specs.Prelude.{◌≡◌, ◌==◌, ℕ, zero, suc, Bool, true, false, List, [], ◌∷◌, length, take, drop, Result}
+use Rattle.std.specs.Prelude.{Ok, Err, nat_lt, if◌then◌else◌}
 use Rattle.std.specs.Int.{Width, byte_len, from_be_bytes}
 use Rattle.lks_field.specs.declared.fault.FieldFault.{FieldFault}
 use Rattle.lks_field.specs.declared.fault.FieldFault.TheVariants.{Short, Value, Long, Memory}
@@ -32,7 +33,9 @@ unfoldable pub hash_at : List ℕ → Result (List ℕ × List ℕ) FieldFault
 hash_at bytes = bytes_at 32 bytes
 
 abbrev pub number_at : Width → List ℕ → Result (ℕ × List ℕ) FieldFault
-number_at w bytes = if nat_lt (length bytes) (byte_len w) then Err Short else Ok (from_be_bytes w (take (byte_len w) bytes), drop (byte_len w) bytes)
+number_at w bytes =
+    if nat_lt (length bytes) (byte_len w) then Err Short
+    else Ok (from_be_bytes w (take (byte_len w) bytes), drop (byte_len w) bytes)
 
 -- a number that is at most this
 unfoldable pub upto_at : ℕ → (List ℕ → Result (ℕ × List ℕ) FieldFault) → List ℕ → Result (ℕ × List ℕ) FieldFault
@@ -55,7 +58,8 @@ sized_at length_at bytes = do
   bytes_at n.0 n.1
 
 -- values behind their count
-unfoldable pub list_at : {X E : Type 0} → (List ℕ → Result (ℕ × List ℕ) E) → (List ℕ → Result (X × List ℕ) E) → List ℕ → Result (List X × List ℕ) E
+unfoldable pub list_at : {X E : Type 0} → (List ℕ → Result (ℕ × List ℕ) E) → (List ℕ → Result (X × List ℕ) E)
+    → List ℕ → Result (List X × List ℕ) E
 list_at count_at reader bytes = do
   n ← count_at bytes
   many_at reader n.0 n.1

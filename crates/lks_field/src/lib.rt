@@ -1,4 +1,6 @@
 //! Fields of bytes: big-endian numbers and runs of bytes, written one after another and read from left to right.
+//!
+//! Its trials: `lks_format_trials`, `field`.
 #![tactic(auto)]
 
 mod fault;

@@ -2,7 +2,8 @@
 //! missing. After a fault some of the bytes may be taken.
 
 ghost use Rattle.std.specs.Int.{w16};
-ghost use Rattle.lks_field.specs.Reading.{byte_at, hash_at, number_at, upto_at, many_at, sized_at, list_at, is_memory, ReadsBut};
+ghost use Rattle.lks_field.specs.Reading.{byte_at, hash_at, number_at, upto_at, many_at, sized_at, list_at, is_memory};
+ghost use Rattle.lks_field.specs.Reading.{ReadsBut};
 
 use crate::fault::FieldFault;
 use crate::reading::Fields;
@@ -48,7 +49,8 @@ impl<'a> Fields<'a> {
     /// At most `most` hashes behind their count, a number of two bytes.
     #[tactic(auto, unfolding(crate::specs::Reading::list_at))]
     pub fn get_hashes(&mut self, alloc: Global, most: u16) -> Result<Vec<[u8; 32]>, FieldFault>
-        ensures { ReadsBut is_memory (λ v. v.items) result self.new (list_at (upto_at most (number_at w16)) hash_at self.old) }
+        ensures { ReadsBut is_memory (λ v. v.items) result self.new
+            (list_at (upto_at most (number_at w16)) hash_at self.old) }
     {
         let count = self.get_upto(most)?;
         many_hashes(alloc, count, self)
@@ -57,7 +59,8 @@ impl<'a> Fields<'a> {
     /// At most `most` numbers of two bytes each, behind their count, a byte.
     #[tactic(auto, unfolding(crate::specs::Reading::list_at))]
     pub fn get_numbers(&mut self, alloc: Global, most: u8) -> Result<Vec<u16>, FieldFault>
-        ensures { ReadsBut is_memory (λ v. v.items) result self.new (list_at (upto_at most byte_at) (number_at w16) self.old) }
+        ensures { ReadsBut is_memory (λ v. v.items) result self.new
+            (list_at (upto_at most byte_at) (number_at w16) self.old) }
     {
         let count = self.get_u8_upto(most)?;
         many_numbers(alloc, count, self)

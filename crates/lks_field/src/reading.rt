@@ -2,7 +2,8 @@
 
 ghost use Rattle.std.specs.Prelude.{◌≡◌, ℕ, List, drop, OnErr, IsErrOf};
 ghost use Rattle.std.specs.Int.{w16, w32};
-ghost use Rattle.lks_field.specs.Reading.{Reads, ReadsBy, byte_at, given_at, kind_at, bytes_at, hash_at, number_at, upto_at, end_of};
+ghost use Rattle.lks_field.specs.Reading.{Reads, ReadsBy, byte_at, given_at, kind_at, bytes_at, hash_at, number_at};
+ghost use Rattle.lks_field.specs.Reading.{upto_at, end_of};
 
 use crate::fault::FieldFault;
 use std::marker::Model;

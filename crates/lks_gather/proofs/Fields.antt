@@ -5,7 +5,8 @@ use Rattle.lks_field.specs.declared.fault.FieldFault.TheVariants.{Short}
 use Rattle.lks_field.specs.Reading.{number_at, bytes_at, sized_at}
 use Rattle.lks_field.proofs.Takes.{bind_ok, guard_ok}
 
-pub sized_shorter : (bytes : List ℕ) (found : List ℕ × List ℕ) → sized_at (number_at w32) bytes ≡ Ok found → length found.1 ≤ length bytes
+pub sized_shorter : (bytes : List ℕ) (found : List ℕ × List ℕ) → sized_at (number_at w32) bytes ≡ Ok found
+    → length found.1 ≤ length bytes
 unfolding sized_at
 sized_shorter bytes found e =
     let a = bind_ok (number_at w32 bytes) (λ n. bytes_at n.0 n.1) found e in

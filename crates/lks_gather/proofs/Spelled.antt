@@ -1,5 +1,7 @@
 -- The records that are read are those of the frames.
-use Rattle.std.proofs.Common.{◌≡◌, ◌==◌, ◌&&◌, ◌+◌, ◌<◌, ◌^◌, ℕ, zero, suc, Bool, true, false, cond, List, [], ◌∷◌, ◌++◌, length, map, Option, Some, None, Result, Ok, Err, refl, sym, ap, subst, ◌∙◌, arith, append_assoc, length-append}
+use Rattle.std.proofs.Common.{◌≡◌, ◌==◌, ◌&&◌, ◌+◌, ◌<◌, ◌^◌, ℕ, zero, suc, Bool, true, false, cond, List, [], ◌∷◌}
+use Rattle.std.proofs.Common.{◌++◌, length, map, Option, Some, None, Result, Ok, Err, refl, sym, ap, subst, ◌∙◌}
+use Rattle.std.proofs.Common.{arith, append_assoc, length-append}
 use Rattle.std.specs.Int.{w32, to_be_bytes}
 use Rattle.std.specs.List.{All, flat_map}
 use Rattle.std.specs.Option.{option_map}
@@ -17,12 +19,14 @@ use Rattle.lks_record.specs.Spelling.{batch_spelling, IsBatch}
 use Rattle.lks_record.proofs.Laws.{read_spells, spelling_read}
 use Rattle.lks_words.specs.Numbers.{◌>>=◌}
 use Rattle.lks_words.proofs.Steps.{map_some, same_some, some}
-use Rattle.lks_gather.specs.Framed.{batch_in, frame_in, batch_at, front_in, records_from, records_in, journal_in, Spells}
+use Rattle.lks_gather.specs.Framed.{batch_in, frame_in, batch_at, front_in, records_from, records_in, journal_in}
+use Rattle.lks_gather.specs.Framed.{Spells}
 use Rattle.lks_field.proofs.Frames.{frames_nil}
 use Rattle.lks_field.specs.declared.fault.FieldFault.{FieldFault}
 use Rattle.lks_gather.proofs.Records.{Found, Frame, batch_framed, frame_sized, opened, none_first, at_front}
 
-frame_field : IsField (sized_at (number_at w32)) (λ body. to_be_bytes w32 (length body) ++ body) (λ body. length body < 2 ^ 32)
+frame_field : IsField (sized_at (number_at w32)) (λ body. to_be_bytes w32 (length body) ++ body)
+    (λ body. length body < 2 ^ 32)
 frame_field = sized_field be32_field
 
 -- ---- what is read is spelled so
@@ -34,7 +38,8 @@ record IsFirst (bytes : List ℕ) (found : Found) : Type 0 where
   bytes_is : bytes ≡ frame (batch_spelling found.0) ++ found.1
   rest_fits : IsBytes found.1
 
-from_decoded : (read : Result (List Record) RecFault) (batch : List Record) → elim read as (λ _. Option (List Record)) [ Ok b ↦ Some b | Err fault ↦ None ] ≡ Some batch → read ≡ Ok batch
+from_decoded : (read : Result (List Record) RecFault) (batch : List Record)
+    → elim read as (λ _. Option (List Record)) [ Ok b ↦ Some b | Err fault ↦ None ] ≡ Some batch → read ≡ Ok batch
 from_decoded (Ok b) batch e = cc
 from_decoded (Err fault) batch e = absurd cc
 
@@ -48,8 +53,10 @@ first_of (gate ∷ bytes) found fits e =
     let open_gate = opened gate bytes found e in
     let gate_is : gate ≡ 165 = eqb-true gate 165 open_gate.0 in
     let framed = batch_framed bytes found open_gate.1 in
-    let takes = frame_field.takes bytes (framed.body, found.1) (λ i. fits (suc i)) (frame_sized bytes (framed.body, found.1) framed.frame) in
-    let body_fits : IsBytes framed.body = body_bytes (to_be_bytes w32 (length framed.body)) framed.body found.1 (λ i. subst (λ (t : List ℕ). IsBytes t) takes.0.parts (λ k. fits (suc k)) i) in
+    let takes = frame_field.takes bytes (framed.body, found.1) (λ i. fits (suc i))
+    (frame_sized bytes (framed.body, found.1) framed.frame) in
+    let body_fits : IsBytes framed.body = body_bytes (to_be_bytes w32 (length framed.body)) framed.body found.1
+    (λ i. subst (λ (t : List ℕ). IsBytes t) takes.0.parts (λ k. fits (suc k)) i) in
     let spelled = read_spells framed.body found.0 body_fits (decoded framed.body found.0 framed.batch) in
     record {
       batch = spelled.0;
@@ -70,7 +77,8 @@ first_of (gate ∷ bytes) found fits e =
     body_bytes : (size body rest : List ℕ) → IsBytes ((size ++ body) ++ rest) → IsBytes body
     body_bytes size body rest h = after size body (before (size ++ body) rest h)
 
-shutting : (opens shuts : Bool) (o : Option Found) → cond opens (option_map (λ (f : Found). some f) o) (cond shuts (some None) None) ≡ Some None → shuts ≡ true
+shutting : (opens shuts : Bool) (o : Option Found)
+    → cond opens (option_map (λ (f : Found). some f) o) (cond shuts (some None) None) ≡ Some None → shuts ≡ true
 shutting true shuts o e = let a = map_some (λ (f : Found). some f) o None e in absurd (cc a.2)
 shutting false true o e = refl
 shutting false false o e = absurd cc
@@ -89,9 +97,17 @@ shut_is (gate ∷ bytes) e =
     let rest_is : bytes ≡ [] = none_left bytes (eqb-true (length bytes) 0 both.1) in λ i. gate_is i ∷ rest_is i
 
 spelled_none : (bytes : List ℕ) (list : List Record) → bytes ≡ 0 ∷ [] → list ≡ [] → Spells bytes list
-spelled_none bytes list is none = record { batches = []; are = All-nil IsBatch; sized = tt; file_is = is ∙ sym (ap (λ (t : List ℕ). t ++ 0 ∷ []) frames_nil); list_is = none }
+spelled_none bytes list is none =
+    record {
+      batches = [];
+      are = All-nil IsBatch;
+      sized = tt;
+      file_is = is ∙ sym (ap (λ (t : List ℕ). t ++ 0 ∷ []) frames_nil);
+      list_is = none;
+    }
 
-spelled_more : (bytes : List ℕ) (found : Found) (rest list : List Record) → IsFirst bytes found → Spells found.1 rest → list ≡ found.0 ++ rest → Spells bytes list
+spelled_more : (bytes : List ℕ) (found : Found) (rest list : List Record) → IsFirst bytes found
+    → Spells found.1 rest → list ≡ found.0 ++ rest → Spells bytes list
 unfolding frames
 spelled_more bytes found rest list first more is = record {
   batches = found.0 ∷ more.batches;
@@ -103,44 +119,56 @@ spelled_more bytes found rest list first more is = record {
   list_is = is ∙ ap (λ (l : List Record). found.0 ++ l) more.list_is;
 }
 
-module _ (more : List ℕ → Option (List Record)) (again : (bytes : List ℕ) (list : List Record) → IsBytes bytes → more bytes ≡ Some list → Spells bytes list) where
-  behind : (bytes : List ℕ) (list : List Record) (o : Option (Option Found)) → IsBytes bytes → front_in bytes ≡ o → (o >>= λ front. records_from more front) ≡ Some list → Spells bytes list
-  behind bytes list None fits front e = absurd cc
-  behind bytes list (Some None) fits front e = spelled_none bytes list (shut_is bytes front) (sym (same_some [] list e))
-  behind bytes list (Some (Some found)) fits front e =
-      let first = first_of bytes found fits front in
-      let a = map_some (λ (later : List Record). found.0 ++ later) (more found.1) list e in
-      spelled_more bytes found a.0 list first (again found.1 a.0 first.rest_fits a.1) (sym a.2)
+module _ (more : List ℕ → Option (List Record))
+    (again : (bytes : List ℕ) (list : List Record) → IsBytes bytes → more bytes ≡ Some list → Spells bytes list)
+  where
+    behind : (bytes : List ℕ) (list : List Record) (o : Option (Option Found)) → IsBytes bytes → front_in bytes ≡ o
+        → (o >>= λ front. records_from more front) ≡ Some list → Spells bytes list
+    behind bytes list None fits front e = absurd cc
+    behind bytes list (Some None) fits front e =
+        spelled_none bytes list (shut_is bytes front) (sym (same_some [] list e))
+    behind bytes list (Some (Some found)) fits front e =
+        let first = first_of bytes found fits front in
+        let a = map_some (λ (later : List Record). found.0 ++ later) (more found.1) list e in
+        spelled_more bytes found a.0 list first (again found.1 a.0 first.rest_fits a.1) (sym a.2)
 
-spelled : (n : ℕ) (bytes : List ℕ) (list : List Record) → IsBytes bytes → records_in n bytes ≡ Some list → Spells bytes list
+spelled : (n : ℕ) (bytes : List ℕ) (list : List Record) → IsBytes bytes → records_in n bytes ≡ Some list
+    → Spells bytes list
 unfolding records_in
 spelled zero bytes list fits e = absurd cc
 spelled (suc n) bytes list fits e = behind (records_in n) (spelled n) bytes list (front_in bytes) fits refl e
 
-pub read_is_spelled : (file : List ℕ) (list : List Record) → IsBytes file → journal_in file ≡ Some list → Spells file list
+pub read_is_spelled : (file : List ℕ) (list : List Record) → IsBytes file → journal_in file ≡ Some list
+    → Spells file list
 unfolding journal_in
 read_is_spelled file list fits e = spelled (length file) file list fits e
 
 -- ---- what is spelled so is read
 
-frame_again : (body rest : List ℕ) → length body < 2 ^ 32 → frame_in ((to_be_bytes w32 (length body) ++ body) ++ rest) ≡ Some (body, rest)
+frame_again : (body rest : List ℕ) → length body < 2 ^ 32
+    → frame_in ((to_be_bytes w32 (length body) ++ body) ++ rest) ≡ Some (body, rest)
 unfolding frame_in
 frame_again body rest fits =
-    ap (λ (r : Result Frame FieldFault). elim r as (λ _. Option Frame) [ Ok f ↦ Some f | Err fault ↦ None ]) (frame_field.again body rest fits)
+    ap (λ (r : Result Frame FieldFault). elim r as (λ _. Option Frame) [ Ok f ↦ Some f | Err fault ↦ None ])
+    (frame_field.again body rest fits)
 
 body_again : (batch : List Record) → IsBatch batch → batch_in (batch_spelling batch) ≡ Some batch
 unfolding batch_in
 body_again batch is =
-    ap (λ (r : Result (List Record) RecFault). elim r as (λ _. Option (List Record)) [ Ok b ↦ Some b | Err fault ↦ None ]) (spelling_read batch is)
+    ap
+    (λ (r : Result (List Record) RecFault).
+    elim r as (λ _. Option (List Record)) [ Ok b ↦ Some b | Err fault ↦ None ]) (spelling_read batch is)
 
 batch_again : (batch : List Record) (rest : List ℕ) → IsBatch batch → length (batch_spelling batch) < 2 ^ 32
     → batch_at ((to_be_bytes w32 (length (batch_spelling batch)) ++ batch_spelling batch) ++ rest) ≡ Some (batch, rest)
 unfolding batch_at
 batch_again batch rest is fits =
-    ap (λ (o : Option Frame). o >>= λ found. batch_in found.0 >>= λ b. some (b, found.1)) (frame_again (batch_spelling batch) rest fits)
+    ap (λ (o : Option Frame). o >>= λ found. batch_in found.0 >>= λ b. some (b, found.1))
+    (frame_again (batch_spelling batch) rest fits)
     ∙ ap (λ (o : Option (List Record)). o >>= λ b. some (b, rest)) (body_again batch is)
 
-front_again : (batch : List Record) (rest : List ℕ) → IsBatch batch → length (batch_spelling batch) < 2 ^ 32 → front_in (frame (batch_spelling batch) ++ rest) ≡ Some (Some (batch, rest))
+front_again : (batch : List Record) (rest : List ℕ) → IsBatch batch → length (batch_spelling batch) < 2 ^ 32
+    → front_in (frame (batch_spelling batch) ++ rest) ≡ Some (Some (batch, rest))
 unfolding front_in
 front_again batch rest is fits = ap (option_map (λ (f : Found). some f)) (batch_again batch rest is fits)
 
@@ -148,7 +176,8 @@ front_shut : front_in (0 ∷ []) ≡ Some None
 unfolding front_in
 front_shut = refl
 
-again : (n : ℕ) (batches : List (List Record)) → All IsBatch batches → AreBodies (map batch_spelling batches) → length (frames (map batch_spelling batches)) < n
+again : (n : ℕ) (batches : List (List Record)) → All IsBatch batches → AreBodies (map batch_spelling batches)
+    → length (frames (map batch_spelling batches)) < n
     → records_in n (frames (map batch_spelling batches) ++ 0 ∷ []) ≡ Some (flat_map (λ batch. batch) batches)
 unfolding frames
 again zero batches are sized few = absurd (omega (arith, few))
@@ -159,8 +188,10 @@ again (suc n) (batch ∷ batches) are sized few =
     let rest = frames bodies ++ 0 ∷ [] in
     let shorter : length (frames bodies) < n = omega (arith, few, length-append one (frames bodies)) in
     ap (records_in (suc n)) (append_assoc one (frames bodies) (0 ∷ []))
-    ∙ at_front n (one ++ rest) (Some (Some (batch, rest))) (front_again batch rest (All-head IsBatch batch batches are) sized.0)
-    ∙ ap (option_map (λ (later : List Record). batch ++ later)) (again n batches (All-tail IsBatch batch batches are) sized.1 shorter)
+    ∙ at_front n (one ++ rest) (Some (Some (batch, rest)))
+    (front_again batch rest (All-head IsBatch batch batches are) sized.0)
+    ∙ ap (option_map (λ (later : List Record). batch ++ later))
+    (again n batches (All-tail IsBatch batch batches are) sized.1 shorter)
 
 pub spelled_is_read : (file : List ℕ) (list : List Record) → Spells file list → journal_in file ≡ Some list
 unfolding journal_in

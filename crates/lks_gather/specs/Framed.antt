@@ -1,5 +1,7 @@
--- Which records the bytes of a journal spell: frames of batches, one after another, and a closed gate `00`, which is the last byte.
-use Rattle.std.specs.Prelude.{◌≡◌, ◌==◌, ◌&&◌, ℕ, zero, suc, if◌then◌else◌, Option, Some, None, Ok, Err, List, [], ◌∷◌, ◌++◌, length, map, All}
+-- Which records the bytes of a journal spell: frames of batches, one after another, and a closed gate `00`, which is
+-- the last byte.
+use Rattle.std.specs.Prelude.{◌≡◌, ◌==◌, ◌&&◌, ℕ, zero, suc, if◌then◌else◌, Option, Some, None, Ok, Err, List, []}
+use Rattle.std.specs.Prelude.{◌∷◌, ◌++◌, length, map, All}
 use Rattle.std.specs.Int.{w32}
 use Rattle.std.specs.List.{flat_map}
 use Rattle.std.specs.Option.{option_map}
@@ -47,8 +49,8 @@ records_in (suc n) bytes = front_in bytes >>= λ front. records_from (records_in
 unfoldable pub journal_in : List ℕ → Option (List Record)
 journal_in file = records_in (length file) file
 
--- The same in the words of frames: the bytes are the frames of batches and one closed gate, and the records are those of the
--- batches, one after another.
+-- The same in the words of frames: the bytes are the frames of batches and one closed gate, and the records are those
+-- of the batches, one after another.
 pub record Spells (file : List ℕ) (list : List Record) : Type 0 where
   pub batches : List (List Record)
   pub are : All IsBatch batches

@@ -1,5 +1,6 @@
 -- What bytes say as a plan and journals, or the number of their first bad line.
-use Rattle.std.specs.Prelude.{◌≡◌, ◌==◌, ◌&&◌, ◌+◌, ℕ, Bool, true, not, if◌then◌else◌, Option, Some, None, Result, Ok, Err, List, [], ◌∷◌, ◌++◌, length, map, take, codes, slice_get}
+use Rattle.std.specs.Prelude.{◌≡◌, ◌==◌, ◌&&◌, ◌+◌, ℕ, Bool, true, not, if◌then◌else◌, Option, Some, None, Result, Ok}
+use Rattle.std.specs.Prelude.{Err, List, [], ◌∷◌, ◌++◌, length, map, take, codes, slice_get}
 use Rattle.std.specs.List.{list_any}
 use Rattle.std.specs.Str.{bytes_eq}
 use Rattle.hex.specs.Hex.{decode_of}
@@ -59,12 +60,14 @@ may_keep plan books peer = has_honest plan.peers peer && not (list_any (λ b. b.
 
 -- the journals with one more
 unfoldable pub books_with : Plan → List Book → ℕ → List Record → Option (List Book)
-books_with plan books peer list = if may_keep plan books peer then Some (books ++ record { peer = peer; list = list } ∷ []) else None
+books_with plan books peer list =
+    if may_keep plan books peer then Some (books ++ record { peer = peer; list = list } ∷ []) else None
 
 -- journal P HEX
 unfoldable pub journal_line : Plan → List Book → List (List ℕ) → Option (List Book)
 journal_line plan books (key ∷ peer ∷ hex ∷ []) =
-    if bytes_eq key (codes "journal") then (id_in peer >>= λ p. list_in hex >>= λ list. books_with plan books p list) else None
+    if bytes_eq key (codes "journal")
+    then (id_in peer >>= λ p. list_in hex >>= λ list. books_with plan books p list) else None
 journal_line plan books _ = None
 
 -- what a line makes of the journals so far: nothing, where it is empty or a comment
@@ -79,7 +82,11 @@ books_end k books last = if length last == 0 then Ok books else Err (line_number
 unfoldable pub books_in : ℕ → Plan → List Book → List (List ℕ) → Result (List Book) ℕ
 books_in k plan books [] = Err (line_number k)
 books_in k plan books (last ∷ []) = books_end k books last
-books_in k plan books (line ∷ next ∷ lines) = elim (with_book plan books line) [ Some more ↦ books_in (k + 1) plan more (next ∷ lines) | None ↦ Err (line_number k) ]
+books_in k plan books (line ∷ next ∷ lines) =
+    elim (with_book plan books line) [
+      | Some more ↦ books_in (k + 1) plan more (next ∷ lines)
+      | None ↦ Err (line_number k)
+    ]
 
 -- ---- the whole
 
@@ -88,9 +95,11 @@ abbrev pub with_books : Plan → Result (List Book) ℕ → Result Said ℕ
 with_books plan (Ok set) = Ok (record { plan = plan; set = set })
 with_books plan (Err line) = Err line
 
--- the plan of a script, if it is one, and the journals behind it: their first line is the one behind the lines of the script
+-- the plan of a script, if it is one, and the journals behind it: their first line is the one behind the lines of the
+-- script
 abbrev pub with_script : List ℕ → List ℕ → Result Script ℕ → Result Said ℕ
-with_script text journals (Ok script) = with_books script.plan (books_in (length (parts 10 text)) script.plan [] (parts 10 journals))
+with_script text journals (Ok script) =
+    with_books script.plan (books_in (length (parts 10 text)) script.plan [] (parts 10 journals))
 with_script text journals (Err line) = Err line
 
 -- the plan and the journals that the bytes say, or their first bad line; the steps of the script mean nothing

@@ -46,7 +46,8 @@ abbrev pub AreFiled : Plan → List Book → List Filed → List Book → Type 0
 AreFiled plan before [] [] = Unit {0}
 AreFiled plan before [] (b ∷ books) = ⊥
 AreFiled plan before (f ∷ journals) [] = ⊥
-AreFiled plan before (f ∷ journals) (b ∷ books) = (may_keep plan before b.peer ≡ true) × IsFiled f b × AreFiled plan (before ++ b ∷ []) journals books
+AreFiled plan before (f ∷ journals) (b ∷ books) =
+    (may_keep plan before b.peer ≡ true) × IsFiled f b × AreFiled plan (before ++ b ∷ []) journals books
 
 -- a journal and its book for each of these peers, in their order
 abbrev pub AreTheirs : List PeerPlan → List Filed → List Book → Type 0

@@ -10,7 +10,8 @@ abbrev pub AreFiledFor : List Standing → List Filed → Type 0
 AreFiledFor [] [] = Unit {0}
 AreFiledFor [] (f ∷ journals) = ⊥
 AreFiledFor (t ∷ peers) [] = ⊥
-AreFiledFor (t ∷ peers) (f ∷ journals) = (f.peer ≡ t.own.id) × Spells (file_of f.bodies) t.journal × AreFiledFor peers journals
+AreFiledFor (t ∷ peers) (f ∷ journals) =
+    (f.peer ≡ t.own.id) × Spells (file_of f.bodies) t.journal × AreFiledFor peers journals
 
 abbrev pub book_of : Standing → Book
 book_of t = record { peer = t.own.id; list = t.journal }

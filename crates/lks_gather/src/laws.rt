@@ -19,20 +19,23 @@ ghost use Rattle.lks_script.specs.declared.steps.Script.{Script};
 
 /// Bytes are read as a journal of these records exactly where they are the frames of batches of them and a closed gate.
 pub fn every_journal_is_its_frames()
-    ensures found { (file : List ℕ) (list : List Record) → IsBytes file → journal_in file ≡ Some list → Spells file list }
+    ensures found { (file : List ℕ) (list : List Record) → IsBytes file → journal_in file ≡ Some list
+        → Spells file list }
     ensures only { (file : List ℕ) (list : List Record) → Spells file list → journal_in file ≡ Some list }
 {}
 
 /// Bytes are a script's, and behind it those of journals: none, or from the first line on that gives one.
 pub fn every_text_is_parted()
     ensures whole { (bytes : List ℕ) → script_from true bytes ++ journals_from true bytes ≡ bytes }
-    ensures begins { (bytes : List ℕ) → (journals_from true bytes ≡ []) ⊎ (begins_journal (journals_from true bytes) ≡ true) }
+    ensures begins { (bytes : List ℕ)
+        → (journals_from true bytes ≡ []) ⊎ (begins_journal (journals_from true bytes) ≡ true) }
     ensures first { (bytes : List ℕ) → journals_from true (script_from true bytes) ≡ [] }
 {}
 
 /// Each script is a plan without journals.
 pub fn every_script_is_a_set()
-    ensures { (text : List ℕ) (script : Script) → script_of text ≡ Ok script → set_of text ≡ Ok (record { plan = script.plan; set = [] }) }
+    ensures { (text : List ℕ) (script : Script) → script_of text ≡ Ok script
+        → set_of text ≡ Ok (record { plan = script.plan; set = [] }) }
 {}
 
 /// The plan of each set that was read can be said.
@@ -42,14 +45,17 @@ pub fn every_plan_read_is_said()
 
 /// A plan's honest peers may each have a journal, in the plan's order.
 pub fn every_honest_peer_may_be_filed()
-    ensures { (plan : Plan) (journals : List Filed) (books : List Book) → plan_fault plan ≡ None → AreTheirs (honest_peers plan) journals books → AreFiled plan [] journals books }
+    ensures { (plan : Plan) (journals : List Filed) (books : List Book) → plan_fault plan ≡ None
+        → AreTheirs (honest_peers plan) journals books → AreFiled plan [] journals books }
 {}
 
-/// The journals of every history are printed so that they read back as these journals, and hold: a peer that follows the rules is
-/// never doubted for what is read of it.
+/// The journals of every history are printed so that they read back as these journals, and hold: a peer that follows
+/// the rules is never doubted for what is read of it.
 pub fn every_history_is_gathered()
-    ensures read { (plan : Plan) (history : List Event) (journals : List Filed) → IsSaidPlan plan → AreFiles journals → AreFiledFor (world plan history).peers journals
+    ensures read { (plan : Plan) (history : List Event) (journals : List Filed) → IsSaidPlan plan
+        → AreFiles journals → AreFiledFor (world plan history).peers journals
         → set_of (set_text plan journals) ≡ Ok (record { plan = plan; set = books_of (world plan history).peers }) }
-    ensures holds { (plan : Plan) (history : List Event) (g : Gathered) → plan_fault plan ≡ None → IsHistory plan history
+    ensures holds { (plan : Plan) (history : List Event) (g : Gathered) → plan_fault plan ≡ None
+        → IsHistory plan history
         → said_by g ≡ record { plan = plan; set = books_of (world plan history).peers } → SetHolds g.plan g.set.items }
 {}

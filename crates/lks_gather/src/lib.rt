@@ -1,7 +1,8 @@
-//! Journals as text: the lines of a plan, and behind them a line for each journal, its frames in hex (RFC 4648, base 16).
+//! Journals as text: the lines of a plan, and behind them a line for each journal, its frames in hex (RFC 4648, base
+//! 16).
 //!
-//! What peers of a sampled poll wrote down (Maniatis et al., ACM TOCS 23(1), 2005, section 4) can so be kept apart from the
-//! program that wrote it, and examined later by one that trusts the plan alone.
+//! What peers of a sampled poll wrote down (Maniatis et al., ACM TOCS 23(1), 2005, section 4) can so be kept apart from
+//! the program that wrote it, and examined later by one that trusts the plan alone.
 //!
 //! ```rust
 //! use lks_evidence::{Finding, examine};
@@ -16,6 +17,8 @@
 //!     examine(alloc, &gathered.plan, &gathered.set).map_err(|_| ScriptFault::Memory)
 //! }
 //! ```
+//!
+//! Its trials: `lks_format_trials`, `gather`.
 #![tactic(auto)]
 
 mod gates;

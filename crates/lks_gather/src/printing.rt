@@ -107,9 +107,9 @@ pub fn put_journals(alloc: Global, out: &mut Vec<u8>, journals: &[Filed]) -> Res
     out.extend_from_slice(&text)
 }
 
-/// The lines of the plan, and behind them a line `journal P HEX` for each journal, where `HEX` is its frames and a closed gate
-/// `00` in lower-case hex. Where the plan can be said, as each that was read, and the journals are of different honest peers of
-/// it and hold batches, the text says that plan and the records of these batches again.
+/// The lines of the plan, and behind them a line `journal P HEX` for each journal, where `HEX` is its frames and a
+/// closed gate `00` in lower-case hex. Where the plan can be said, as each that was read, and the journals are of
+/// different honest peers of it and hold batches, the text says that plan and the records of these batches again.
 #[tactic(auto, using(crate::proofs::Printed::again_as), unfolding(crate::specs::Texts::set_text))]
 pub fn print_set(alloc: Global, plan: &Plan, journals: &[Filed]) -> Result<Vec<u8>, OutOfMemory>
     requires { All (λ j. AreBodies j.bodies) journals.now }

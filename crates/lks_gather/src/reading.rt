@@ -1,11 +1,14 @@
 //! Plans and journals from bytes.
 
-ghost use Rattle.std.specs.Prelude.{◌≡◌, ◌==◌, ◌≤◌, ◌<◌, ◌^◌, ◌+◌, [], length, map, filter, take, drop, true, None, IfOk, All};
+ghost use Rattle.std.specs.Prelude.{◌≡◌, ◌==◌, ◌≤◌, ◌<◌, ◌^◌, ◌+◌, [], length, map, filter, take, drop, true, None};
+ghost use Rattle.std.specs.Prelude.{IfOk, All};
 ghost use Rattle.lks_base.specs.Checking.{plan_fault};
 ghost use Rattle.lks_evidence.specs.Rules.{has_shelf};
 ghost use Rattle.lks_evidence.specs.Sizes.{most_records, IsSmall};
 ghost use Rattle.lks_record.specs.Spelling.{IsInLimits};
-ghost use Rattle.lks_gather.specs.Sets.{begins_journal, is_journal_at, script_from, journals_from, may_keep, books_with, journal_line, with_book, books_end, books_in, set_of, book_on, said_by, HaveNewPeers, Tells};
+ghost use Rattle.lks_gather.specs.Sets.{begins_journal, is_journal_at, script_from, journals_from, may_keep};
+ghost use Rattle.lks_gather.specs.Sets.{books_with, journal_line, with_book, books_end, books_in, set_of, book_on};
+ghost use Rattle.lks_gather.specs.Sets.{said_by, HaveNewPeers, Tells};
 ghost use Rattle.lks_words.specs.Words.{Shows, parts};
 
 use crate::gathered::Gathered;
@@ -101,7 +104,8 @@ fn read_journal(
     set: Vec<Shelf>,
     words: &[&[u8]],
 ) -> Result<Vec<Shelf>, Stop>
-    ensures { Shows (λ v. map book_on v.items) result (journal_line plan.now (map book_on set.items) (map (λ w. w.now) words.now)) }
+    ensures { Shows (λ v. map book_on v.items) result
+        (journal_line plan.now (map book_on set.items) (map (λ w. w.now) words.now)) }
 {
     let [key, peer, hex] = words else {
         return Err(Stop::Bad);
@@ -175,11 +179,12 @@ fn read_parts(alloc: Global, bytes: &[u8]) -> Result<Gathered, ScriptFault>
     }
 }
 
-/// The plan and the journals that the bytes say, line by line: a script, whose steps mean nothing, up to the first line that
-/// begins with `journal `, and from there on a line `journal P HEX` for each journal, with empty lines and comments among them.
-/// `P` is an honest peer of the plan without a journal before, and `HEX` the frames of its batches and a closed gate `00`, in
-/// hex of either case. Any other line is bad, and the first one is told by its number, counted from 1. What is read can be
-/// examined: the plan breaks no rule, and of bytes that are no more than a journal may have records the set is small.
+/// The plan and the journals that the bytes say, line by line: a script, whose steps mean nothing, up to the first line
+/// that begins with `journal `, and from there on a line `journal P HEX` for each journal, with empty lines and
+/// comments among them. `P` is an honest peer of the plan without a journal before, and `HEX` the frames of its batches
+/// and a closed gate `00`, in hex of either case. Any other line is bad, and the first one is told by its number,
+/// counted from 1. What is read can be examined: the plan breaks no rule, and of bytes that are no more than a journal
+/// may have records the set is small.
 #[tactic(auto, using(crate::proofs::Kept::read_is_good, crate::proofs::Kept::read_is_small, crate::proofs::Kept::read_is_within, crate::proofs::Kept::read_is_new))]
 pub fn read_set(alloc: Global, bytes: &[u8]) -> Result<Gathered, ScriptFault>
     ensures exact { Tells said_by result (set_of bytes.now) }

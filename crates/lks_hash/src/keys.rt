@@ -52,7 +52,8 @@ fn feed_key<D: Digest>(
     count: u16,
 )
     ensures { (m : List ℕ) → D.holds hasher.old m → D.holds hasher.new (m ++ codes "LOCKSS/1" ++ to_be_bytes w16 poller
-        ++ to_be_bytes w32 number ++ nonce.now ++ to_be_bytes w16 voter ++ to_be_bytes w16 au ++ to_be_bytes w16 count) }
+        ++ to_be_bytes w32 number ++ nonce.now ++ to_be_bytes w16 voter ++ to_be_bytes w16 au
+        ++ to_be_bytes w16 count) }
 {
     hasher.update(b"LOCKSS/1".as_slice());
     hasher.update(poller.to_be_bytes().as_slice());

@@ -1,7 +1,8 @@
-//! The hashes of a poll: its nonce, the key of each vote, and the running hash over the blocks of an archival unit (AU).
+//! The hashes of a poll: its nonce, the key of each vote, and the running hash over the blocks of an archival unit
+//! (AU).
 //!
-//! Hashes are of one of two kinds of FIPS 180-4: SHA-256, or where `second` is true SHA-512/256. Numbers are hashed with
-//! the high byte first. No call takes memory.
+//! Hashes are of one of two kinds of FIPS 180-4: SHA-256, or where `second` is true SHA-512/256. Numbers are hashed
+//! with the high byte first. No call takes memory.
 //!
 //! ```rust
 //! use lks_hash::{Chain, Steps, key};
@@ -12,6 +13,8 @@
 //!     [chain.add(b"first block", steps), chain.add(b"second block", steps)]
 //! }
 //! ```
+//!
+//! Its trials: `lks_rule_trials`, `hash`.
 #![tactic(auto)]
 
 mod keys;

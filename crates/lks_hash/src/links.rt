@@ -84,7 +84,8 @@ impl Chain {
         ensures hash { result ≡ linked self.old.second self.old.last block.now }
         ensures chain { self.new ≡ record { second = self.old.second; last = result } }
 
-        // A chain that began at a key, and to which these blocks were added so far, gives the hash after them and this one.
+        // A chain that began at a key, and to which these blocks were added so far, gives the hash after them and this
+        // one.
         ensures whole { (key : List ℕ) (blocks : List (List ℕ)) → self.old.last ≡ running self.old.second key blocks
             → result ≡ running self.old.second key (blocks ++ block.now ∷ []) }
         ensures cost { steps.new ≡ steps.old + 1 }

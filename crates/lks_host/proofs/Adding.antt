@@ -7,6 +7,7 @@ use Rattle.lks_law.specs.Batches.{with_batch}
 use Rattle.lks_record.specs.Spelling.{batch_spelling}
 
 -- a batch of records is one body more
-pub bodies_more : (batches : List (List Record)) (records : List Record) → (records ≡ [] → ⊥) → bodies_of batches ++ batch_spelling records ∷ [] ≡ bodies_of (with_batch batches records)
+pub bodies_more : (batches : List (List Record)) (records : List Record) → (records ≡ [] → ⊥)
+    → bodies_of batches ++ batch_spelling records ∷ [] ≡ bodies_of (with_batch batches records)
 bodies_more batches [] some = absurd (some refl)
 bodies_more batches (r ∷ rs) some = sym (map-append batch_spelling batches ((r ∷ rs) ∷ []))

@@ -8,8 +8,8 @@ use Rattle.lks_journal.specs.declared.faults.JournalFault.{JournalFault}
 use Rattle.lks_journal.specs.declared.faults.JournalFault.TheVariants.{Failed, Cut}
 use Rattle.lks_journal.specs.declared.journals.Journal.{Journal}
 
--- The power wasn't cut, no fuse was set or ended, or chosen anew, and a cut is answered only where one was set, which has burned.
--- None burned at `Ok`, or where none was set.
+-- The power wasn't cut, no fuse was set or ended, or chosen anew, and a cut is answered only where one was set, which
+-- has burned. None burned at `Ok`, or where none was set.
 pub record Behaves {D T : Type 0} (f : Face D) (old new : D) (result : Result T JournalFault) : Type 0 where
   pub told : f.told old ↔ f.told new
   pub cause : HasCause (f.faults old) (f.faults new) result
@@ -23,7 +23,8 @@ pub record Behaves {D T : Type 0} (f : Face D) (old new : D) (result : Result T 
   pub unset : f.fused old ≡ false → f.burns new ≡ f.burns old
 
 -- no records make no call of the disk, and others the four of an append
-pub record CallsFor {D : Type 0} (f : Face D) (old new : Journal D) (records : List Record) (result : Result (Unit {0}) JournalFault) : Type 0 where
+pub record CallsFor {D : Type 0} (f : Face D) (old new : Journal D) (records : List Record)
+    (result : Result (Unit {0}) JournalFault) : Type 0 where
   pub idle : records ≡ [] → new ≡ old
   pub unfailed : records ≡ [] → IsErrOf result Failed → ⊥
   pub uncut : records ≡ [] → IsErrOf result Cut → ⊥

@@ -1,10 +1,11 @@
 -- A journal as it lies on a disk.
-use Rattle.std.specs.Prelude.{◌≡◌, ◌-◌, ℕ, List, [], ◌∷◌, ◌++◌, length, Option, Some, None, unwrap_or, slice_get, Result, Ok, Err, map}
+use Rattle.std.specs.Prelude.{◌≡◌, ◌-◌, ℕ, List, [], ◌∷◌, ◌++◌, length, Option, Some, None, unwrap_or, slice_get}
+use Rattle.std.specs.Prelude.{Result, Ok, Err, map}
 use Rattle.lks_base.specs.declared.records.Record.{Record}
 use Rattle.lks_record.specs.Reading.{decode_of}
 use Rattle.lks_record.specs.declared.fault.RecFault.{RecFault}
 use Rattle.lks_record.specs.Spelling.{batch_spelling}
-use Rattle.lks_sort.specs.Fits.{IsSpelled}
+use Rattle.lks_host.specs.Fits.{IsSpelled}
 
 -- one body a batch
 abbrev pub bodies_of : List (List Record) → List (List ℕ)

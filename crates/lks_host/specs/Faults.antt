@@ -5,8 +5,8 @@ use Rattle.lks_host.specs.declared.faults.HostFault.TheVariants.{Failed, Cut, Me
 use Rattle.lks_journal.specs.declared.faults.JournalFault.{JournalFault}
 use Rattle.lks_journal.specs.declared.faults.JournalFault.TheVariants as journal
 
--- The refusal of the journal of which a host tells. That of a result that is stale makes no call of the journal, as want of memory
--- may make none.
+-- The refusal of the journal of which a host tells. That of a result that is stale makes no call of the journal, as
+-- want of memory may make none.
 abbrev pub told_by : HostFault → JournalFault
 told_by Failed = journal.Failed
 told_by Cut = journal.Cut

@@ -14,7 +14,8 @@ use Rattle.lks_law.specs.Polls.{Station}
 use Rattle.lks_law.specs.State.{state_of, blank}
 use Rattle.lks_law.specs.World.{station_of, honest_peer}
 
--- the disk holds these batches, which read back, and the peer is in the state that their records say, each of which fits
+-- the disk holds these batches, which read back, and the peer is in the state that their records say, each of which
+-- fits
 pub record StandsFor {D : Type 0} (f : Face D) (host : Host D) (batches : List (List Record)) : Type 0 where
   pub state : host.peer.state ≡ state_of host.peer.own (together batches)
   pub disk : IsSettled f host.journal (bodies_of batches)
@@ -22,7 +23,8 @@ pub record StandsFor {D : Type 0} (f : Face D) (host : Host D) (batches : List (
   pub fit : AreFitting host.peer.own (blank host.peer.own) (together batches)
 
 -- the disk holds these batches, and behind them one for each of these records, which reads back
-pub record Holds {D : Type 0} (f : Face D) (host : Host D) (before : List (List Record)) (list : List Record) : Type 0 where
+pub record Holds {D : Type 0} (f : Face D) (host : Host D) (before : List (List Record)) (list : List Record) : Type
+    0 where
   pub disk : IsSettled f host.journal (bodies_of (before ++ map alone list))
   pub read : AreRead (map alone list)
 
@@ -32,9 +34,11 @@ pub record LiesOn {D : Type 0} (f : Face D) (own : Station) (disk : D) (batches 
   pub read : AreRead batches
   pub fit : AreFitting own (blank own) (together batches)
 
--- A crash leaves at most one byte, of a journal that was being made, or a front of the batches with which it was to begin.
+-- A crash leaves at most one byte, of a journal that was being made, or a front of the batches with which it was to
+-- begin.
 pub record HasFront {D : Type 0} (f : Face D) (batches : List (List Record)) (disk : D) : Type 0 where
-  pub leaves : (c : List ℕ) → f.may_leave disk c → (length c ≤ 1) ⊎ ((n : ℕ) × HoldsBodies (bodies_of (take n batches)) c)
+  pub leaves : (c : List ℕ) → f.may_leave disk c
+      → (length c ≤ 1) ⊎ ((n : ℕ) × HoldsBodies (bodies_of (take n batches)) c)
 
 -- so an honest peer of this good plan stands
 pub record IsMadeBy (plan : Plan) (own : Station) : Type 0 where

@@ -12,7 +12,8 @@ bodies_within zero file = []
 bodies_within (suc n) [] = []
 bodies_within (suc n) (gate ∷ rest) =
     if gate == 165
-    then take (from_be_bytes w32 (take 4 rest)) (drop 4 rest) ∷ bodies_within n (drop (from_be_bytes w32 (take 4 rest)) (drop 4 rest))
+    then take (from_be_bytes w32 (take 4 rest)) (drop 4 rest)
+    ∷ bodies_within n (drop (from_be_bytes w32 (take 4 rest)) (drop 4 rest))
     else []
 
 -- what was read, nothing where there was a fault

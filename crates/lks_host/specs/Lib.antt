@@ -1,10 +1,15 @@
+pub mod Adding
 pub mod Adopting
 pub mod Behaving
 pub mod Bodies
 pub mod Cutting
 pub mod Faults
+pub mod Fits
 pub mod Hosted
 pub mod Journals
+pub mod Naming
+pub mod Owners
 pub mod Recovering
+pub mod Sorted
 pub mod Stepping
 pub mod Working

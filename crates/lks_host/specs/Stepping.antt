@@ -6,7 +6,7 @@ use Rattle.lks_base.specs.declared.records.Record.{Record}
 use Rattle.lks_host.specs.Behaving.{Behaves, CallsFor}
 use Rattle.lks_host.specs.Bodies.{ReadBack}
 use Rattle.lks_host.specs.Faults.{as_journal, is_refused}
-use Rattle.lks_sort.specs.Fits.{FitsBatch}
+use Rattle.lks_host.specs.Fits.{FitsBatch}
 use Rattle.lks_host.specs.Hosted.{StandsFor}
 use Rattle.lks_law.specs.Fitting.{AreFitting}
 use Rattle.lks_law.specs.Polls.{Station}
@@ -14,17 +14,18 @@ use Rattle.lks_law.specs.State.{State, after_all}
 use Rattle.lks_host.specs.declared.faults.HostFault.{HostFault}
 use Rattle.lks_host.specs.declared.hosts.Host.{Host}
 
--- No call of the host was refused, its blocks are in this pool, there is room for one batch more, and it stands for what its
--- disk holds.
+-- No call of the host was refused, its blocks are in this pool, there is room for one batch more, and it stands for
+-- what its disk holds.
 pub record CanStep {D : Type 0} (f : Face D) (pool : List ℕ) (host : Host D) : Type 0 where
   pub pooled : pool ≡ host.peer.pool
   pub whole : host.broken ≡ false
   pub room : 32768 ≤ 2147483647 - (host.journal.end + 1)
   pub stands : f.told host.journal.disk → (batches : List (List Record)) × StandsFor f host batches
 
--- The reaction is handed out once its records are in the peer's journal, and the peer is in the state that they make. After a
--- refusal the host is broken.
-pub record Stepped {D : Type 0} (f : Face D) (old new : Host D) (r : Reaction) (result : Result Reaction HostFault) : Type 0 where
+-- The reaction is handed out once its records are in the peer's journal, and the peer is in the state that they make.
+-- After a refusal the host is broken.
+pub record Stepped {D : Type 0} (f : Face D) (old new : Host D) (r : Reaction)
+    (result : Result Reaction HostFault) : Type 0 where
   pub reaction : IfOk result (λ x. x ≡ r)
   pub state : OnOk result (new.peer.state ≡ after_all old.peer.own old.peer.state r.records)
   pub own : new.peer.own ≡ old.peer.own

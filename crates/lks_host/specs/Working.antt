@@ -40,10 +40,12 @@ abbrev pub Expected : Knowing → Knowing → Option JobDone → Type 0
 Expected old new None = Unit {0}
 Expected old new (Some d) = tag_for old.state new.places d ≡ Some (tag_done d)
 
--- a host says of a result that it is stale exactly where another version is expected than its own, or none; and nothing changed
+-- a host says of a result that it is stale exactly where another version is expected than its own, or none; and nothing
+-- changed
 abbrev pub MayBeStale : {D : Type 0} → Host D → Host D → Option JobDone → HostFault → Type 0
 MayBeStale old new o Failed = Unit {0}
 MayBeStale old new o Cut = Unit {0}
 MayBeStale old new o Memory = Unit {0}
 MayBeStale old new None (Stale expected found) = ⊥
-MayBeStale old new (Some d) (Stale expected found) = IsStale old.peer new.peer d expected found × (new ≡ record old { peer = new.peer })
+MayBeStale old new (Some d) (Stale expected found) =
+    IsStale old.peer new.peer d expected found × (new ≡ record old { peer = new.peer })

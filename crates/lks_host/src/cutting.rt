@@ -11,7 +11,7 @@ ghost use Rattle.lks_law.specs.Table.{react_on};
 
 use crate::faults::HostFault;
 use crate::hosts::Host;
-use crate::outcomes::Outcome;
+use crate::outcomes::AfterCut;
 use lks_base::{Input, Plan};
 use lks_blocks::BlockPool;
 use lks_disk::CrashDisk;
@@ -27,8 +27,10 @@ pub fn restart<R: Wait, D: CrashDisk>(
     requires pooled { pool.now ≡ host.old.peer.pool }
     requires made { IsMadeBy plan.now host.old.peer.own }
     requires stands { (batches : List (List Recorded)) × StandsFor D.face host.old batches }
-    ensures stands { (batches : List (List Recorded)) → StandsFor D.face host.old batches → OnOk result (StandsFor D.face host.new batches) }
-    ensures falls { (batches : List (List Recorded)) → StandsFor D.face host.old batches → OnErr result (Falls D.face batches batches host.new.journal.disk) }
+    ensures stands { (batches : List (List Recorded)) → StandsFor D.face host.old batches
+        → OnOk result (StandsFor D.face host.new batches) }
+    ensures falls { (batches : List (List Recorded)) → StandsFor D.face host.old batches
+        → OnErr result (Falls D.face batches batches host.new.journal.disk) }
     ensures back { IsBack D.face host.old host.new result }
     ensures burns { D.face.burns host.new.journal.disk ≡ D.face.burns host.old.journal.disk }
 {
@@ -47,18 +49,25 @@ pub fn cut_step<R: Wait, D: CrashDisk>(
     input: &Input,
     calls: u32,
     choice: u64,
-) -> Result<Outcome, HostFault>
+) -> Result<AfterCut, HostFault>
     requires can { CanStep D.face pool.now host.old }
     requires made { IsMadeBy plan.now host.old.peer.own }
     requires heard { IsHeard input.now }
     ensures cuts { (batches : List (List Recorded)) → StandsFor D.face host.old batches →
-        IfOk result (CutsOff D.face batches (react_on host.old.peer.own host.old.peer.state tick input.now) calls host.old host.new) }
+        IfOk result
+        (CutsOff D.face batches (react_on host.old.peer.own host.old.peer.state tick input.now) calls host.old
+        host.new) }
     ensures falls { (batches : List (List Recorded)) → StandsFor D.face host.old batches →
-        OnErr result (Falls D.face batches (with_batch batches (react_on host.old.peer.own host.old.peer.state tick input.now).records) host.new.journal.disk) }
+        OnErr result
+        (Falls D.face batches
+        (with_batch batches (react_on host.old.peer.own host.old.peer.state tick input.now).records)
+        host.new.journal.disk) }
     ensures back { IsBack D.face host.old host.new result }
     ensures fuse { HadFuse D.face calls choice host.old host.new result }
     ensures end { OnOk result (host.new.journal.end ≤ host.old.journal.end + 32768) }
-    ensures written { OnOk result (IsWritten host.old.peer.own host.old.peer.state (react_on host.old.peer.own host.old.peer.state tick input.now).records) }
+    ensures written { OnOk result
+        (IsWritten host.old.peer.own host.old.peer.state
+        (react_on host.old.peer.own host.old.peer.state tick input.now).records) }
 {
     let before = host.count();
     host.fuse(calls, choice);
@@ -67,14 +76,14 @@ pub fn cut_step<R: Wait, D: CrashDisk>(
     match done {
         Ok(reaction) => {
             host.recover(rt, pool, plan)?;
-            Ok(Outcome::Whole(reaction))
+            Ok(AfterCut::Whole(reaction))
         }
         Err(HostFault::Cut) => {
             let found = host.recover(rt, pool, plan)?;
             if found.count > before {
-                Ok(Outcome::Kept(found.last))
+                Ok(AfterCut::Kept(found.last))
             } else {
-                Ok(Outcome::Lost)
+                Ok(AfterCut::Lost)
             }
         }
         Err(HostFault::Failed) => Err(HostFault::Failed),

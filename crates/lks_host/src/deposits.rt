@@ -28,11 +28,14 @@ pub fn write_each<D: Disk>(
     requires within { All IsWithin records.now }
     requires few { length records.now ≤ MOST_AUS }
     requires low { (records.now ≡ [] → ⊥) → journal.old.end ≤ 33558580 }
-    requires settled { D.face.told journal.old.disk → (before : List (List Recorded)) × IsSettled D.face journal.old (bodies_of before) }
-    ensures ok { D.face.told journal.old.disk → (before : List (List Recorded)) → IsSettled D.face journal.old (bodies_of before) →
+    requires settled { D.face.told journal.old.disk
+        → (before : List (List Recorded)) × IsSettled D.face journal.old (bodies_of before) }
+    ensures ok { D.face.told journal.old.disk → (before : List (List Recorded))
+        → IsSettled D.face journal.old (bodies_of before) →
         OnOk result (IsSettled D.face journal.new (bodies_of (before ++ map alone records.now))) }
     ensures read { OnOk result (AreRead (map alone records.now)) }
-    ensures front { D.face.told journal.old.disk → (before : List (List Recorded)) → IsSettled D.face journal.old (bodies_of before) →
+    ensures front { D.face.told journal.old.disk → (before : List (List Recorded))
+        → IsSettled D.face journal.old (bodies_of before) →
         OnErr result (LeavesFront D.face before (map alone records.now) journal.new.disk) }
     ensures end { OnOk result (journal.new.end ≤ journal.old.end + length records.now * 8389645) }
     ensures idle { records.now ≡ [] → OnOk result (journal.new ≡ journal.old) }

@@ -15,8 +15,8 @@ pub enum HostFault {
     Cut,
     /// No memory was there. The journal is as before.
     Memory,
-    /// A result is of another version than the one for which the session or poll is ready, or none is ready for such work.
-    /// Nothing changed. `accept` alone answers this.
+    /// A result is of another version than the one for which the session or poll is ready, or none is ready for such
+    /// work. Nothing changed. `accept` alone answers this.
     Stale {
         expected: Option<PinTag>,
         found: PinTag,

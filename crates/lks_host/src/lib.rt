@@ -3,6 +3,11 @@
 //! Each reaction's records become one batch, which is appended to the journal and synced before the
 //! reaction is handed out. A reaction without records makes no call of the disk.
 //!
+//! Whether the batches on a store are a journal of a peer's own: each batch names by its first record what the peer was
+//! told or did, and at which tick. It is the peer's own where the rules (Maniatis et al., ACM TOCS 23(1), 2005) add
+//! exactly these records for that. So a peer that is told this again, batch by batch, is in the state of its journal,
+//! or finds the first batch that it would not have written.
+//!
 //! A host over a disk:
 //!
 //! ```rust
@@ -20,20 +25,30 @@
 //! Ok(())
 //! ```
 //!
-//! These are the lines of the test `a_host_over_a_disk` (`lks_peer_trials`). Its `plan_of` reads a plan by
+//! These are the lines of the test `a_host_over_a_disk` (`lks_run_trials`). Its `plan_of` reads a plan by
 //! `read_script` (`lks_script`).
+//!
+//! Its trials: `lks_run_trials`, `host`.
 #![tactic(auto)]
 
 mod answering;
+mod beginnings;
+mod comparing;
 mod cutting;
 mod deposits;
 mod faults;
 mod hosts;
+mod laws;
+mod naming;
 mod outcomes;
 mod reading;
+mod sorting;
 mod writing;
 
+pub use beginnings::{begin_peer, missing_deposits};
 pub use cutting::{cut_step, restart};
 pub use faults::HostFault;
 pub use hosts::Host;
-pub use outcomes::{Outcome, Recovered};
+pub use laws::{every_journal_is_whole, every_sort_is_the_only_one};
+pub use outcomes::{AfterCut, Recovered};
+pub use sorting::{JournalSort, PeerSort, sort_journal, sort_with_peer};

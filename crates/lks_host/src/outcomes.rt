@@ -11,7 +11,7 @@ pub struct Recovered {
 
 /// What became of a step while the power failed.
 #[derive(Drop)]
-pub enum Outcome {
+pub enum AfterCut {
     /// It was over before.
     Whole(Reaction),
     /// Its records are in the journal, and nothing was sent.

@@ -50,8 +50,10 @@ pub fn read_journal(
     bodies: &[Bytes],
 ) -> Result<(Vec<Record>, Seq<Record>), OutOfMemory>
     requires written { (batches : List (List Recorded)) × (bodies.now ≡ bodies_of batches) × AreRead batches }
-    ensures all { (batches : List (List Recorded)) → bodies.now ≡ bodies_of batches → AreRead batches → IfOk result (λ p. p.0.items ≡ together batches) }
-    ensures last { (batches : List (List Recorded)) → bodies.now ≡ bodies_of batches → AreRead batches → IfOk result (λ p. p.1 ≡ last_batch batches) }
+    ensures all { (batches : List (List Recorded)) → bodies.now ≡ bodies_of batches → AreRead batches
+        → IfOk result (λ p. p.0.items ≡ together batches) }
+    ensures last { (batches : List (List Recorded)) → bodies.now ≡ bodies_of batches → AreRead batches
+        → IfOk result (λ p. p.1 ≡ last_batch batches) }
 {
     let list = match read_batches(alloc, bodies) {
         Ok(list) => list,

@@ -5,7 +5,7 @@ ghost use Rattle.lks_base.specs.declared.records.Record.{Record as Recorded};
 ghost use Rattle.lks_host.specs.Behaving.{Behaves, CallsFor};
 ghost use Rattle.lks_host.specs.Bodies.{bodies_of, ReadBack};
 ghost use Rattle.lks_host.specs.Faults.{told_by, as_journal, breaks, IsFresh};
-ghost use Rattle.lks_sort.specs.Fits.{FitsBatch, IsSpelled};
+ghost use Rattle.lks_host.specs.Fits.{FitsBatch, IsSpelled};
 ghost use Rattle.lks_journal.specs.Adding.{KeepsOrAdds};
 ghost use Rattle.lks_journal.specs.Called.{Called};
 ghost use Rattle.lks_journal.specs.Faults.{IsOfDisk};
@@ -62,7 +62,8 @@ pub fn write<D: Disk>(
     requires room { journal.old.end + 6 + most_batch_bytes records.now ≤ 2147483647 }
     requires settled { D.face.told journal.old.disk → (bodies : List (List ℕ)) × IsSettled D.face journal.old bodies }
     ensures adds { D.face.told journal.old.disk → (bodies : List (List ℕ)) → IsSettled D.face journal.old bodies →
-        KeepsOrAdds D.face journal.old journal.new bodies (bodies ++ batch_spelling records.now ∷ []) (as_journal result) }
+        KeepsOrAdds D.face journal.old journal.new bodies (bodies ++ batch_spelling records.now ∷ [])
+        (as_journal result) }
     // What was to be written reads back, unless memory was missing.
     ensures read { (IsErrOf result HostFault.Memory → ⊥) → IsSpelled records.now }
     ensures end { journal.new.end ≤ journal.old.end + 5 + most_batch_bytes records.now }
@@ -82,8 +83,10 @@ pub fn keep<D: Disk>(
     requires fits { FitsBatch records.now }
     requires room { journal.old.end + 32769 ≤ 2147483647 }
     requires settled { D.face.told journal.old.disk → (bodies : List (List ℕ)) × IsSettled D.face journal.old bodies }
-    ensures adds { D.face.told journal.old.disk → (batches : List (List Recorded)) → IsSettled D.face journal.old (bodies_of batches) →
-        KeepsOrAdds D.face journal.old journal.new (bodies_of batches) (bodies_of (with_batch batches records.now)) (as_journal result) }
+    ensures adds { D.face.told journal.old.disk → (batches : List (List Recorded))
+        → IsSettled D.face journal.old (bodies_of batches) →
+        KeepsOrAdds D.face journal.old journal.new (bodies_of batches) (bodies_of (with_batch batches records.now))
+        (as_journal result) }
     ensures read { (IsErrOf result HostFault.Memory → ⊥) → ReadBack records.now }
     ensures end { journal.new.end ≤ journal.old.end + 32768 }
     ensures calls { CallsFor D.face journal.old journal.new records.now (as_journal result) }

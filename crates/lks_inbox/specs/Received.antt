@@ -6,8 +6,8 @@ use Rattle.lks_base.specs.declared.names.Judged.{Judged}
 use Rattle.lks_base.specs.declared.names.Judged.TheVariants.{NotAsked}
 use Rattle.lks_base.specs.declared.reactions.Input.{Input}
 use Rattle.lks_base.specs.declared.reactions.Input.TheVariants as input
-use Rattle.lks_effort.specs.declared.questions.Question.{Question}
-use Rattle.lks_law.specs.Questions.{Verdicts, judged, question_in}
+use Rattle.lks_outside.specs.declared.questions.Question.{Question}
+use Rattle.lks_law.specs.Questions.{Verdicts, judgement_on, question_in}
 use Rattle.lks_law.specs.World.{Deed, message_in}
 
 -- these bytes on their way
@@ -20,7 +20,7 @@ asked_by e = question_in e (message_in e.bytes)
 
 -- what a judge says of it that heard these before
 abbrev pub judged_by : Verdicts → List Question → Envelope → Judged
-judged_by verdict before e = judged verdict before (asked_by e)
+judged_by verdict before e = judgement_on verdict before (asked_by e)
 
 -- what the input makes the peer do
 abbrev pub deed_by : ℕ → Option Input → Option Deed

@@ -5,13 +5,13 @@ ghost use Rattle.std.specs.Option.{option_to_list};
 ghost use Rattle.lks_base.specs.declared.limits.TheConstants.{MOST_EVENTS};
 ghost use Rattle.lks_inbox.specs.Received.{sent, asked_by, judged_by, deed_by, verdict_with};
 ghost use Rattle.lks_law.specs.Facts.{IsHeard};
-ghost use Rattle.lks_law.specs.Questions.{judged, question_by};
-ghost use Rattle.lks_law.specs.World.{delivered, message_in};
+ghost use Rattle.lks_law.specs.Questions.{judgement_on, question_by};
+ghost use Rattle.lks_law.specs.World.{delivers, message_in};
 ghost use Rattle.lks_message.specs.Spelling.{IsWithin};
 
 use lks_base::{Input, Judged, Message, OutOfMemory, PeerId};
-use lks_effort::{EffortJudge, Question};
 use lks_message::{MsgFault, decode};
+use lks_outside::{EffortJudge, Question};
 use std::alloc::Global;
 
 /// The message that the bytes spell, if they spell one.
@@ -26,7 +26,8 @@ fn read(alloc: Global, bytes: &[u8]) -> Result<Option<Message>, OutOfMemory>
     }
 }
 
-/// The question that a message puts: on the proof of its poll's poller, or of a voter. The proof is copied, at most 64 bytes.
+/// The question that a message puts: on the proof of its poll's poller, or of a voter. The proof is copied, at most 64
+/// bytes.
 fn question_by(from: PeerId, to: PeerId, message: &Message) -> Result<Option<Question>, OutOfMemory>
     ensures { IfOk result (λ q. (bytes : List ℕ) → q ≡ question_by (sent from to bytes) message.now) }
 {
@@ -55,7 +56,7 @@ fn question_by(from: PeerId, to: PeerId, message: &Message) -> Result<Option<Que
 /// Asks the judge what is to be asked, if anything is.
 fn ask<J: EffortJudge>(judge: &mut J, question: Option<Question>) -> Judged
     requires room { length (J.heard judge.old) < MOST_EVENTS }
-    ensures judged { result ≡ judged (J.verdict judge.old) (J.heard judge.old) question }
+    ensures judged { result ≡ judgement_on (J.verdict judge.old) (J.heard judge.old) question }
     ensures asks { J.heard judge.new ≡ J.heard judge.old ++ option_to_list question }
     ensures same { J.verdict judge.new ≡ J.verdict judge.old }
 {
@@ -71,10 +72,10 @@ fn ask<J: EffortJudge>(judge: &mut J, question: Option<Question>) -> Judged
     }
 }
 
-/// What came from `from` to the honest peer `to`, as that peer's input: the message that the bytes spell, with the judge's
-/// verdict on it, or nothing where they spell none. A `PollProof` or a `Vote` puts one question, and nothing else does (Maniatis
-/// et al., ACM TOCS 23(1), 2005, section 4). The message moves on whole, and only its proof of effort is copied, for the judge.
-/// Want of memory comes before the judge is asked.
+/// What came from `from` to the honest peer `to`, as that peer's input: the message that the bytes spell, with the
+/// judge's verdict on it, or nothing where they spell none. A `PollProof` or a `Vote` puts one question, and nothing
+/// else does (Maniatis et al., ACM TOCS 23(1), 2005, section 4). The message moves on whole, and only its proof of
+/// effort is copied, for the judge. Want of memory comes before the judge is asked.
 pub fn receive<J: EffortJudge>(
     alloc: Global,
     from: PeerId,
@@ -83,10 +84,15 @@ pub fn receive<J: EffortJudge>(
     judge: &mut J,
 ) -> Result<Option<Input>, OutOfMemory>
     requires { length (J.heard judge.old) < MOST_EVENTS }
-    ensures input { IfOk result (λ i. deed_by to i ≡ delivered (Some (sent from to bytes.now)) (judged_by (J.verdict judge.old) (J.heard judge.old) (sent from to bytes.now))) }
-    ensures verdict { IfOk result (λ i. verdict_with i ≡ judged_by (J.verdict judge.old) (J.heard judge.old) (sent from to bytes.now)) }
+    ensures input { IfOk result
+        (λ i. deed_by to i
+        ≡ delivers (Some (sent from to bytes.now))
+        (judged_by (J.verdict judge.old) (J.heard judge.old) (sent from to bytes.now))) }
+    ensures verdict { IfOk result
+        (λ i. verdict_with i ≡ judged_by (J.verdict judge.old) (J.heard judge.old) (sent from to bytes.now)) }
     ensures within { IfOk result (λ i. IfSome i IsHeard) }
-    ensures asks { OnOk result (J.heard judge.new ≡ J.heard judge.old ++ option_to_list (asked_by (sent from to bytes.now))) }
+    ensures asks { OnOk result
+        (J.heard judge.new ≡ J.heard judge.old ++ option_to_list (asked_by (sent from to bytes.now))) }
     ensures same { J.verdict judge.new ≡ J.verdict judge.old }
     ensures err { OnErr result (judge.new ≡ judge.old) }
 {
@@ -109,7 +115,7 @@ pub fn receive_judged(
     bytes: &[u8],
     judged: Judged,
 ) -> Result<Option<Input>, OutOfMemory>
-    ensures input { IfOk result (λ i. (to : ℕ) → deed_by to i ≡ delivered (Some (sent from to bytes.now)) judged) }
+    ensures input { IfOk result (λ i. (to : ℕ) → deed_by to i ≡ delivers (Some (sent from to bytes.now)) judged) }
     ensures within { IfOk result (λ i. IfSome i IsHeard) }
 {
     match read(alloc, bytes)? {

@@ -1,5 +1,6 @@
 -- What the two writes of an append make of a journal, each of them done or not.
-use Rattle.std.proofs.Common.{◌≡◌, ◌<◌, ◌∙◌, inl, ℕ, true, List, [], ◌∷◌, ◌++◌, ◌+◌, ◌≤◌, length, length-append, sym, subst, arith}
+use Rattle.std.proofs.Common.{◌≡◌, ◌<◌, ◌∙◌, inl, ℕ, true, List, [], ◌∷◌, ◌++◌, ◌+◌, ◌≤◌, length, length-append, sym}
+use Rattle.std.proofs.Common.{subst, arith}
 use Rattle.std.specs.Prelude.{Result, Ok, Err, OnOk, IsErrOf}
 use Rattle.lks_disk.specs.Counts.{raised}
 use Rattle.lks_disk.proofs.Runs.{started, weaker, joined}
@@ -17,8 +18,10 @@ use Rattle.lks_journal.specs.declared.journals.Journal.{Journal}
 use Rattle.lks_journal.proofs.Appends.{Appending, first_crash, first_done, second_crash, second_done, end_after}
 
 -- nothing was done
-pub adds_nothing : {D : Type 0} (f : Face D) (j : Journal D) (before after : List (List ℕ)) (fault : JournalFault) → IsSettled f j before
-    → ((c : List ℕ) → f.left_since j.disk (f.moment j.disk) c → f.may_leave j.disk c) → KeepsOrAdds f j j before after (Err fault)
+pub adds_nothing : {D : Type 0} (f : Face D) (j : Journal D) (before after : List (List ℕ)) (fault : JournalFault)
+    → IsSettled f j before
+    → ((c : List ℕ) → f.left_since j.disk (f.moment j.disk) c → f.may_leave j.disk c)
+    → KeepsOrAdds f j j before after (Err fault)
 adds_nothing f j before after fault s now = record {
   ok = tt;
   memory = λ is. s;
@@ -30,7 +33,8 @@ adds_nothing f j before after fault s now = record {
     held : (c : List ℕ) → f.may_leave j.disk c → HoldsBodies before c
     held c left = subst (HoldsBodies before) (sym (s.durable c left)) s.holds
 
-module _ {D : Type 0} (f : Face D) (old new : Journal D) (mid : D) (bodies : List (List ℕ)) (body piece : List ℕ) (s : IsSettled f old bodies) (a : Appending bodies body piece (f.seen old.disk) old.end) where
+module _ {D : Type 0} (f : Face D) (old new : Journal D) (mid : D) (bodies : List (List ℕ)) (body piece : List ℕ)
+    (s : IsSettled f old bodies) (a : Appending bodies body piece (f.seen old.disk) old.end) where
   abbrev after : List (List ℕ)
   after = bodies ++ body ∷ []
 
@@ -39,7 +43,10 @@ module _ {D : Type 0} (f : Face D) (old new : Journal D) (mid : D) (bodies : Lis
   none P (Err e) never = tt
 
   -- the first write was cut short
-  pub adds_first : (result : Result (Unit {0}) JournalFault) → OnOk result ⊥ → new.end ≡ old.end → new.count ≡ old.count → Puts f (old.end + 1) piece old.disk new.disk result → AlwaysLeaves f old.disk new.disk (CanLeaveTorn (f.may_leave old.disk) (old.end + 1) (length piece)) → KeepsOrAdds f old new bodies after result
+  pub adds_first : (result : Result (Unit {0}) JournalFault) → OnOk result ⊥ → new.end ≡ old.end
+      → new.count ≡ old.count → Puts f (old.end + 1) piece old.disk new.disk result
+      → AlwaysLeaves f old.disk new.disk (CanLeaveTorn (f.may_leave old.disk) (old.end + 1) (length piece))
+      → KeepsOrAdds f old new bodies after result
   adds_first result never end count p run = record {
     ok = none _ result never;
     memory = λ is. record {
@@ -49,19 +56,25 @@ module _ {D : Type 0} (f : Face D) (old new : Journal D) (mid : D) (bodies : Lis
       durable = λ c left. s.durable c (p.memory_crash is c left) ∙ sym (p.memory is);
     };
     crash = λ c left. inl (first_crash a (f.may_leave old.disk) s.durable c (p.crash c left));
-    any_moment = weaker f.moment f.left_since old.disk new.disk _ (HoldsEither bodies after) (λ c left. inl (first_crash a (f.may_leave old.disk) s.durable c left)) run;
+    any_moment =
+        weaker f.moment f.left_since old.disk new.disk _ (HoldsEither bodies after)
+        (λ c left. inl (first_crash a (f.may_leave old.disk) s.durable c left)) run;
     early = λ is few c left. first_crash a (f.may_leave old.disk) s.durable c (p.crash c left);
   }
 
-  module _ (p : Puts f (old.end + 1) piece old.disk mid (Ok tt)) (result : Result (Unit {0}) JournalFault) (q : Puts f old.end (165 ∷ []) mid new.disk result)
-      (first_run : AlwaysLeaves f old.disk mid (CanLeaveTorn (f.may_leave old.disk) (old.end + 1) (length piece))) (second_run : AlwaysLeaves f mid new.disk (CanLeaveTorn (f.may_leave mid) (old.end) 1)) where
+  module _ (p : Puts f (old.end + 1) piece old.disk mid (Ok tt)) (result : Result (Unit {0}) JournalFault)
+      (q : Puts f old.end (165 ∷ []) mid new.disk result)
+      (first_run : AlwaysLeaves f old.disk mid (CanLeaveTorn (f.may_leave old.disk) (old.end + 1) (length piece)))
+      (second_run : AlwaysLeaves f mid new.disk (CanLeaveTorn (f.may_leave mid) (old.end) 1)) where
     crashed : (c : List ℕ) → f.may_leave new.disk c → HoldsEither bodies after c
     crashed c left = second_crash a (f.seen mid) p.holds (f.may_leave mid) p.durable c (q.crash c left)
 
     always : AlwaysLeaves f old.disk new.disk (HoldsEither bodies after)
     always = joined f.moment f.left_since old.disk mid new.disk (HoldsEither bodies after)
-        (weaker f.moment f.left_since old.disk mid _ (HoldsEither bodies after) (λ c left. inl (first_crash a (f.may_leave old.disk) s.durable c left)) first_run)
-        (weaker f.moment f.left_since mid new.disk _ (HoldsEither bodies after) (second_crash a (f.seen mid) p.holds (f.may_leave mid) p.durable) second_run)
+        (weaker f.moment f.left_since old.disk mid _ (HoldsEither bodies after)
+        (λ c left. inl (first_crash a (f.may_leave old.disk) s.durable c left)) first_run)
+        (weaker f.moment f.left_since mid new.disk _ (HoldsEither bodies after)
+        (second_crash a (f.seen mid) p.holds (f.may_leave mid) p.durable) second_run)
 
     stays_held : new.end ≡ old.end → new.count ≡ old.count → IsErrOf result Memory → IsSettled f new bodies
     stays_held end count is = record {
@@ -72,7 +85,8 @@ module _ {D : Type 0} (f : Face D) (old new : Journal D) (mid : D) (bodies : Lis
     }
 
     -- the second write was cut short
-    pub adds_second : new.end ≡ old.end → new.count ≡ old.count → Called {T = Unit {0}} f 2 old.disk mid (Ok tt) → Called f 2 mid new.disk result → OnOk result ⊥ → KeepsOrAdds f old new bodies after result
+    pub adds_second : new.end ≡ old.end → new.count ≡ old.count → Called {T = Unit {0}} f 2 old.disk mid (Ok tt)
+        → Called f 2 mid new.disk result → OnOk result ⊥ → KeepsOrAdds f old new bodies after result
     adds_second end count first second never = record {
       ok = none _ result never;
       memory = stays_held end count;
@@ -90,7 +104,10 @@ module _ {D : Type 0} (f : Face D) (old new : Journal D) (mid : D) (bodies : Lis
 
   -- both writes were made
   pub adds_both : Puts f (old.end + 1) piece old.disk mid (Ok tt) → Puts f old.end (165 ∷ []) mid new.disk (Ok tt)
-      → AlwaysLeaves f old.disk mid (CanLeaveTorn (f.may_leave old.disk) (old.end + 1) (length piece)) → AlwaysLeaves f mid new.disk (CanLeaveTorn (f.may_leave mid) (old.end) 1) → new.end ≡ old.end + (5 + length body) → new.count ≡ raised old.count → old.end ≤ 2147483647 → KeepsOrAdds f old new bodies after (Ok tt)
+      → AlwaysLeaves f old.disk mid (CanLeaveTorn (f.may_leave old.disk) (old.end + 1) (length piece))
+      → AlwaysLeaves f mid new.disk (CanLeaveTorn (f.may_leave mid) (old.end) 1)
+      → new.end ≡ old.end + (5 + length body) → new.count ≡ raised old.count → old.end ≤ 2147483647
+      → KeepsOrAdds f old new bodies after (Ok tt)
   adds_both p q first_run second_run end count low = record {
     ok = record {
       holds = second_done a (f.seen mid) p.holds (f.seen new.disk) q.holds;

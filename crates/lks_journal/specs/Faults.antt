@@ -22,8 +22,8 @@ IsOfDisk (Err Failed) = Unit {0}
 IsOfDisk (Err Cut) = Unit {0}
 IsOfDisk (Err Memory) = Unit {0}
 
--- `Failed` is answered only where the disk's count of faults rose in the call. It never falls, and it rises with no other
--- answer of its disk: no fault is passed over.
+-- `Failed` is answered only where the disk's count of faults rose in the call. It never falls, and it rises with no
+-- other answer of its disk: no fault is passed over.
 pub record HasCause {T : Type 0} (before now : ℕ) (result : Result T JournalFault) : Type 0 where
   pub later : before ≤ now
   pub failed : IsErrOf result Failed → Rose before now
@@ -33,7 +33,8 @@ pub record HasCause {T : Type 0} (before now : ℕ) (result : Result T JournalFa
   pub damaged : (offset : ℕ) → IsErrOf result (Damaged offset) → now ≡ before
 
 -- What so many writes and syncs did to the fuse: `Ok` only where it let that many pass, and `Cut` only where
--- it let fewer pass and has burned. The count of burned fuses rises by one with the call that burns it, and with no other.
+-- it let fewer pass and has burned. The count of burned fuses rises by one with the call that burns it, and with no
+-- other.
 pub record FuseRun {T : Type 0} (calls : ℕ) (old new : FuseTold) (result : Result T JournalFault) : Type 0 where
   pub stays_set : new.set ≡ old.set
   pub same_calls : new.calls ≡ old.calls

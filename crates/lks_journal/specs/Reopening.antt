@@ -13,7 +13,8 @@ bodies_in view (Ok x) = Ok (view x)
 bodies_in view (Err fault) = Err fault
 
 -- the bodies in an answer that hands the disk back
-abbrev pub bodies_with : {T D : Type 0} → (T → List (List ℕ)) → Result T (D × JournalFault) → Result (List (List ℕ)) JournalFault
+abbrev pub bodies_with : {T D : Type 0} → (T → List (List ℕ)) → Result T (D × JournalFault)
+    → Result (List (List ℕ)) JournalFault
 bodies_with view (Ok x) = Ok (view x)
 bodies_with view (Err e) = Err e.1
 

@@ -1,5 +1,6 @@
 //! Journals.
-ghost use Rattle.std.specs.Prelude.{◌≡◌, ◌↔◌, ◌+◌, ◌-◌, ◌<◌, ◌≤◌, ◌∷◌, ◌++◌, [], ℕ, List, length, IfOk, OnOk, OnErr, IsErrOf};
+ghost use Rattle.std.specs.Prelude.{◌≡◌, ◌↔◌, ◌+◌, ◌-◌, ◌<◌, ◌≤◌, ◌∷◌, ◌++◌, [], ℕ, List, length, IfOk, OnOk, OnErr};
+ghost use Rattle.std.specs.Prelude.{IsErrOf};
 ghost use Rattle.lks_disk.specs.Face.{AlwaysLeaves, HasFuse, HasLost};
 ghost use Rattle.lks_journal.specs.Adding.{KeepsOrAdds, IsFramed, end_after, count_after};
 ghost use Rattle.lks_journal.specs.Called.{Called};
@@ -44,12 +45,15 @@ impl<D: Disk> Journal<D> {
     /// A new journal on an empty disk: one closed gate.
     pub fn create(alloc: Global, disk: D) -> Result<Self, (D, JournalFault)>
         requires empty { D.face.told disk → D.face.seen disk ≡ [] }
-        ensures ok { D.face.told disk → IfOk result (λ journal. IsSettled D.face journal [] × (D.face.seen journal.disk ≡ 0 ∷ [])) }
+        ensures ok { D.face.told disk
+            → IfOk result (λ journal. IsSettled D.face journal [] × (D.face.seen journal.disk ≡ 0 ∷ [])) }
         ensures end { IfOk result (λ journal. journal.end ≡ 0) }
         ensures count { IfOk result (λ journal. journal.count ≡ 0) }
         ensures memory { D.face.told disk → IsErrOf (plain result) JournalFault.Memory →
-            (D.face.seen (disk_made result) ≡ []) × ((c : List ℕ) → D.face.may_leave (disk_made result) c → D.face.may_leave disk c) }
-        ensures any_moment { D.face.told disk → AlwaysLeaves D.face disk (disk_made result) (CanLeaveTorn (D.face.may_leave disk) 0 1) }
+            (D.face.seen (disk_made result) ≡ [])
+            × ((c : List ℕ) → D.face.may_leave (disk_made result) c → D.face.may_leave disk c) }
+        ensures any_moment { D.face.told disk
+            → AlwaysLeaves D.face disk (disk_made result) (CanLeaveTorn (D.face.may_leave disk) 0 1) }
         ensures own { IsOfDisk (plain result) }
         ensures called { Called D.face 2 disk (disk_made result) (plain result) }
     {
@@ -70,7 +74,8 @@ impl<D: Disk> Journal<D> {
         ensures settled { D.face.told disk → IfOk result (λ p. IsSettled D.face p.0 p.1.items) }
         ensures end { IfOk result (λ p. p.0.end ≡ length (frames p.1.items)) }
         ensures count { IfOk result (λ p. p.0.count ≡ length p.1.items) }
-        ensures found { D.face.told disk → Reopens D.face disk (disk_read result) (bodies_with (λ p. p.1.items) result) }
+        ensures found { D.face.told disk
+            → Reopens D.face disk (disk_read result) (bodies_with (λ p. p.1.items) result) }
         ensures full { IsErrOf (plain result) JournalFault.Full → ⊥ }
         ensures called { Called D.face 1 disk (disk_read result) (plain result) }
     {
@@ -96,7 +101,8 @@ impl<D: Disk> Journal<D> {
         ensures end { IfOk result (λ bodies. self.new.end ≡ length (frames bodies.items)) }
         ensures count { IfOk result (λ bodies. self.new.count ≡ length bodies.items) }
         ensures same { OnErr result ((self.new.end ≡ self.old.end) × (self.new.count ≡ self.old.count)) }
-        ensures found { D.face.told self.old.disk → Reopens D.face self.old.disk self.new.disk (bodies_in (λ bodies. bodies.items) result) }
+        ensures found { D.face.told self.old.disk
+            → Reopens D.face self.old.disk self.new.disk (bodies_in (λ bodies. bodies.items) result) }
         ensures full { IsErrOf result JournalFault.Full → ⊥ }
         ensures called { Called D.face 1 self.old.disk self.new.disk result }
     {
@@ -111,7 +117,8 @@ impl<D: Disk> Journal<D> {
         requires settled { D.face.told self.old.disk → (bodies : List (List ℕ)) × IsSettled D.face self.old bodies }
         ensures adds { D.face.told self.old.disk → (bodies : List (List ℕ)) → IsSettled D.face self.old bodies →
             KeepsOrAdds D.face self.old self.new bodies (bodies ++ body.now ∷ []) result }
-        ensures bytes { D.face.told self.old.disk → OnOk result (IsFramed body.now self.old.end (D.face.seen self.old.disk) (D.face.seen self.new.disk)) }
+        ensures bytes { D.face.told self.old.disk
+            → OnOk result (IsFramed body.now self.old.end (D.face.seen self.old.disk) (D.face.seen self.new.disk)) }
         ensures full { IsErrOf result JournalFault.Full ↔ (MOST < self.old.end + 6 + length body.now) }
         ensures full_same { IsErrOf result JournalFault.Full → self.new ≡ self.old }
         ensures end { self.new.end ≡ end_after result self.old.end (length body.now) }
@@ -142,7 +149,8 @@ impl<D: Disk> Journal<D> {
     /// How many bytes may still stand behind the closed gate.
     pub fn room(&self) -> u64
         ensures room { result ≡ MOST - (self.now.end + 1) }
-        ensures behind { (bodies : List (List ℕ)) → IsSettled D.face self.now bodies → result ≡ MOST - (length (frames bodies) + 1) }
+        ensures behind { (bodies : List (List ℕ)) → IsSettled D.face self.now bodies
+            → result ≡ MOST - (length (frames bodies) + 1) }
     {
         MOST.saturating_sub(self.end.saturating_add(1))
     }
@@ -159,7 +167,8 @@ impl<D: Disk> Journal<D> {
 impl<D: CrashDisk> Journal<D> {
     /// Sets a fuse on the disk: so many writes and syncs pass, and the next one is cut off.
     pub fn fuse(&mut self, calls: u32, choice: u64)
-        ensures settled { (bodies : List (List ℕ)) → IsSettled D.face self.old bodies → IsSettled D.face self.new bodies }
+        ensures settled { (bodies : List (List ℕ)) → IsSettled D.face self.old bodies
+            → IsSettled D.face self.new bodies }
         ensures end { self.new.end ≡ self.old.end }
         ensures count { self.new.count ≡ self.old.count }
         ensures fused { HasFuse D.face calls choice self.old.disk self.new.disk }

@@ -2,6 +2,8 @@
 //!
 //! A body's frame is a gate byte, four length bytes and the body. An append writes behind the closed gate,
 //! syncs, opens the gate, and syncs. Reopening reads open frames up to the first closed gate.
+//!
+//! Its trials: `lks_format_trials`, `journal`.
 #![tactic(auto)]
 
 mod faults;

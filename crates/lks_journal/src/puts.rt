@@ -14,7 +14,8 @@ pub fn put<D: Disk>(disk: &mut D, at: u64, piece: &[u8]) -> Result<(), JournalFa
     requires within { D.face.told disk.old → at ≤ length (D.face.seen disk.old) }
     requires ends { at + length piece.now < 2 ^ 63 }
     ensures puts { D.face.told disk.old → Puts D.face at piece.now disk.old disk.new result }
-    ensures any_moment { D.face.told disk.old → AlwaysLeaves D.face disk.old disk.new (CanLeaveTorn (D.face.may_leave disk.old) at (length piece.now)) }
+    ensures any_moment { D.face.told disk.old
+        → AlwaysLeaves D.face disk.old disk.new (CanLeaveTorn (D.face.may_leave disk.old) at (length piece.now)) }
     ensures called { Called D.face 2 disk.old disk.new result }
     ensures own { IsOfDisk result }
 {

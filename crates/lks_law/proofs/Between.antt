@@ -10,7 +10,7 @@ use Rattle.lks_law.specs.Histories.{IsHistory}
 use Rattle.lks_law.specs.Journal.{opening_of}
 use Rattle.lks_law.specs.Linked.{Has, IsSaid, IsTold, IsLinked, AreLinked}
 use Rattle.lks_law.specs.Sessions.{hashes_of_vote}
-use Rattle.lks_law.specs.Voting.{named}
+use Rattle.lks_law.specs.Voting.{poll_named}
 use Rattle.lks_law.specs.World.{Standing, peer_at, world}
 use Rattle.lks_law.proofs.Knowing.{voted_so}
 use Rattle.lks_law.proofs.Linked.{Any, Heard, IsSpelling, IsFrom, Fact}
@@ -19,15 +19,23 @@ use Rattle.lks_law.proofs.Matching.{joined_so, committed_so, counted_so}
 use Rattle.lks_law.proofs.Starts.{world_holds}
 use Rattle.lks_law.proofs.Worlds.{IsSound, place_of}
 
-told : (peers : List Standing) (e : Envelope) (s : Standing) → peer_at e.from peers ≡ Some s → IsFrom peers e → IsTold s.journal e
+told : (peers : List Standing) (e : Envelope) (s : Standing) → peer_at e.from peers ≡ Some s → IsFrom peers e
+    → IsTold s.journal e
 told peers e s from is =
     let spelled : IsSpelling e.bytes = subst (Any (λ (t : Standing). IsSpelling e.bytes)) from is.spelled in
-    record { message = spelled.0; spelled = spelled.1; says = (subst (λ o. Heard o e.to spelled.0) from (is.heard spelled.0 spelled.1)).1 }
+    record {
+      message = spelled.0;
+      spelled = spelled.1;
+      says = (subst (λ o. Heard o e.to spelled.0) from (is.heard spelled.0 spelled.1)).1;
+    }
 
 module _ (peers : List Standing) (k : ℕ) (s : Standing) (sound : IsSound peers k s) where
   -- the fact of a record that says this
-  fact_of : {X : Type 0} {says : Record → Option X} {x : X} → (said : IsSaid says s.journal x) → Fact peers s.own s.journal said.item
-  fact_of said = subst (Any (Fact peers s.own s.journal)) said.there (place_of (Fact peers s.own s.journal) s.journal said.place sound.records)
+  fact_of : {X : Type 0} {says : Record → Option X} {x : X} → (said : IsSaid says s.journal x)
+      → Fact peers s.own s.journal said.item
+  fact_of said =
+      subst (Any (Fact peers s.own s.journal)) said.there
+      (place_of (Fact peers s.own s.journal) s.journal said.place sound.records)
 
   linked : IsLinked peers s
   linked = record {
@@ -36,20 +44,31 @@ module _ (peers : List Standing) (k : ℕ) (s : Standing) (sound : IsSound peers
     committed_once = sound.single.commitments;
     voted_once = sound.single.votes;
     joined = λ q join t said at.
-        subst (Any (λ (u : Standing). Has (λ o. o.au ≡ join.au) (opening_of q.number u.journal))) at (joined_so peers s.own s.journal sound.records q said.item join said.said (fact_of said));
+        subst (Any (λ (u : Standing). Has (λ o. o.au ≡ join.au) (opening_of q.number u.journal))) at
+        (joined_so peers s.own s.journal sound.records q said.item join said.said (fact_of said));
     committed = λ q c t said at.
-        subst (Any (λ (u : Standing). Has (λ o. (o.nonce ≡ c.nonce) × (o.kind ≡ c.kind)) (opening_of q.number u.journal))) at (committed_so peers s.own s.journal sound.records q said.item c said.said (fact_of said));
+        subst
+        (Any
+        (λ (u : Standing). Has (λ o. (o.nonce ≡ c.nonce) × (o.kind ≡ c.kind))
+        (opening_of q.number u.journal))) at
+        (committed_so peers s.own s.journal sound.records q said.item c said.said (fact_of said));
     voted = λ q hashes said. voted_so peers s.own s.journal sound.records q said.item hashes said.said (fact_of said);
     counted = λ n v t said at.
-        subst (Any (λ (u : Standing). hashes_of_vote (named s.own.id n) u.journal ≡ Some v.hashes)) at (counted_so peers s.own s.journal sound.records n said.item v said.said (fact_of said)).0;
+        subst (Any (λ (u : Standing). hashes_of_vote (poll_named s.own.id n) u.journal ≡ Some v.hashes)) at
+        (counted_so peers s.own s.journal sound.records n said.item v said.said (fact_of said)).0;
   }
 
-pub are_linked : (plan : Plan) (history : List Event) → plan_fault plan ≡ None → IsHistory plan history → AreLinked (world plan history)
+pub are_linked : (plan : Plan) (history : List Event) → plan_fault plan ≡ None → IsHistory plan history
+    → AreLinked (world plan history)
 are_linked plan history good is =
     let holds = world_holds plan history good is in
     let peers = (world plan history).peers in
     let bag = (world plan history).bag in
     record {
-      envelopes = λ place e s at from. told peers e s from (subst (Any (IsFrom peers)) at (place_of (IsFrom peers) bag place holds.linked.bagged));
-      journals = λ place s at. linked peers (0 + length history) s (holds.linked.each s.own.id s (place_at peers place s holds.apart at));
+      envelopes =
+          λ place e s at from. told peers e s from
+          (subst (Any (IsFrom peers)) at (place_of (IsFrom peers) bag place holds.linked.bagged));
+      journals =
+          λ place s at. linked peers (0 + length history) s
+          (holds.linked.each s.own.id s (place_at peers place s holds.apart at));
     }

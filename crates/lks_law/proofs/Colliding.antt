@@ -1,5 +1,6 @@
 -- Running hashes that are the same.
-use Rattle.std.proofs.Common.{◌≡◌, ◌≢◌, ◌∙◌, ◌⊎◌, inl, inr, sym, ℕ, suc, Bool, true, false, eqb, List, [], ◌∷◌, ◌++◌, length, refl, arith}
+use Rattle.std.proofs.Common.{◌≡◌, ◌≢◌, ◌∙◌, ◌⊎◌, inl, inr, sym, ℕ, suc, Bool, true, false, eqb, List, [], ◌∷◌, ◌++◌}
+use Rattle.std.proofs.Common.{length, refl, arith}
 use Rattle.std.specs.Cmp.Lexicographic.{pointwise, bytes_decides}
 use Rattle.lks_hash.specs.Hashes.{hash_of}
 use Rattle.lks_hash.specs.Running.{linked, running}
@@ -28,16 +29,19 @@ record Twins (second : Bool) (key : List ℕ) (one : List (List ℕ)) (like : Li
   differ : text ≢ twin
   same : hash_of second text ≡ hash_of second twin
 
-input_later : (second : Bool) (key x : List ℕ) (xs : List (List ℕ)) (text : List ℕ) → IsInput second (linked second key x) xs text → IsInput second key (x ∷ xs) text
+input_later : (second : Bool) (key x : List ℕ) (xs : List (List ℕ)) (text : List ℕ)
+    → IsInput second (linked second key x) xs text → IsInput second key (x ∷ xs) text
 input_later second key x xs text is = record { place = suc is.place; block = is.block; there = is.there; is = is.is }
 
-running_apart : (second : Bool) (k : List ℕ) (xs : List (List ℕ)) (l : List ℕ) (ys : List (List ℕ)) → length k ≡ length l → length xs ≡ length ys → running second k xs ≡ running second l ys
+running_apart : (second : Bool) (k : List ℕ) (xs : List (List ℕ)) (l : List ℕ) (ys : List (List ℕ))
+    → length k ≡ length l → length xs ≡ length ys → running second k xs ≡ running second l ys
     → ((k ≡ l) × (xs ≡ ys)) ⊎ Twins second k xs l ys
 running_apart second k [] l [] key len e = inl (e, refl)
 running_apart second k [] l (y ∷ ys) key len e = absurd (omega arith)
 running_apart second k (x ∷ xs) l [] key len e = absurd (omega arith)
 running_apart second k (x ∷ xs) l (y ∷ ys) key len e =
-    elim (running_apart second (linked second k x) xs (linked second l y) ys (hash_length second (k ++ x) ∙ sym (hash_length second (l ++ y))) (omega arith) e) [
+    elim (running_apart second (linked second k x) xs (linked second l y) ys
+    (hash_length second (k ++ x) ∙ sym (hash_length second (l ++ y))) (omega arith) e) [
       | inr twins ↦ inr (record {
         text = twins.text;
         twin = twins.twin;
@@ -49,7 +53,8 @@ running_apart second k (x ∷ xs) l (y ∷ ys) key len e =
       | inl same ↦ by_text (pointwise eqb (k ++ x) (l ++ y)) refl same.0 same.1
     ]
   where
-    by_text : (b : Bool) → pointwise eqb (k ++ x) (l ++ y) ≡ b → linked second k x ≡ linked second l y → xs ≡ ys → ((k ≡ l) × (x ∷ xs ≡ y ∷ ys)) ⊎ Twins second k (x ∷ xs) l (y ∷ ys)
+    by_text : (b : Bool) → pointwise eqb (k ++ x) (l ++ y) ≡ b → linked second k x ≡ linked second l y → xs ≡ ys
+        → ((k ≡ l) × (x ∷ xs ≡ y ∷ ys)) ⊎ Twins second k (x ∷ xs) l (y ∷ ys)
     by_text true is hashes rest =
         let parts = pieces k l x y key ((bytes_decides (k ++ x) (l ++ y)).0 is) in
         inl (parts.0, λ i. parts.1 i ∷ rest i)
@@ -64,8 +69,18 @@ running_apart second k (x ∷ xs) l (y ∷ ys) key len e =
         })
 
 -- running hashes that are the same are over the same blocks, or there is a collision
-pub same_or_collide : (second : Bool) (key : List ℕ) (xs ys : List (List ℕ)) → length xs ≡ length ys → running second key xs ≡ running second key ys → (xs ≡ ys) ⊎ Collision second key xs ys
+pub same_or_collide : (second : Bool) (key : List ℕ) (xs ys : List (List ℕ)) → length xs ≡ length ys
+    → running second key xs ≡ running second key ys → (xs ≡ ys) ⊎ Collision second key xs ys
 same_or_collide second key xs ys len e = elim (running_apart second key xs key ys refl len e) [
   | inl same ↦ inl same.1
-  | inr twins ↦ inr (record { text = twins.text; twin = twins.twin; of_one = twins.of_one; of_other = twins.of_other; differ = twins.differ; same = twins.same })
+  | inr twins
+      ↦ inr
+      (record {
+        text = twins.text;
+        twin = twins.twin;
+        of_one = twins.of_one;
+        of_other = twins.of_other;
+        differ = twins.differ;
+        same = twins.same;
+      })
 ]

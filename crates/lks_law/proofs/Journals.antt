@@ -1,5 +1,6 @@
 -- What holds of every journal, and in every world.
-use Rattle.std.proofs.Common.{◌≡◌, ◌≢◌, ◌≤◌, ◌+◌, ◌∙◌, ◌⊎◌, inl, inr, ap, sym, subst, ℕ, zero, suc, Bool, true, false, cond, eqb, List, [], ◌∷◌, ◌++◌, length, take, filter, refl, arith}
+use Rattle.std.proofs.Common.{◌≡◌, ◌≢◌, ◌≤◌, ◌+◌, ◌∙◌, ◌⊎◌, inl, inr, ap, sym, subst, ℕ, zero, suc, Bool, true, false}
+use Rattle.std.proofs.Common.{cond, eqb, List, [], ◌∷◌, ◌++◌, length, take, filter, refl, arith}
 use Rattle.std.specs.Prelude.{Option, Some, None, IfSome, Result, Ok, Err, slice_get, option_map, ◌&&◌}
 use Rattle.std.specs.List.{list_all, filter_map, cons_option, range_with_len}
 use Rattle.std.proofs.lemmas.List.{length-map}
@@ -11,7 +12,8 @@ use Rattle.lks_base.specs.declared.events.Envelope.{Envelope}
 use Rattle.lks_base.specs.declared.events.Event.{Event}
 use Rattle.lks_base.specs.declared.events.Event.TheVariants.{Step, Cut, Tick, Lose, Forge, Crash}
 use Rattle.lks_base.specs.declared.events.PeerStep.{PeerStep}
-use Rattle.lks_base.specs.declared.events.PeerStep.TheVariants.{OpenPoll, Widen, Shut, Tally, Nudge, GiveUp, Work, Expire, Check, Tune, Deliver}
+use Rattle.lks_base.specs.declared.events.PeerStep.TheVariants.{OpenPoll, Widen, Shut, Tally, Nudge, GiveUp, Work}
+use Rattle.lks_base.specs.declared.events.PeerStep.TheVariants.{Expire, Check, Tune, Deliver}
 use Rattle.lks_base.specs.declared.messages.Message.{Message}
 use Rattle.lks_base.specs.declared.messages.Message.TheVariants as message
 use Rattle.lks_base.specs.declared.names.Judged.{Judged}
@@ -26,12 +28,16 @@ use Rattle.lks_base.specs.declared.records.Record.{Record}
 use Rattle.lks_base.specs.declared.records.Record.TheVariants.{Deposit}
 use Rattle.lks_law.specs.Circles.{IsCircle, HaveCircles, Samples}
 use Rattle.lks_law.specs.Facts.{Heard, IsHeard, GoesBy, AreInOrder, IsJournalOf, HasJournal, HaveJournals, HasPolls}
-use Rattle.lks_law.specs.Journal.{Opening, said, contents_of, opening_of, is_shut, is_closed, has_asked, unanswered, waiting, openings, opened_numbers}
-use Rattle.lks_law.specs.Polls.{Station, ObeyQuorumRule, limits_in, numbers_in_force, limits_in_force, limits_of, ballot_of, votes, inner_votes, verdict_in}
+use Rattle.lks_law.specs.Journal.{Opening, said_by, contents_of, opening_of, is_shut, is_closed, has_asked}
+use Rattle.lks_law.specs.Journal.{unanswered_request, waiting_requests, openings, opened_numbers}
+use Rattle.lks_law.specs.Polls.{Station, ObeyQuorumRule, limits_in, numbers_in_force, limits_in_force, limits_of}
+use Rattle.lks_law.specs.Polls.{ballot_of, votes, inner_votes, verdict_in}
 use Rattle.lks_law.specs.Reaction.{may_tally}
 use Rattle.lks_law.specs.Safe.{HasEvidence}
 use Rattle.lks_law.specs.Table.{reaction, on_message}
-use Rattle.lks_law.specs.World.{Standing, World, Deed, is_honest, standing_of, deposit_for, deposits, start, got, delivered, own_deed_of, deed_of, peer_at, reaction_at, effect_of, with_records, peers_after, after_step, happens, happen_all, world}
+use Rattle.lks_law.specs.World.{Standing, World, Deed, is_honest, standing_of, deposit_for, deposits, start, got}
+use Rattle.lks_law.specs.World.{delivers, own_deed_of, deed_of, peer_at, reaction_at, effect_of, with_records}
+use Rattle.lks_law.specs.World.{peers_after, after_step, happens, happen_all, world}
 use Rattle.lks_law.specs.Written.{is_deposit}
 use Rattle.lks_law.proofs.Kept.{Kept}
 use Rattle.lks_law.proofs.Openings.{kept_on_open}
@@ -43,27 +49,34 @@ use Rattle.lks_message.proofs.Within.{read_within}
 use Rattle.lks_message.specs.Reading.{decode_of}
 use Rattle.lks_message.specs.Spelling.{IsWithin}
 use Rattle.lks_message.specs.declared.fault.MsgFault.{MsgFault}
-use Rattle.lks_refs.specs.Lists.{IsReferenceList}
-use Rattle.lks_law.proofs.Rows.{KeptBy, kept_on_challenge, kept_on_nominate, kept_on_vote, kept_on_shut, kept_on_tally, kept_on_widen, kept_on_check, kept_on_nudge, tally_parts}
+use Rattle.lks_choice.specs.Lists.{IsReferenceList}
+use Rattle.lks_law.proofs.Rows.{KeptBy, kept_on_challenge, kept_on_nominate, kept_on_vote, kept_on_shut}
+use Rattle.lks_law.proofs.Rows.{kept_on_tally, kept_on_widen, kept_on_check, kept_on_nudge, tally_parts}
 use Rattle.lks_tally.specs.declared.ballots.Verdict.TheVariants as verdict
 use Rattle.lks_tally.proofs.Deciding.{inquorate_votes}
-use Rattle.lks_law.specs.Voting.{named}
+use Rattle.lks_law.specs.Voting.{poll_named}
 use Rattle.lks_law.proofs.VoterAdds.{invitation_adds, proof_adds, work_adds, request_adds, end_adds, tune_adds}
 use Rattle.lks_law.proofs.KeptVoters.{kept_voters}
 
 -- Every reaction.
 
-kept_message : (own : Station) (js : List Record) (tick from : ℕ) (m : Message) (judged : Judged) → Kept own js → KeptBy own js (on_message own js tick from m judged)
+kept_message : (own : Station) (js : List Record) (tick from : ℕ) (m : Message) (judged : Judged) → Kept own js
+    → KeptBy own js (on_message own js tick from m judged)
 kept_message own js tick from (message.PollChallenge n agrees) judged kept = kept_on_challenge own js from n agrees kept
 kept_message own js tick from (message.Nominate n nominees) judged kept = kept_on_nominate own js from n nominees kept
 kept_message own js tick from (message.Vote n hashes proof) judged kept = kept_on_vote own js from n hashes judged kept
 kept_message own js tick from (message.Repair n b bytes) judged kept = kept_on_repair own js from n b bytes kept
-kept_message own js tick from (message.Poll n au) judged kept = kept_voters own js kept _ (invitation_adds own js tick (named from n) au)
-kept_message own js tick from (message.PollProof n nonce kind proof) judged kept = kept_voters own js kept _ (proof_adds own js (named from n) nonce kind judged)
-kept_message own js tick from (message.RepairRequest n b) judged kept = kept_voters own js kept _ (request_adds own js (named from n) b)
-kept_message own js tick from (message.Receipt n) judged kept = kept_voters own js kept _ (end_adds own js (named from n))
+kept_message own js tick from (message.Poll n au) judged kept =
+    kept_voters own js kept _ (invitation_adds own js tick (poll_named from n) au)
+kept_message own js tick from (message.PollProof n nonce kind proof) judged kept =
+    kept_voters own js kept _ (proof_adds own js (poll_named from n) nonce kind judged)
+kept_message own js tick from (message.RepairRequest n b) judged kept =
+    kept_voters own js kept _ (request_adds own js (poll_named from n) b)
+kept_message own js tick from (message.Receipt n) judged kept =
+    kept_voters own js kept _ (end_adds own js (poll_named from n))
 
-pub kept_reaction : (own : Station) (js : List Record) (tick : ℕ) (i : Input) → Kept own js → KeptBy own js (reaction own js tick i)
+pub kept_reaction : (own : Station) (js : List Record) (tick : ℕ) (i : Input) → Kept own js
+    → KeptBy own js (reaction own js tick i)
 unfolding reaction
 kept_reaction own js tick (input.OpenPoll au) kept = kept_on_open own js tick au kept
 kept_reaction own js tick (input.Widen n) kept = kept_on_widen own js n kept
@@ -75,7 +88,8 @@ kept_reaction own js tick input.Check kept = kept_on_check own js tick kept
 kept_reaction own js tick (input.Got from m judged) kept = kept_message own js tick from m judged kept
 kept_reaction own js tick (input.Work q) kept = kept_voters own js kept _ (work_adds own js q)
 kept_reaction own js tick (input.Expire q) kept = kept_voters own js kept _ (end_adds own js q)
-kept_reaction own js tick (input.Tune quorum minority repairs) kept = kept_voters own js kept _ (tune_adds own js quorum minority repairs)
+kept_reaction own js tick (input.Tune quorum minority repairs) kept =
+    kept_voters own js kept _ (tune_adds own js quorum minority repairs)
 
 -- The beginning: deposits alone.
 
@@ -83,7 +97,7 @@ unfoldable pub AreDeposits : List Record → Type 0
 AreDeposits js = list_all is_deposit js ≡ true
 
 deposits_say : (n : ℕ) (js : List Record) → AreDeposits js → poll_of n js ≡ blank
-unfolding AreDeposits opening_of votes is_shut is_closed has_asked unanswered waiting
+unfolding AreDeposits opening_of votes is_shut is_closed has_asked unanswered_request waiting_requests
 deposits_say n [] all = refl
 deposits_say n (Deposit au blocks ∷ js) all = deposits_say n js all
 deposits_say n (r ∷ js) all = absurd cc
@@ -107,7 +121,7 @@ deposit_at (d ∷ js) all i r e = absurd cc
 none_replaced : (own : Station) (js : List Record) → AreDeposits js → HasEvidence own.rules own.id js
 none_replaced own js all i r x at says = absurd (by_record r (deposit_at js all i r at) says)
   where
-    by_record : (r : Record) → is_deposit r ≡ true → (said r).replaced ≡ Some x → ⊥
+    by_record : (r : Record) → is_deposit r ≡ true → (said_by r).replaced ≡ Some x → ⊥
     by_record (Deposit au blocks) is says = absurd cc
     by_record r is says = absurd cc
 
@@ -148,7 +162,8 @@ kept_deposits own js all =
     no_opening : (o : Option Opening) (x : Opening) → o ≡ None → o ≡ Some x → ⊥
     no_opening o x none some = let both : None ≡ Some x = sym none ∙ some in absurd cc
 
-held_is : (au : AuPlan) (copy : Holding) (b : Bool) → list_all is_deposit (cons_option (cond b (Some (Deposit au.id copy.blocks)) None) []) ≡ true
+held_is : (au : AuPlan) (copy : Holding) (b : Bool)
+    → list_all is_deposit (cons_option (cond b (Some (Deposit au.id copy.blocks)) None) []) ≡ true
 held_is au copy true = refl
 held_is au copy false = refl
 
@@ -158,7 +173,9 @@ held_are au [] = refl
 held_are au (copy ∷ copies) = first (eqb copy.au au.id) (held_are au copies)
   where
     first : (b : Bool) → list_all is_deposit (filter_map (deposit_for au) copies) ≡ true
-        → list_all is_deposit (cons_option (cond b (Some (Deposit au.id copy.blocks)) None) (filter_map (deposit_for au) copies)) ≡ true
+        → list_all is_deposit
+        (cons_option (cond b (Some (Deposit au.id copy.blocks)) None) (filter_map (deposit_for au) copies))
+        ≡ true
     first true rest = rest
     first false rest = rest
 
@@ -178,25 +195,32 @@ deposits_have_circles own js all i r at = no_circle own (take i js) r (deposit_a
 
 -- Every journal.
 
-kept_journal : (own : Station) (aus : List AuPlan) (copies : List Holding) (heard : List Heard) (js : List Record) → GoesBy own (deposits aus copies) heard js → Kept own js
-kept_journal own aus copies [] js is = subst (Kept own) (sym is) (kept_deposits own (deposits aus copies) (deposits_are aus copies))
+kept_journal : (own : Station) (aus : List AuPlan) (copies : List Holding) (heard : List Heard) (js : List Record)
+    → GoesBy own (deposits aus copies) heard js → Kept own js
+kept_journal own aus copies [] js is =
+    subst (Kept own) (sym is) (kept_deposits own (deposits aus copies) (deposits_are aus copies))
 kept_journal own aus copies (h ∷ hs) js (before, added, goes, heard, adds, is) =
     let kept = kept_journal own aus copies hs before goes in
-    subst (Kept own) (sym is) (adds_kept own before h.tick h.input added adds (kept_reaction own before h.tick h.input kept) kept)
+    subst (Kept own) (sym is)
+    (adds_kept own before h.tick h.input added adds (kept_reaction own before h.tick h.input kept) kept)
 
-kept_of : (own : Station) (aus : List AuPlan) (copies : List Holding) (tick : ℕ) (js : List Record) → IsJournalOf own (deposits aus copies) tick js → Kept own js
+kept_of : (own : Station) (aus : List AuPlan) (copies : List Holding) (tick : ℕ) (js : List Record)
+    → IsJournalOf own (deposits aus copies) tick js → Kept own js
 kept_of own aus copies tick js is = kept_journal own aus copies is.heard js is.made
 
-circles_of : (own : Station) (aus : List AuPlan) (copies : List Holding) (heard : List Heard) (js : List Record) → IsReferenceList own.id own.refs
+circles_of : (own : Station) (aus : List AuPlan) (copies : List Holding) (heard : List Heard) (js : List Record)
+    → IsReferenceList own.id own.refs
     → GoesBy own (deposits aus copies) heard js → HaveCircles own js
-circles_of own aus copies [] js listed is = subst (HaveCircles own) (sym is) (deposits_have_circles own (deposits aus copies) (deposits_are aus copies))
+circles_of own aus copies [] js listed is =
+    subst (HaveCircles own) (sym is) (deposits_have_circles own (deposits aus copies) (deposits_are aus copies))
 circles_of own aus copies (h ∷ hs) js listed (before, added, goes, heard, adds, is) =
     subst (HaveCircles own) (sym is)
     (circles_more own before added (circles_of own aus copies hs before listed goes)
     (adds_circles own before h.tick h.input added adds (reaction_adds own before h.tick h.input listed) listed))
 
 polls_of : (own : Station) (js : List Record) → Kept own js → HasPolls own js
-polls_of own js kept = record { numbered = kept.rest.in_order; each = λ n. good_poll own js n (kept.good n); alone = kept.rest.alone }
+polls_of own js kept =
+    record { numbered = kept.rest.in_order; each = λ n. good_poll own js n (kept.good n); alone = kept.rest.alone }
 
 -- Every world.
 
@@ -207,24 +231,39 @@ record Extended (id : ℕ) (added : List Record) (ss : List Standing) (place : �
   is : record { own = before.own; journal = before.journal ++ added } ≡ after
 
 -- each peer stands as before, but the one that adds records
-records_at : (id : ℕ) (added : List Record) (ss : List Standing) (place : ℕ) (after : Standing) → slice_get (with_records id added ss) place ≡ Some after
+records_at : (id : ℕ) (added : List Record) (ss : List Standing) (place : ℕ) (after : Standing)
+    → slice_get (with_records id added ss) place ≡ Some after
     → (slice_get ss place ≡ Some after) ⊎ Extended id added ss place after
 unfolding peer_at
 records_at id added [] place after e = absurd cc
 records_at id added (s ∷ ss) place after e = by_id (eqb s.own.id id) refl place e (λ k. records_at id added ss k after)
   where
-    by_id : (b : Bool) → eqb s.own.id id ≡ b → (place : ℕ) → slice_get (cond b (record { own = s.own; journal = s.journal ++ added } ∷ ss) (s ∷ with_records id added ss)) place ≡ Some after
-        → ((k : ℕ) → slice_get (with_records id added ss) k ≡ Some after → (slice_get ss k ≡ Some after) ⊎ Extended id added ss k after)
+    by_id : (b : Bool) → eqb s.own.id id ≡ b → (place : ℕ)
+        → slice_get
+        (cond b (record { own = s.own; journal = s.journal ++ added } ∷ ss) (s ∷ with_records id added ss))
+        place
+        ≡ Some after
+        → ((k : ℕ) → slice_get (with_records id added ss) k ≡ Some after
+        → (slice_get ss k ≡ Some after) ⊎ Extended id added ss k after)
         → (slice_get (s ∷ ss) place ≡ Some after) ⊎ Extended id added (s ∷ ss) place after
-    by_id true here zero e rest = inr (record { before = s; there = refl; found = ap (λ b. cond b (Some s) (peer_at id ss)) here; is = cc })
+    by_id true here zero e rest =
+        inr (record { before = s; there = refl; found = ap (λ b. cond b (Some s) (peer_at id ss)) here; is = cc })
     by_id true here (suc k) e rest = inl e
     by_id false here zero e rest = inl e
     by_id false here (suc k) e rest = elim (rest k e) [
       | inl same ↦ inl same
-      | inr more ↦ inr (record { before = more.before; there = more.there; found = ap (λ b. cond b (Some s) (peer_at id ss)) here ∙ more.found; is = more.is })
+      | inr more
+          ↦ inr
+          (record {
+            before = more.before;
+            there = more.there;
+            found = ap (λ b. cond b (Some s) (peer_at id ss)) here ∙ more.found;
+            is = more.is;
+          })
     ]
 
-journal_more : (plan : Plan) (tick : ℕ) (p : Option PeerPlan) (s : Standing) (i : Input) → IsHeard i → HasJournal plan tick p s
+journal_more : (plan : Plan) (tick : ℕ) (p : Option PeerPlan) (s : Standing) (i : Input) → IsHeard i
+    → HasJournal plan tick p s
     → HasJournal plan tick p (record { own = s.own; journal = s.journal ++ (reaction s.own s.journal tick i).records })
 journal_more plan tick None s i heard has = has
 journal_more plan tick (Some p) s i heard has = (
@@ -236,21 +275,32 @@ journal_more plan tick (Some p) s i heard has = (
   },
 )
 
-pub ordered_later : (tick later : ℕ) (heard : List Heard) → tick ≤ later → AreInOrder tick heard → AreInOrder later heard
+pub ordered_later : (tick later : ℕ) (heard : List Heard) → tick ≤ later → AreInOrder tick heard
+    → AreInOrder later heard
 ordered_later tick later [] le order = tt
 ordered_later tick later (h ∷ hs) le order = let first = order.0 in (omega (arith, le, first), order.1)
 
-journal_later : (plan : Plan) (tick by : ℕ) (p : Option PeerPlan) (s : Standing) → HasJournal plan tick p s → HasJournal plan (tick + by) p s
+journal_later : (plan : Plan) (tick by : ℕ) (p : Option PeerPlan) (s : Standing) → HasJournal plan tick p s
+    → HasJournal plan (tick + by) p s
 journal_later plan tick by None s has = has
-journal_later plan tick by (Some p) s has =
-    (has.0, record { heard = has.1.heard; in_order = ordered_later tick (tick + by) has.1.heard (omega arith) has.1.in_order; made = has.1.made })
+journal_later plan tick by (Some p) s has = (
+  has.0,
+  record {
+    heard = has.1.heard;
+    in_order = ordered_later tick (tick + by) has.1.heard (omega arith) has.1.in_order;
+    made = has.1.made;
+  },
+)
 
 abbrev PeersHave : Plan → ℕ → List Standing → Type 0
-PeersHave plan tick peers = (place : ℕ) (s : Standing) → slice_get peers place ≡ Some s → HasJournal plan tick (slice_get (filter is_honest plan.peers) place) s
+PeersHave plan tick peers =
+    (place : ℕ) (s : Standing) → slice_get peers place ≡ Some s
+    → HasJournal plan tick (slice_get (filter is_honest plan.peers) place) s
 
 -- what a deed is to its peer is heard in its limits
 
-said_heard : (e : Envelope) (judged : Judged) (read : Result Message MsgFault) → ((m : Message) → read ≡ Ok m → IsWithin m)
+said_heard : (e : Envelope) (judged : Judged) (read : Result Message MsgFault)
+    → ((m : Message) → read ≡ Ok m → IsWithin m)
     → IfSome (got e judged (elim read [ Ok m ↦ Some m | Err fault ↦ None ])) (λ d. IsHeard d.input)
 said_heard e judged (Ok m) within = within m refl
 said_heard e judged (Err fault) within = tt
@@ -259,7 +309,7 @@ pub deed_heard : (bag : List Envelope) (s : PeerStep) → IfSome (deed_of bag s)
 unfolding deed_of own_deed_of
 deed_heard bag (Deliver envelope judged) = by_envelope (slice_get bag envelope)
   where
-    by_envelope : (e : Option Envelope) → IfSome (delivered e judged) (λ d. IsHeard d.input)
+    by_envelope : (e : Option Envelope) → IfSome (delivers e judged) (λ d. IsHeard d.input)
     by_envelope None = tt
     by_envelope (Some e) = said_heard e judged (decode_of e.bytes) (read_within e.bytes)
 deed_heard bag (OpenPoll peer au) = tt
@@ -273,15 +323,23 @@ deed_heard bag (Expire peer poll) = tt
 deed_heard bag (Check peer) = tt
 deed_heard bag (Tune peer quorum minority repairs) = tt
 
-deed_keeps : (plan : Plan) (tick : ℕ) (peers : List Standing) (d : Option Deed) → IfSome d (λ d. IsHeard d.input) → PeersHave plan tick peers → PeersHave plan tick (peers_after tick peers d)
+deed_keeps : (plan : Plan) (tick : ℕ) (peers : List Standing) (d : Option Deed) → IfSome d (λ d. IsHeard d.input)
+    → PeersHave plan tick peers → PeersHave plan tick (peers_after tick peers d)
 deed_keeps plan tick peers None heard has place s at = has place s at
-deed_keeps plan tick peers (Some d) heard has place s at = elim (records_at d.peer (effect_of tick peers (Some d)).records peers place s at) [
-  | inl same ↦ has place s same
-  | inr more ↦
-      subst (HasJournal plan tick (slice_get (filter is_honest plan.peers) place)) more.is
-      (subst (λ o. HasJournal plan tick (slice_get (filter is_honest plan.peers) place) (record { own = more.before.own; journal = more.before.journal ++ (reaction_at tick o d.input).records })) (sym more.found)
-      (journal_more plan tick (slice_get (filter is_honest plan.peers) place) more.before d.input heard (has place more.before more.there)))
-]
+deed_keeps plan tick peers (Some d) heard has place s at =
+    elim (records_at d.peer (effect_of tick peers (Some d)).records peers place s at) [
+      | inl same ↦ has place s same
+      | inr more ↦
+          subst (HasJournal plan tick (slice_get (filter is_honest plan.peers) place)) more.is
+          (subst
+          (λ o. HasJournal plan tick (slice_get (filter is_honest plan.peers) place)
+          (record {
+            own = more.before.own;
+            journal = more.before.journal ++ (reaction_at tick o d.input).records;
+          })) (sym more.found)
+          (journal_more plan tick (slice_get (filter is_honest plan.peers) place) more.before d.input heard
+          (has place more.before more.there)))
+    ]
 
 -- no peer comes or goes
 
@@ -290,7 +348,8 @@ records_count id added [] = refl
 records_count id added (s ∷ ss) = by_id (eqb s.own.id id) (records_count id added ss)
   where
     by_id : (b : Bool) → length (with_records id added ss) ≡ length ss
-        → length (cond b (record { own = s.own; journal = s.journal ++ added } ∷ ss) (s ∷ with_records id added ss)) ≡ suc (length ss)
+        → length (cond b (record { own = s.own; journal = s.journal ++ added } ∷ ss) (s ∷ with_records id added ss))
+        ≡ suc (length ss)
     by_id true rest = refl
     by_id false rest = ap suc rest
 
@@ -308,17 +367,21 @@ step_keeps plan w s has = record {
 happens_keeps : (plan : Plan) (w : World) (e : Event) → HaveJournals plan w → HaveJournals plan (happens w e)
 unfolding happens after_step
 happens_keeps plan w (Step s) has = step_keeps plan w s has
-happens_keeps plan w (Cut s true) has = let kept = step_keeps plan w s has in record { count = kept.count; each = kept.each }
+happens_keeps plan w (Cut s true) has =
+    let kept = step_keeps plan w s has in record { count = kept.count; each = kept.each }
 happens_keeps plan w (Cut s false) has = has
 happens_keeps plan w (Tick by) has = record {
   count = has.count;
-  each = λ place s at. journal_later plan w.tick by (slice_get (filter is_honest plan.peers) place) s (has.each place s at);
+  each =
+      λ place s at. journal_later plan w.tick by (slice_get (filter is_honest plan.peers) place) s
+      (has.each place s at);
 }
 happens_keeps plan w (Lose envelope) has = has
 happens_keeps plan w (Forge from to bytes) has = record { count = has.count; each = has.each }
 happens_keeps plan w (Crash peer) has = has
 
-all_keep : (plan : Plan) (w : World) (history : List Event) → HaveJournals plan w → HaveJournals plan (happen_all w history)
+all_keep : (plan : Plan) (w : World) (history : List Event) → HaveJournals plan w
+    → HaveJournals plan (happen_all w history)
 all_keep plan w [] has = has
 all_keep plan w (e ∷ es) has = all_keep plan (happens w e) es (happens_keeps plan w e has)
 
@@ -326,7 +389,9 @@ start_has : (plan : Plan) → HaveJournals plan (start plan)
 unfolding start
 start_has plan = record {
   count = length-map (filter is_honest plan.peers) (standing_of plan);
-  each = λ place s at. standing s (slice_get (filter is_honest plan.peers) place) (sym (slice_get-map (standing_of plan) (filter is_honest plan.peers) place) ∙ at);
+  each =
+      λ place s at. standing s (slice_get (filter is_honest plan.peers) place)
+      (sym (slice_get-map (standing_of plan) (filter is_honest plan.peers) place) ∙ at);
 }
   where
     standing : (s : Standing) (p : Option PeerPlan) → option_map (standing_of plan) p ≡ Some s → HasJournal plan 0 p s
@@ -339,30 +404,41 @@ pub journals_are_own : (plan : Plan) (history : List Event) → HaveJournals pla
 unfolding world
 journals_are_own plan history = all_keep plan (start plan) history (start_has plan)
 
-kept_at : (plan : Plan) (tick : ℕ) (p : Option PeerPlan) (s : Standing) → HasJournal plan tick p s → Kept s.own s.journal
+kept_at : (plan : Plan) (tick : ℕ) (p : Option PeerPlan) (s : Standing) → HasJournal plan tick p s
+    → Kept s.own s.journal
 kept_at plan tick None s has = absurd has
 kept_at plan tick (Some p) s has = kept_of s.own plan.aus p.copies tick s.journal has.1
 
-pub kept_in : (plan : Plan) (history : List Event) (place : ℕ) (s : Standing) → slice_get (world plan history).peers place ≡ Some s → Kept s.own s.journal
-kept_in plan history place s at = kept_at plan (world plan history).tick (slice_get (filter is_honest plan.peers) place) s ((journals_are_own plan history).each place s at)
+pub kept_in : (plan : Plan) (history : List Event) (place : ℕ) (s : Standing)
+    → slice_get (world plan history).peers place ≡ Some s → Kept s.own s.journal
+kept_in plan history place s at =
+    kept_at plan (world plan history).tick (slice_get (filter is_honest plan.peers) place) s
+    ((journals_are_own plan history).each place s at)
 
-pub polls_keep : (plan : Plan) (history : List Event) (place : ℕ) (s : Standing) → slice_get (world plan history).peers place ≡ Some s → HasPolls s.own s.journal
+pub polls_keep : (plan : Plan) (history : List Event) (place : ℕ) (s : Standing)
+    → slice_get (world plan history).peers place ≡ Some s → HasPolls s.own s.journal
 polls_keep plan history place s at = polls_of s.own s.journal (kept_in plan history place s at)
 
-pub rules_are : (plan : Plan) (history : List Event) (place : ℕ) (s : Standing) → slice_get (world plan history).peers place ≡ Some s → s.own.rules ≡ plan.rules
-rules_are plan history place s at = by_peer (slice_get (filter is_honest plan.peers) place) ((journals_are_own plan history).each place s at)
+pub rules_are : (plan : Plan) (history : List Event) (place : ℕ) (s : Standing)
+    → slice_get (world plan history).peers place ≡ Some s → s.own.rules ≡ plan.rules
+rules_are plan history place s at =
+    by_peer (slice_get (filter is_honest plan.peers) place) ((journals_are_own plan history).each place s at)
   where
     by_peer : (p : Option PeerPlan) → HasJournal plan (world plan history).tick p s → s.own.rules ≡ plan.rules
     by_peer None has = absurd has
     by_peer (Some p) has = ap (λ (own : Station). own.rules) has.0
 
-pub evidence_in : (plan : Plan) (history : List Event) (place : ℕ) (s : Standing) → ObeyQuorumRule (limits_in plan.rules) → slice_get (world plan history).peers place ≡ Some s
+pub evidence_in : (plan : Plan) (history : List Event) (place : ℕ) (s : Standing)
+    → ObeyQuorumRule (limits_in plan.rules) → slice_get (world plan history).peers place ≡ Some s
     → HasEvidence s.own.rules s.own.id s.journal
 evidence_in plan history place s rule at =
-    (kept_in plan history place s at).rest.evidence (subst (λ rules. ObeyQuorumRule (limits_in rules)) (sym (rules_are plan history place s at)) rule)
+    (kept_in plan history place s at).rest.evidence
+    (subst (λ rules. ObeyQuorumRule (limits_in rules)) (sym (rules_are plan history place s at)) rule)
 
-pub tallies_have_quorum : (plan : Plan) (history : List Event) (place : ℕ) (s : Standing) → slice_get (world plan history).peers place ≡ Some s
-    → (n : ℕ) (opening : Opening) → may_tally n s.journal ≡ true → opening_of n s.journal ≡ Some opening → verdict_in s.own n opening s.journal ≢ verdict.Inquorate
+pub tallies_have_quorum : (plan : Plan) (history : List Event) (place : ℕ) (s : Standing)
+    → slice_get (world plan history).peers place ≡ Some s
+    → (n : ℕ) (opening : Opening) → may_tally n s.journal ≡ true → opening_of n s.journal ≡ Some opening
+    → verdict_in s.own n opening s.journal ≢ verdict.Inquorate
 unfolding verdict_in
 tallies_have_quorum plan history place s at n opening may opened lacks =
     let state = (polls_keep plan history place s at).each n in
@@ -370,27 +446,33 @@ tallies_have_quorum plan history place s at n opening may opened lacks =
     let limits = limits_of s.own.rules opening in
     let copy = contents_of opening.au s.journal in
     let enough = state.quorum opening opened parts.runs parts.over in
-    let few = inquorate_votes limits.minority (ballot_of s.own n opening (length copy)) (inner_votes n opening.inner s.journal) copy limits.quorum lacks in
+    let few = inquorate_votes limits.minority (ballot_of s.own n opening (length copy))
+    (inner_votes n opening.inner s.journal) copy limits.quorum lacks in
     absurd (omega (arith, enough, few))
 
 -- Every reference list and every circle.
 
-good_at : (plan : Plan) → plan_fault plan ≡ None → (place : ℕ) (p : PeerPlan) → slice_get (filter is_honest plan.peers) place ≡ Some p → IsReferenceList p.id p.refs
+good_at : (plan : Plan) → plan_fault plan ≡ None → (place : ℕ) (p : PeerPlan)
+    → slice_get (filter is_honest plan.peers) place ≡ Some p → IsReferenceList p.id p.refs
 good_at plan good place p at =
     let all = All-filter is_honest (λ q. IsReferenceList q.id q.refs) plan.peers (peers_listed plan good) in
     subst (λ q. IsReferenceList q.id q.refs) (get_or_from_slice_get (filter is_honest plan.peers) place p p at)
     (all place p (slice_get_within (filter is_honest plan.peers) place p at))
 
-sampled_at : (plan : Plan) → plan_fault plan ≡ None → (place tick : ℕ) (o : Option PeerPlan) → slice_get (filter is_honest plan.peers) place ≡ o → (s : Standing) → HasJournal plan tick o s
+sampled_at : (plan : Plan) → plan_fault plan ≡ None → (place tick : ℕ) (o : Option PeerPlan)
+    → slice_get (filter is_honest plan.peers) place ≡ o → (s : Standing) → HasJournal plan tick o s
     → Samples s
 sampled_at plan good place tick None at s has = absurd has
 sampled_at plan good place tick (Some p) at s has =
-    let listed : IsReferenceList s.own.id s.own.refs = subst (λ own. IsReferenceList own.id own.refs) (sym has.0) (good_at plan good place p at) in
+    let listed : IsReferenceList s.own.id s.own.refs = subst (λ own. IsReferenceList own.id own.refs) (sym has.0)
+    (good_at plan good place p at) in
     record {
       list = list_kept s.own s.journal listed;
       circles = circles_of s.own plan.aus p.copies has.1.heard s.journal listed has.1.made;
     }
 
-pub circles_are_samples : (plan : Plan) → plan_fault plan ≡ None → (history : List Event) (place : ℕ) (s : Standing) → slice_get (world plan history).peers place ≡ Some s → Samples s
+pub circles_are_samples : (plan : Plan) → plan_fault plan ≡ None → (history : List Event) (place : ℕ) (s : Standing)
+    → slice_get (world plan history).peers place ≡ Some s → Samples s
 circles_are_samples plan good history place s at =
-    sampled_at plan good place (world plan history).tick (slice_get (filter is_honest plan.peers) place) refl s ((journals_are_own plan history).each place s at)
+    sampled_at plan good place (world plan history).tick (slice_get (filter is_honest plan.peers) place) refl s
+    ((journals_are_own plan history).each place s at)

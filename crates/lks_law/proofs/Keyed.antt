@@ -1,5 +1,6 @@
 -- Lists of things that go by the names of polls: what is found, changed, taken out and put in, by name.
-use Rattle.std.proofs.Common.{◌≡◌, ◌∙◌, ap, sym, subst, Bool, true, false, cond, eqb, List, [], ◌∷◌, ◌++◌, length, refl, arith}
+use Rattle.std.proofs.Common.{◌≡◌, ◌∙◌, ap, sym, subst, Bool, true, false, cond, eqb, List, [], ◌∷◌, ◌++◌, length}
+use Rattle.std.proofs.Common.{refl, arith}
 use Rattle.std.specs.Prelude.{Option, Some, None, is_some, option_map, map, filter, find, not, ◌+◌}
 use Rattle.std.proofs.lemmas.Bool.{eqb-true, eq-eqb, and_parts, and_from}
 use Rattle.lks_base.specs.declared.names.PollName.{PollName}
@@ -14,7 +15,9 @@ same_poll p q e =
     λ i. record { poller = eqb-true p.poller q.poller parts.0 i; number = eqb-true p.number q.number parts.1 i }
 
 pub is_itself : (q : PollName) → is_poll q q ≡ true
-is_itself q = and_from (eqb q.poller q.poller) (eqb q.number q.number) (eq-eqb q.poller q.poller refl) (eq-eqb q.number q.number refl)
+is_itself q =
+    and_from (eqb q.poller q.poller) (eqb q.number q.number) (eq-eqb q.poller q.poller refl)
+    (eq-eqb q.number q.number refl)
 
 pub is_swapped : (p q : PollName) → is_poll p q ≡ is_poll q p
 is_swapped p q = by_test (is_poll p q) (is_poll q p) refl refl
@@ -58,12 +61,14 @@ module _ {X : Type 0} (name : X → PollName) where
   Apart [] = Unit {0}
   Apart (x ∷ xs) = (at (name x) xs ≡ None) × Apart xs
 
-  pub at_push : (q : PollName) (xs : List X) (x : X) → at q (xs ++ x ∷ []) ≡ first (at q xs) (cond (is_poll (name x) q) (Some x) None)
+  pub at_push : (q : PollName) (xs : List X) (x : X)
+      → at q (xs ++ x ∷ []) ≡ first (at q xs) (cond (is_poll (name x) q) (Some x) None)
   at_push q [] x = refl
   at_push q (y ∷ xs) x = here (is_poll (name y) q) (at_push q xs x)
     where
       here : (b : Bool) → at q (xs ++ x ∷ []) ≡ first (at q xs) (cond (is_poll (name x) q) (Some x) None)
-          → cond b (Some y) (at q (xs ++ x ∷ [])) ≡ first (cond b (Some y) (at q xs)) (cond (is_poll (name x) q) (Some x) None)
+          → cond b (Some y) (at q (xs ++ x ∷ []))
+          ≡ first (cond b (Some y) (at q xs)) (cond (is_poll (name x) q) (Some x) None)
       here true e = refl
       here false e = e
 
@@ -72,11 +77,13 @@ module _ {X : Type 0} (name : X → PollName) where
   at_named q [] x e = absurd cc
   at_named q (y ∷ xs) x e = here (is_poll (name y) q) refl e (λ e. at_named q xs x e)
     where
-      here : (b : Bool) → is_poll (name y) q ≡ b → cond b (Some y) (at q xs) ≡ Some x → (at q xs ≡ Some x → name x ≡ q) → name x ≡ q
+      here : (b : Bool) → is_poll (name y) q ≡ b → cond b (Some y) (at q xs) ≡ Some x
+          → (at q xs ≡ Some x → name x ≡ q) → name x ≡ q
       here true is e later = let same : y ≡ x = cc in subst (λ z. name z ≡ q) same (same_poll (name y) q is)
       here false is e later = later e
 
-  not_first : (x : X) (q : PollName) (xs : List X) (b : Bool) → cond b (Some x) (at q xs) ≡ None → (b ≡ false) × (at q xs ≡ None)
+  not_first : (x : X) (q : PollName) (xs : List X) (b : Bool) → cond b (Some x) (at q xs) ≡ None
+      → (b ≡ false) × (at q xs ≡ None)
   not_first x q xs true e = absurd cc
   not_first x q xs false e = (refl, e)
 
@@ -86,17 +93,20 @@ module _ {X : Type 0} (name : X → PollName) where
   absent_without p [] e = refl
   absent_without p (x ∷ xs) e =
       let parts = not_first x p xs (is_poll (name x) p) e in
-      off (is_poll (name x) p) xs (x ∷ without_first (goes_by p) xs) parts.0 ∙ ap (λ ys. x ∷ ys) (absent_without p xs parts.1)
+      off (is_poll (name x) p) xs (x ∷ without_first (goes_by p) xs) parts.0
+      ∙ ap (λ ys. x ∷ ys) (absent_without p xs parts.1)
 
   pub gone : (p : PollName) (xs : List X) → Apart xs → at p (without_first (goes_by p) xs) ≡ None
   gone p [] apart = refl
   gone p (x ∷ xs) apart = by_test (is_poll (name x) p) refl (gone p xs apart.1)
     where
-      by_test : (b : Bool) → is_poll (name x) p ≡ b → at p (without_first (goes_by p) xs) ≡ None → at p (cond b xs (x ∷ without_first (goes_by p) xs)) ≡ None
+      by_test : (b : Bool) → is_poll (name x) p ≡ b → at p (without_first (goes_by p) xs) ≡ None
+          → at p (cond b xs (x ∷ without_first (goes_by p) xs)) ≡ None
       by_test true is rest = ap (λ q. at q xs) (sym (same_poll (name x) p is)) ∙ apart.0
       by_test false is rest = off (is_poll (name x) p) (Some x) (at p (without_first (goes_by p) xs)) is ∙ rest
 
-  pub others_without : (p q : PollName) (xs : List X) → is_poll p q ≡ false → at q (without_first (goes_by p) xs) ≡ at q xs
+  pub others_without : (p q : PollName) (xs : List X) → is_poll p q ≡ false
+      → at q (without_first (goes_by p) xs) ≡ at q xs
   others_without p q [] other = refl
   others_without p q (x ∷ xs) other = by_test (is_poll (name x) p) refl (others_without p q xs other)
     where
@@ -107,11 +117,15 @@ module _ {X : Type 0} (name : X → PollName) where
 
   absent_still : (p q : PollName) (xs : List X) → at q xs ≡ None → at q (without_first (goes_by p) xs) ≡ None
   absent_still p q [] e = refl
-  absent_still p q (x ∷ xs) e = let parts = not_first x q xs (is_poll (name x) q) e in by_test (is_poll (name x) p) parts.0 parts.1 (absent_still p q xs parts.1)
+  absent_still p q (x ∷ xs) e =
+      let parts = not_first x q xs (is_poll (name x) q) e in
+      by_test (is_poll (name x) p) parts.0 parts.1 (absent_still p q xs parts.1)
     where
-      by_test : (b : Bool) → is_poll (name x) q ≡ false → at q xs ≡ None → at q (without_first (goes_by p) xs) ≡ None → at q (cond b xs (x ∷ without_first (goes_by p) xs)) ≡ None
+      by_test : (b : Bool) → is_poll (name x) q ≡ false → at q xs ≡ None
+          → at q (without_first (goes_by p) xs) ≡ None → at q (cond b xs (x ∷ without_first (goes_by p) xs)) ≡ None
       by_test true other before rest = before
-      by_test false other before rest = off (is_poll (name x) q) (Some x) (at q (without_first (goes_by p) xs)) other ∙ rest
+      by_test false other before rest =
+          off (is_poll (name x) q) (Some x) (at q (without_first (goes_by p) xs)) other ∙ rest
 
   pub apart_without : (p : PollName) (xs : List X) → Apart xs → Apart (without_first (goes_by p) xs)
   apart_without p [] apart = tt
@@ -121,34 +135,44 @@ module _ {X : Type 0} (name : X → PollName) where
       by_test true rest = apart.1
       by_test false rest = (absent_still p (name x) xs apart.0, rest)
 
-  pub one_less : (p : PollName) (xs : List X) → is_some (at p xs) ≡ true → length xs ≡ length (without_first (goes_by p) xs) + 1
+  pub one_less : (p : PollName) (xs : List X) → is_some (at p xs) ≡ true
+      → length xs ≡ length (without_first (goes_by p) xs) + 1
   one_less p [] e = absurd cc
   one_less p (x ∷ xs) e = by_test (is_poll (name x) p) e (λ e. one_less p xs e)
     where
-      by_test : (b : Bool) → is_some (cond b (Some x) (at p xs)) ≡ true → (is_some (at p xs) ≡ true → length xs ≡ length (without_first (goes_by p) xs) + 1)
+      by_test : (b : Bool) → is_some (cond b (Some x) (at p xs)) ≡ true
+          → (is_some (at p xs) ≡ true → length xs ≡ length (without_first (goes_by p) xs) + 1)
           → length (x ∷ xs) ≡ length (cond b xs (x ∷ without_first (goes_by p) xs)) + 1
       by_test true e rest = omega arith
       by_test false e rest = let less = rest e in omega (arith, less)
 
-  names_without : (p : PollName) (xs : List X) → at p xs ≡ None → filter (λ q. not (is_poll q p)) (map name xs) ≡ map name xs
+  names_without : (p : PollName) (xs : List X) → at p xs ≡ None
+      → filter (λ q. not (is_poll q p)) (map name xs) ≡ map name xs
   names_without p [] e = refl
   names_without p (x ∷ xs) e =
       let parts = not_first x p xs (is_poll (name x) p) e in
-      ap (λ b. cond (not b) (name x ∷ filter (λ q. not (is_poll q p)) (map name xs)) (filter (λ q. not (is_poll q p)) (map name xs))) parts.0
+      ap
+      (λ b. cond (not b) (name x ∷ filter (λ q. not (is_poll q p)) (map name xs))
+      (filter (λ q. not (is_poll q p)) (map name xs))) parts.0
       ∙ ap (λ qs. name x ∷ qs) (names_without p xs parts.1)
 
-  pub names_left : (p : PollName) (xs : List X) → Apart xs → map name (without_first (goes_by p) xs) ≡ filter (λ q. not (is_poll q p)) (map name xs)
+  pub names_left : (p : PollName) (xs : List X) → Apart xs
+      → map name (without_first (goes_by p) xs) ≡ filter (λ q. not (is_poll q p)) (map name xs)
   names_left p [] apart = refl
   names_left p (x ∷ xs) apart = by_test (is_poll (name x) p) refl (names_left p xs apart.1)
     where
-      by_test : (b : Bool) → is_poll (name x) p ≡ b → map name (without_first (goes_by p) xs) ≡ filter (λ q. not (is_poll q p)) (map name xs)
-          → map name (cond b xs (x ∷ without_first (goes_by p) xs)) ≡ cond (not b) (name x ∷ filter (λ q. not (is_poll q p)) (map name xs)) (filter (λ q. not (is_poll q p)) (map name xs))
+      by_test : (b : Bool) → is_poll (name x) p ≡ b
+          → map name (without_first (goes_by p) xs) ≡ filter (λ q. not (is_poll q p)) (map name xs)
+          → map name (cond b xs (x ∷ without_first (goes_by p) xs))
+          ≡ cond (not b) (name x ∷ filter (λ q. not (is_poll q p)) (map name xs))
+          (filter (λ q. not (is_poll q p)) (map name xs))
       by_test true is rest = sym (names_without p xs (ap (λ q. at q xs) (sym (same_poll (name x) p is)) ∙ apart.0))
       by_test false is rest = ap (λ qs. name x ∷ qs) rest
 
   -- Putting one in.
 
-  absent_push : (q : PollName) (xs : List X) (x : X) → at q xs ≡ None → is_poll (name x) q ≡ false → at q (xs ++ x ∷ []) ≡ None
+  absent_push : (q : PollName) (xs : List X) (x : X) → at q xs ≡ None → is_poll (name x) q ≡ false
+      → at q (xs ++ x ∷ []) ≡ None
   absent_push q xs x e other = at_push q xs x ∙ (λ i. first (e i) (off (is_poll (name x) q) (Some x) None other i))
 
   pub apart_push : (xs : List X) (x : X) → Apart xs → at (name x) xs ≡ None → Apart (xs ++ x ∷ [])
@@ -168,7 +192,8 @@ module _ {X : Type 0} (name : X → PollName) where
   -- Changing one.
 
   module _ (f : X → X) (keeps : (x : X) → name (f x) ≡ name x) where
-    pub at_changed : (p q : PollName) (xs : List X) → at q (changed_first (goes_by p) f xs) ≡ cond (is_poll p q) (option_map f (at q xs)) (at q xs)
+    pub at_changed : (p q : PollName) (xs : List X)
+        → at q (changed_first (goes_by p) f xs) ≡ cond (is_poll p q) (option_map f (at q xs)) (at q xs)
     at_changed p q [] = both (is_poll p q)
       where
         both : (b : Bool) → None ≡ cond {A = Option X} b None None
@@ -176,8 +201,11 @@ module _ {X : Type 0} (name : X → PollName) where
         both false = refl
     at_changed p q (x ∷ xs) = by_tests (is_poll (name x) p) refl (is_poll p q) refl (at_changed p q xs)
       where
-        by_tests : (b : Bool) → is_poll (name x) p ≡ b → (c : Bool) → is_poll p q ≡ c → at q (changed_first (goes_by p) f xs) ≡ cond c (option_map f (at q xs)) (at q xs)
-            → at q (cond b (f x ∷ xs) (x ∷ changed_first (goes_by p) f xs)) ≡ cond c (option_map f (cond (is_poll (name x) q) (Some x) (at q xs))) (cond (is_poll (name x) q) (Some x) (at q xs))
+        by_tests : (b : Bool) → is_poll (name x) p ≡ b → (c : Bool) → is_poll p q ≡ c
+            → at q (changed_first (goes_by p) f xs) ≡ cond c (option_map f (at q xs)) (at q xs)
+            → at q (cond b (f x ∷ xs) (x ∷ changed_first (goes_by p) f xs))
+            ≡ cond c (option_map f (cond (is_poll (name x) q) (Some x) (at q xs)))
+            (cond (is_poll (name x) q) (Some x) (at q xs))
         by_tests true is true same rest =
             let mine : is_poll (name x) q ≡ true = isnt_other (name x) p q is ∙ same in
             on (is_poll (name (f x)) q) (Some (f x)) (at q xs) (ap (λ n. is_poll n q) (keeps x) ∙ mine)
@@ -196,7 +224,8 @@ module _ {X : Type 0} (name : X → PollName) where
     names_changed p [] = refl
     names_changed p (x ∷ xs) = by_test (is_poll (name x) p) (names_changed p xs)
       where
-        by_test : (b : Bool) → map name (changed_first (goes_by p) f xs) ≡ map name xs → map name (cond b (f x ∷ xs) (x ∷ changed_first (goes_by p) f xs)) ≡ name x ∷ map name xs
+        by_test : (b : Bool) → map name (changed_first (goes_by p) f xs) ≡ map name xs
+            → map name (cond b (f x ∷ xs) (x ∷ changed_first (goes_by p) f xs)) ≡ name x ∷ map name xs
         by_test true rest = ap (λ n. n ∷ map name xs) (keeps x)
         by_test false rest = ap (λ qs. name x ∷ qs) rest
 
@@ -204,12 +233,14 @@ module _ {X : Type 0} (name : X → PollName) where
     length_changed p [] = refl
     length_changed p (x ∷ xs) = by_test (is_poll (name x) p) (length_changed p xs)
       where
-        by_test : (b : Bool) → length (changed_first (goes_by p) f xs) ≡ length xs → length (cond b (f x ∷ xs) (x ∷ changed_first (goes_by p) f xs)) ≡ length (x ∷ xs)
+        by_test : (b : Bool) → length (changed_first (goes_by p) f xs) ≡ length xs
+            → length (cond b (f x ∷ xs) (x ∷ changed_first (goes_by p) f xs)) ≡ length (x ∷ xs)
         by_test true rest = refl
         by_test false rest = omega (arith, rest)
 
     absent_changed : (p q : PollName) (xs : List X) → at q xs ≡ None → at q (changed_first (goes_by p) f xs) ≡ None
-    absent_changed p q xs e = at_changed p q xs ∙ (λ i. cond (is_poll p q) (option_map f (e i)) (e i)) ∙ both (is_poll p q)
+    absent_changed p q xs e =
+        at_changed p q xs ∙ (λ i. cond (is_poll p q) (option_map f (e i)) (e i)) ∙ both (is_poll p q)
       where
         both : (b : Bool) → cond {A = Option X} b None None ≡ None
         both true = refl
@@ -219,6 +250,7 @@ module _ {X : Type 0} (name : X → PollName) where
     apart_changed p [] apart = tt
     apart_changed p (x ∷ xs) apart = by_test (is_poll (name x) p) (apart_changed p xs apart.1)
       where
-        by_test : (b : Bool) → Apart (changed_first (goes_by p) f xs) → Apart (cond b (f x ∷ xs) (x ∷ changed_first (goes_by p) f xs))
+        by_test : (b : Bool) → Apart (changed_first (goes_by p) f xs)
+            → Apart (cond b (f x ∷ xs) (x ∷ changed_first (goes_by p) f xs))
         by_test true rest = (ap (λ n. at n xs) (keeps x) ∙ apart.0, apart.1)
         by_test false rest = (absent_changed p (name x) xs apart.0, rest)

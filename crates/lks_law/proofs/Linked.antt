@@ -4,12 +4,14 @@ use Rattle.lks_base.specs.declared.events.Envelope.{Envelope}
 use Rattle.lks_base.specs.declared.limits.TheConstants.{MOST_BLOCK_BYTES}
 use Rattle.lks_base.specs.declared.messages.Message.{Message}
 use Rattle.lks_base.specs.declared.records.Record.{Record}
-use Rattle.lks_base.specs.declared.records.Record.TheVariants.{Deposit, PollOpened, Nominated, OuterOpened, VoteIn, Shut, Asked, RepairBad, Replaced, Closed, Overdue, Joined, Committed, Voted, Served, Ended, Tuned}
+use Rattle.lks_base.specs.declared.records.Record.TheVariants.{Deposit, PollOpened, Nominated, OuterOpened, VoteIn}
+use Rattle.lks_base.specs.declared.records.Record.TheVariants.{Shut, Asked, RepairBad, Replaced, Closed, Overdue}
+use Rattle.lks_base.specs.declared.records.Record.TheVariants.{Joined, Committed, Voted, Served, Ended, Tuned}
 use Rattle.lks_law.specs.Fitting.{AreSmall}
 use Rattle.lks_law.specs.Journal.{openings, opening_of, contents_of}
 use Rattle.lks_law.specs.Polls.{Station}
 use Rattle.lks_law.specs.Sessions.{join_of, commitment_of, hashes_of_vote, version_now}
-use Rattle.lks_law.specs.Voting.{named}
+use Rattle.lks_law.specs.Voting.{poll_named}
 use Rattle.lks_law.specs.World.{Standing, peer_at}
 use Rattle.lks_message.specs.Reading.{decode_of}
 use Rattle.lks_message.specs.Spelling.{IsInLimits}
@@ -40,11 +42,12 @@ pub record IsFrom (peers : List Standing) (e : Envelope) : Type 0 where
 -- what is true of a record of a journal
 abbrev pub Fact : List Standing → Station → List Record → Record → Type 0
 Fact peers own js (Deposit au blocks) = (au < 2 ^ 16) × (length blocks ≤ 512) × AreSmall blocks
-Fact peers own js (PollOpened n au nonce inner tick limits kind) = (n ≤ openings js) × (length nonce ≡ 32) × (au < 2 ^ 16)
+Fact peers own js (PollOpened n au nonce inner tick limits kind) =
+    (n ≤ openings js) × (length nonce ≡ 32) × (au < 2 ^ 16)
 Fact peers own js (Nominated n voter nominees) = Unit {0}
 Fact peers own js (OuterOpened n outer) = Unit {0}
 Fact peers own js (VoteIn n v hashes) =
-    Any (λ t. hashes_of_vote (named own.id n) t.journal ≡ Some hashes) (peer_at v peers)
+    Any (λ t. hashes_of_vote (poll_named own.id n) t.journal ≡ Some hashes) (peer_at v peers)
     × Has (λ o. length hashes ≡ length (contents_of o.au js)) (opening_of n js)
 Fact peers own js (Shut n) = Unit {0}
 Fact peers own js (Asked n b v) = Has (λ o. b < length (contents_of o.au js)) (opening_of n js)
@@ -52,7 +55,8 @@ Fact peers own js (RepairBad n b v) = Unit {0}
 Fact peers own js (Replaced n au b bytes) = (b < length (contents_of au js)) × (length bytes ≤ MOST_BLOCK_BYTES)
 Fact peers own js (Closed n outcome tick) = Unit {0}
 Fact peers own js (Overdue au tick) = Unit {0}
-Fact peers own js (Joined q au tick low repairs) = (q.number < 2 ^ 32) × Any (λ t. Has (λ o. o.au ≡ au) (opening_of q.number t.journal)) (peer_at q.poller peers)
+Fact peers own js (Joined q au tick low repairs) =
+    (q.number < 2 ^ 32) × Any (λ t. Has (λ o. o.au ≡ au) (opening_of q.number t.journal)) (peer_at q.poller peers)
 Fact peers own js (Committed q nonce version kind) =
     Has (λ j. version ≤ version_now j.au js) (join_of q js)
     × Any (λ t. Has (λ o. (o.nonce ≡ nonce) × (o.kind ≡ kind)) (opening_of q.number t.journal)) (peer_at q.poller peers)

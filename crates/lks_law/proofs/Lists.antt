@@ -7,12 +7,15 @@ use Rattle.lks_law.specs.Fitting.{Where}
 use Rattle.lks_law.proofs.Linked.{Each}
 
 -- what a filter lets pass stands in the list
-pub filter_at : {X : Type 0} (test : X → Bool) (xs : List X) (k : ℕ) (x : X) → slice_get (filter test xs) k ≡ Some x → (i : ℕ) × (slice_get xs i ≡ Some x) × (test x ≡ true)
+pub filter_at : {X : Type 0} (test : X → Bool) (xs : List X) (k : ℕ) (x : X) → slice_get (filter test xs) k ≡ Some x
+    → (i : ℕ) × (slice_get xs i ≡ Some x) × (test x ≡ true)
 filter_at test [] k x at = absurd cc
 filter_at {X = X} test (y ∷ ys) k x at = by_test (test y) refl k at (filter_at test ys)
   where
     by_test : (b : Bool) → test y ≡ b → (k : ℕ) → slice_get (cond b (y ∷ filter test ys) (filter test ys)) k ≡ Some x
-        → ((k : ℕ) (x : X) → slice_get (filter test ys) k ≡ Some x → (i : ℕ) × (slice_get ys i ≡ Some x) × (test x ≡ true)) → (i : ℕ) × (slice_get (y ∷ ys) i ≡ Some x) × (test x ≡ true)
+        → ((k : ℕ) (x : X) → slice_get (filter test ys) k ≡ Some x
+        → (i : ℕ) × (slice_get ys i ≡ Some x) × (test x ≡ true))
+        → (i : ℕ) × (slice_get (y ∷ ys) i ≡ Some x) × (test x ≡ true)
     by_test true is zero at later = let same : y ≡ x = cc in (0, at, ap test (sym same) ∙ is)
     by_test true is (suc k) at later = let r = later k x at in (suc r.0, r.1, r.2)
     by_test false is k at later = let r = later k x at in (suc r.0, r.1, r.2)
@@ -26,7 +29,8 @@ each_filter P test (x ∷ xs) all = by_test (test x) (each_filter P test xs all.
     by_test false rest = rest
 
 -- what is true at each place
-pub each_at : {X : Type 0} (P : X → Type 0) (xs : List X) → ((i : ℕ) (x : X) → slice_get xs i ≡ Some x → P x) → Each P xs
+pub each_at : {X : Type 0} (P : X → Type 0) (xs : List X) → ((i : ℕ) (x : X) → slice_get xs i ≡ Some x → P x)
+    → Each P xs
 each_at P [] at = tt
 each_at P (x ∷ xs) at = (at 0 x refl, each_at P xs (λ i y there. at (suc i) y there))
 
@@ -40,7 +44,8 @@ each_both P Q (x ∷ xs) p q = ((p.0, q.0), each_both P Q xs p.1 q.1)
 
 -- Lists of which what is true of each stays so.
 
-pub without_any : {X : Type 0} (P : X → Type 0) (test : X → Bool) (xs : List X) → All P xs → All P (without_first test xs)
+pub without_any : {X : Type 0} (P : X → Type 0) (test : X → Bool) (xs : List X) → All P xs
+    → All P (without_first test xs)
 without_any P test [] all = all
 without_any P test (x ∷ xs) all = here (test x) (without_any P test xs (All-tail P x xs all))
   where
@@ -48,7 +53,8 @@ without_any P test (x ∷ xs) all = here (test x) (without_any P test xs (All-ta
     here true rest = All-tail P x xs all
     here false rest = All-cons P x (without_first test xs) (All-head P x xs all) rest
 
-pub changed_any : {X : Type 0} (P : X → Type 0) (test : X → Bool) (f : X → X) (xs : List X) → ((x : X) → P x → P (f x)) → All P xs → All P (changed_first test f xs)
+pub changed_any : {X : Type 0} (P : X → Type 0) (test : X → Bool) (f : X → X) (xs : List X)
+    → ((x : X) → P x → P (f x)) → All P xs → All P (changed_first test f xs)
 changed_any P test f [] keeps all = all
 changed_any P test f (x ∷ xs) keeps all = here (test x) (changed_any P test f xs keeps (All-tail P x xs all))
   where

@@ -1,16 +1,21 @@
 -- All that a journal says of one poll, and what one record more makes of it.
-use Rattle.std.proofs.Common.{◌≡◌, ◌≢◌, ◌≤◌, ◌<◌, ◌∙◌, ap, sym, subst, ℕ, Bool, true, false, cond, eqb, List, [], ◌∷◌, ◌++◌, length, get_or, filter, refl, arith}
+use Rattle.std.proofs.Common.{◌≡◌, ◌≢◌, ◌≤◌, ◌<◌, ◌∙◌, ap, sym, subst, ℕ, Bool, true, false, cond, eqb, List, [], ◌∷◌}
+use Rattle.std.proofs.Common.{◌++◌, length, get_or, filter, refl, arith}
 use Rattle.std.specs.Prelude.{Option, Some, None, option_to_list}
 use Rattle.std.proofs.lemmas.Bool.{both_ways, cond_both, eqb-true}
 use Rattle.std.proofs.lemmas.List.Quantifiers.{all_pairs_push}
 use Rattle.lks_base.specs.Checking.{has_member}
 use Rattle.lks_base.specs.declared.records.Record.{Record}
-use Rattle.lks_base.specs.declared.records.Record.TheVariants.{PollOpened, VoteIn, Shut, Asked, RepairBad, Replaced, Closed}
-use Rattle.lks_law.specs.Journal.{Opening, Request, contents_of, opening_in, opening_of, vote_in, shuts, is_shut, closes, is_closed, asks_any, has_asked, unanswered_after, unanswered, waiting_after, waiting}
+use Rattle.lks_base.specs.declared.records.Record.TheVariants.{PollOpened, VoteIn, Shut, Asked, RepairBad, Replaced}
+use Rattle.lks_base.specs.declared.records.Record.TheVariants.{Closed}
+use Rattle.lks_law.specs.Journal.{Opening, Request, contents_of, opening_in, opening_of, vote_in, shuts, is_shut}
+use Rattle.lks_law.specs.Journal.{closes, is_closed, asks_any, has_asked, unanswered_after, unanswered_request}
+use Rattle.lks_law.specs.Journal.{waiting_after, waiting_requests}
 use Rattle.lks_law.specs.Polls.{Station, limits_of, ballot_of, votes, inner_votes, said_at}
 use Rattle.lks_tally.specs.Distinct.{AreDistinct}
 use Rattle.lks_law.specs.Facts.{IsPollOf}
-use Rattle.lks_law.proofs.Grown.{first_opening, votes_after, opening_more, votes_more, shut_more, closed_more, asked_more, unanswered_more, waiting_more, first_stays}
+use Rattle.lks_law.proofs.Grown.{first_opening, votes_after, opening_more, votes_more, shut_more, closed_more}
+use Rattle.lks_law.proofs.Grown.{asked_more, unanswered_more, waiting_more, first_stays}
 use Rattle.lks_tally.specs.declared.ballots.At.TheVariants as at
 use Rattle.lks_tally.specs.declared.ballots.Vote.{Vote}
 use Rattle.lks_tally.specs.Counting.{verdict_at}
@@ -32,8 +37,8 @@ poll_of n js =
       shut = is_shut n js;
       closed = is_closed n js;
       asked = has_asked n js;
-      request = unanswered n js;
-      waiting = waiting n js;
+      request = unanswered_request n js;
+      waiting = waiting_requests n js;
     }
 
 -- of a poll that wasn't opened
@@ -61,7 +66,8 @@ answered p = record p { request = None; waiting = [] }
 abbrev pub poll_after : ℕ → Poll → Record → Poll
 poll_after n p (PollOpened number au nonce inner tick limits kind) =
     cond (eqb number n) (opened_as (record { au = au; nonce = nonce; inner = inner; limits = limits; kind = kind }) p) p
-poll_after n p (VoteIn number voter hashes) = cond (eqb number n) (voted_by (record { voter = voter; hashes = hashes }) p) p
+poll_after n p (VoteIn number voter hashes) =
+    cond (eqb number n) (voted_by (record { voter = voter; hashes = hashes }) p) p
 poll_after n p (Shut number) = cond (eqb number n) (ended p) p
 poll_after n p (Asked number block voter) = cond (eqb number n) (asking (record { block = block; voter = voter }) p) p
 poll_after n p (RepairBad number block voter) = cond (eqb number n) (answered p) p
@@ -96,35 +102,51 @@ parts_more n js r = λ i. record {
 same_poll : (p : Poll) → record p { opening = first_opening p.opening None } ≡ p
 same_poll p = λ i. record p { opening = first_stays p.opening i }
 
-opening_by : (p : Poll) (o : Opening) (b : Bool) → record p { opening = first_opening p.opening (cond b (Some o) None) } ≡ cond b (opened_as o p) p
+opening_by : (p : Poll) (o : Opening) (b : Bool)
+    → record p { opening = first_opening p.opening (cond b (Some o) None) } ≡ cond b (opened_as o p) p
 opening_by p o true = refl
 opening_by p o false = same_poll p
 
-vote_by : (p : Poll) (v : Vote) (b : Bool) → record p { opening = first_opening p.opening None; votes = votes_after p.votes (cond b (Some v) None) } ≡ cond b (voted_by v p) p
+vote_by : (p : Poll) (v : Vote) (b : Bool)
+    → record p { opening = first_opening p.opening None; votes = votes_after p.votes (cond b (Some v) None) }
+    ≡ cond b (voted_by v p) p
 vote_by p v true = same_poll (voted_by v p)
 vote_by p v false = same_poll p
 
-shut_by : (p : Poll) (b : Bool) → record p { opening = first_opening p.opening None; shut = cond b true p.shut } ≡ cond b (ended p) p
+shut_by : (p : Poll) (b : Bool)
+    → record p { opening = first_opening p.opening None; shut = cond b true p.shut } ≡ cond b (ended p) p
 shut_by p true = same_poll (ended p)
 shut_by p false = same_poll p
 
-closed_by : (p : Poll) (b : Bool) → record p { opening = first_opening p.opening None; closed = cond b true p.closed } ≡ cond b (done p) p
+closed_by : (p : Poll) (b : Bool)
+    → record p { opening = first_opening p.opening None; closed = cond b true p.closed } ≡ cond b (done p) p
 closed_by p true = same_poll (done p)
 closed_by p false = same_poll p
 
 asked_by : (p : Poll) (r : Request) (b : Bool)
-    → record p { opening = first_opening p.opening None; asked = cond b true p.asked; request = cond b (Some r) p.request; waiting = cond b (p.waiting ++ r ∷ []) p.waiting }
+    → record p {
+      opening = first_opening p.opening None;
+      asked = cond b true p.asked;
+      request = cond b (Some r) p.request;
+      waiting = cond b (p.waiting ++ r ∷ []) p.waiting;
+    }
     ≡ cond b (asking r p) p
 asked_by p r true = same_poll (asking r p)
 asked_by p r false = same_poll p
 
 answered_by : (p : Poll) (b : Bool)
-    → record p { opening = first_opening p.opening None; request = cond b None p.request; waiting = cond b [] p.waiting } ≡ cond b (answered p) p
+    → record p {
+      opening = first_opening p.opening None;
+      request = cond b None p.request;
+      waiting = cond b [] p.waiting;
+    }
+    ≡ cond b (answered p) p
 answered_by p true = same_poll (answered p)
 answered_by p false = same_poll p
 
 parts_are : (n : ℕ) (p : Poll) (r : Record) → parts_after n p r ≡ poll_after n p r
-parts_are n p (PollOpened number au nonce inner tick limits kind) = opening_by p (record { au = au; nonce = nonce; inner = inner; limits = limits; kind = kind }) (eqb number n)
+parts_are n p (PollOpened number au nonce inner tick limits kind) =
+    opening_by p (record { au = au; nonce = nonce; inner = inner; limits = limits; kind = kind }) (eqb number n)
 parts_are n p (VoteIn number voter hashes) = vote_by p (record { voter = voter; hashes = hashes }) (eqb number n)
 parts_are n p (Shut number) = shut_by p (eqb number n)
 parts_are n p (Asked number block voter) = asked_by p (record { block = block; voter = voter }) (eqb number n)
@@ -144,18 +166,23 @@ inner_of o p = filter (λ v. has_member o.inner v.voter) p.votes
 pub record Good (own : Station) (n : ℕ) (copy : ℕ → List (List ℕ)) (p : Poll) : Type 0 where
   pub unopened : p.opening ≡ None → p ≡ blank
   pub distinct : AreDistinct p.votes
-  pub quorum : (o : Opening) → p.opening ≡ Some o → p.closed ≡ false → p.shut ≡ true → (limits_of own.rules o).quorum ≤ length (inner_of o p)
-  pub asked : (o : Opening) → p.opening ≡ Some o → p.asked ≡ true → (p.shut ≡ true) × ((limits_of own.rules o).quorum ≤ length (inner_of o p))
+  pub quorum : (o : Opening) → p.opening ≡ Some o → p.closed ≡ false → p.shut ≡ true
+      → (limits_of own.rules o).quorum ≤ length (inner_of o p)
+  pub asked : (o : Opening) → p.opening ≡ Some o → p.asked ≡ true
+      → (p.shut ≡ true) × ((limits_of own.rules o).quorum ≤ length (inner_of o p))
   pub single : p.waiting ≡ option_to_list p.request
   pub runs : (r : Request) → p.request ≡ Some r → (p.closed ≡ false) × (p.asked ≡ true)
   pub lost : (o : Opening) (r : Request) → p.opening ≡ Some o → p.request ≡ Some r
-      → verdict_at (limits_of own.rules o).minority (ballot_of own n o (length (copy o.au))) (inner_of o p) (copy o.au) r.block ≡ at.Loss
+      → verdict_at (limits_of own.rules o).minority (ballot_of own n o (length (copy o.au))) (inner_of o p)
+      (copy o.au) r.block
+      ≡ at.Loss
 
 abbrev pub copies_in : List Record → ℕ → List (List ℕ)
 copies_in js au = contents_of au js
 
 -- in the journal's own words
-pub good_poll : (own : Station) (js : List Record) (n : ℕ) → Good own n (copies_in js) (poll_of n js) → IsPollOf own js n
+pub good_poll : (own : Station) (js : List Record) (n : ℕ) → Good own n (copies_in js) (poll_of n js)
+    → IsPollOf own js n
 unfolding inner_votes said_at
 good_poll own js n good = record {
   distinct = good.distinct;
@@ -168,8 +195,10 @@ good_poll own js n good = record {
 
 module _ (own : Station) (n : ℕ) (copy : ℕ → List (List ℕ)) where
   -- a record of another poll changes nothing
-  pub if_own : (m : ℕ) (p changed : Poll) → Good own n copy p → (m ≡ n → Good own n copy changed) → Good own n copy (cond (eqb m n) changed p)
-  if_own m p changed good same = cond_both (eqb m n) changed p (Good own n copy) (λ e. same (eqb-true m n e)) (λ e. good)
+  pub if_own : (m : ℕ) (p changed : Poll) → Good own n copy p → (m ≡ n → Good own n copy changed)
+      → Good own n copy (cond (eqb m n) changed p)
+  if_own m p changed good same =
+      cond_both (eqb m n) changed p (Good own n copy) (λ e. same (eqb-true m n e)) (λ e. good)
 
   -- the poll is opened
   first_opened : (o : Opening) → Good own n copy (opened_as o blank)
@@ -186,7 +215,9 @@ module _ (own : Station) (n : ℕ) (copy : ℕ → List (List ℕ)) where
   pub good_opened : (o : Opening) (p : Poll) → Good own n copy p → p.opening ≡ None → Good own n copy (opened_as o p)
   good_opened o p good new = subst (λ q. Good own n copy (opened_as o q)) (sym (good.unopened new)) (first_opened o)
 
-  pub good_voted : (o : Opening) (v : Vote) (p : Poll) → Good own n copy p → p.opening ≡ Some o → p.shut ≡ false → ((k : ℕ) (d : Vote) → k < length p.votes → (get_or p.votes k d).voter ≢ v.voter) → Good own n copy (voted_by v p)
+  pub good_voted : (o : Opening) (v : Vote) (p : Poll) → Good own n copy p → p.opening ≡ Some o → p.shut ≡ false
+      → ((k : ℕ) (d : Vote) → k < length p.votes → (get_or p.votes k d).voter ≢ v.voter)
+      → Good own n copy (voted_by v p)
   good_voted o v p good opened voting new =
       let quiet : p.asked ≡ true → ⊥ = λ a. both_ways p.shut voting (good.asked o opened a).0 in
       record {
@@ -199,11 +230,14 @@ module _ (own : Station) (n : ℕ) (copy : ℕ → List (List ℕ)) where
         lost = λ x r e waits. absurd (quiet (good.runs r waits).1);
       }
 
-  pub good_ended : (o : Opening) (p : Poll) → Good own n copy p → p.opening ≡ Some o → p.shut ≡ false → (limits_of own.rules o).quorum ≤ length (inner_of o p) → Good own n copy (ended p)
+  pub good_ended : (o : Opening) (p : Poll) → Good own n copy p → p.opening ≡ Some o → p.shut ≡ false
+      → (limits_of own.rules o).quorum ≤ length (inner_of o p) → Good own n copy (ended p)
   good_ended o p good opened voting enough = record {
     unopened = λ e. absurd cc;
     distinct = good.distinct;
-    quorum = λ x e running over. let same : o ≡ x = cc in subst (λ y. (limits_of own.rules y).quorum ≤ length (inner_of y p)) same enough;
+    quorum =
+        λ x e running over. let same : o ≡ x = cc in
+        subst (λ y. (limits_of own.rules y).quorum ≤ length (inner_of y p)) same enough;
     asked = λ x e asked. (refl, (good.asked x e asked).1);
     single = good.single;
     runs = good.runs;
@@ -211,7 +245,8 @@ module _ (own : Station) (n : ℕ) (copy : ℕ → List (List ℕ)) where
   }
 
   -- the poll ends without its quorum
-  pub good_given_up : (o : Opening) (p : Poll) → Good own n copy p → p.opening ≡ Some o → p.shut ≡ false → Good own n copy (done (ended p))
+  pub good_given_up : (o : Opening) (p : Poll) → Good own n copy p → p.opening ≡ Some o → p.shut ≡ false
+      → Good own n copy (done (ended p))
   good_given_up o p good opened voting =
       let quiet : p.asked ≡ true → ⊥ = λ a. both_ways p.shut voting (good.asked o opened a).0 in
       record {
@@ -224,7 +259,8 @@ module _ (own : Station) (n : ℕ) (copy : ℕ → List (List ℕ)) where
         lost = λ x r e waits. absurd (quiet (good.runs r waits).1);
       }
 
-  pub good_done : (o : Opening) (p : Poll) → Good own n copy p → p.opening ≡ Some o → p.request ≡ None → Good own n copy (done p)
+  pub good_done : (o : Opening) (p : Poll) → Good own n copy p → p.opening ≡ Some o → p.request ≡ None
+      → Good own n copy (done p)
   good_done o p good opened free = record {
     unopened = λ e. absurd cc;
     distinct = good.distinct;
@@ -235,22 +271,33 @@ module _ (own : Station) (n : ℕ) (copy : ℕ → List (List ℕ)) where
     lost = λ x r e waits. absurd cc;
   }
 
-  pub good_asking : (o : Opening) (r : Request) (p : Poll) → Good own n copy p → p.opening ≡ Some o → p.request ≡ None → p.closed ≡ false → p.shut ≡ true
+  pub good_asking : (o : Opening) (r : Request) (p : Poll) → Good own n copy p → p.opening ≡ Some o
+      → p.request ≡ None → p.closed ≡ false → p.shut ≡ true
       → (limits_of own.rules o).quorum ≤ length (inner_of o p)
-      → verdict_at (limits_of own.rules o).minority (ballot_of own n o (length (copy o.au))) (inner_of o p) (copy o.au) r.block ≡ at.Loss
+      → verdict_at (limits_of own.rules o).minority (ballot_of own n o (length (copy o.au))) (inner_of o p)
+      (copy o.au) r.block
+      ≡ at.Loss
       → Good own n copy (asking r p)
   good_asking o r p good opened free running over enough lost = record {
     unopened = λ e. absurd cc;
     distinct = good.distinct;
     quorum = good.quorum;
-    asked = λ x e asked. let same : o ≡ x = cc in (over, subst (λ y. (limits_of own.rules y).quorum ≤ length (inner_of y p)) same enough);
+    asked =
+        λ x e asked. let same : o ≡ x = cc in
+        (over, subst (λ y. (limits_of own.rules y).quorum ≤ length (inner_of y p)) same enough);
     single = ap (λ rs. rs ++ r ∷ []) (good.single ∙ ap option_to_list free);
     runs = λ s waits. (running, refl);
     lost = λ x s e waits.
         let same : o ≡ x = cc in
         let request : r ≡ s = cc in
-        subst (λ y. verdict_at (limits_of own.rules y).minority (ballot_of own n y (length (copy y.au))) (inner_of y p) (copy y.au) s.block ≡ at.Loss) same
-        (subst (λ t. verdict_at (limits_of own.rules o).minority (ballot_of own n o (length (copy o.au))) (inner_of o p) (copy o.au) t.block ≡ at.Loss) request lost);
+        subst
+        (λ y. verdict_at (limits_of own.rules y).minority (ballot_of own n y (length (copy y.au)))
+        (inner_of y p) (copy y.au) s.block
+        ≡ at.Loss) same
+        (subst
+        (λ t. verdict_at (limits_of own.rules o).minority (ballot_of own n o (length (copy o.au)))
+        (inner_of o p) (copy o.au) t.block
+        ≡ at.Loss) request lost);
   }
 
   pub good_answered : (o : Opening) (p : Poll) → Good own n copy p → p.opening ≡ Some o → Good own n copy (answered p)
@@ -266,7 +313,8 @@ module _ (own : Station) (n : ℕ) (copy : ℕ → List (List ℕ)) where
 
   -- other contents of AUs for which the poll doesn't wait
   pub good_copies : (other : ℕ → List (List ℕ)) (p : Poll) → Good own n copy p
-      → ((o : Opening) (r : Request) → p.opening ≡ Some o → p.request ≡ Some r → other o.au ≡ copy o.au) → Good own n other p
+      → ((o : Opening) (r : Request) → p.opening ≡ Some o → p.request ≡ Some r → other o.au ≡ copy o.au)
+      → Good own n other p
   good_copies other p good same = record {
     unopened = good.unopened;
     distinct = good.distinct;
@@ -274,5 +322,9 @@ module _ (own : Station) (n : ℕ) (copy : ℕ → List (List ℕ)) where
     asked = good.asked;
     single = good.single;
     runs = good.runs;
-    lost = λ o r e waits. ap (λ blocks. verdict_at (limits_of own.rules o).minority (ballot_of own n o (length blocks)) (inner_of o p) blocks r.block) (same o r e waits) ∙ good.lost o r e waits;
+    lost =
+        λ o r e waits. ap
+        (λ blocks. verdict_at (limits_of own.rules o).minority (ballot_of own n o (length blocks))
+        (inner_of o p) blocks r.block) (same o r e waits)
+        ∙ good.lost o r e waits;
   }

@@ -17,4 +17,5 @@ range_parts a zero n =
 range_parts a (suc m) n =
     let more : suc m + n ≡ suc (m + n) = omega arith in
     let at : a + 1 + m ≡ a + suc m = omega arith in
-    ap (range_with_len a) more ∙ ap (λ xs. a ∷ xs) (range_parts (a + 1) m n ∙ ap (λ b. range_with_len (a + 1) m ++ range_with_len b n) at)
+    ap (range_with_len a) more
+    ∙ ap (λ xs. a ∷ xs) (range_parts (a + 1) m n ∙ ap (λ b. range_with_len (a + 1) m ++ range_with_len b n) at)

@@ -1,5 +1,6 @@
 -- What votes over versions restore, of plain lists.
-use Rattle.std.proofs.Common.{◌≡◌, ◌≤◌, ◌<◌, ◌+◌, ◌∙◌, ◌⊎◌, inl, inr, ap, sym, ℕ, Bool, true, false, cond, eqb, List, [], ◌∷◌, length, take, filter, refl, arith}
+use Rattle.std.proofs.Common.{◌≡◌, ◌≤◌, ◌<◌, ◌+◌, ◌∙◌, ◌⊎◌, inl, inr, ap, sym, ℕ, Bool, true, false, cond, eqb, List}
+use Rattle.std.proofs.Common.{[], ◌∷◌, length, take, filter, refl, arith}
 use Rattle.std.specs.Prelude.{Option, Some, slice_get, ◌||◌, count_by}
 use Rattle.std.specs.List.{list_any}
 use Rattle.std.proofs.lemmas.Bool.{eq-eqb}
@@ -27,7 +28,8 @@ filter_head true v vs = omega arith
 filter_head false v vs = omega arith
 
 -- fewer pass the one test where it follows that they pass the other
-pub filter_few : (h a : Vote → Bool) (vs : List Vote) → Each (λ v. h v ≡ true → a v ≡ true) vs → length (filter h vs) ≤ count_by a vs
+pub filter_few : (h a : Vote → Bool) (vs : List Vote) → Each (λ v. h v ≡ true → a v ≡ true) vs
+    → length (filter h vs) ≤ count_by a vs
 filter_few h a [] each = omega arith
 filter_few h a (v ∷ vs) each =
     let rest = filter_few h a vs each.1 in
@@ -35,7 +37,9 @@ filter_few h a (v ∷ vs) each =
     let step : count_by a (v ∷ vs) ≡ cond (a v) 1 0 + count_by a vs = sum_by-cons (λ x. cond (a x) 1 0) v vs in
     by_tests (h v) (a v) each.0 rest head step
   where
-    by_tests : (x y : Bool) → (x ≡ true → y ≡ true) → length (filter h vs) ≤ count_by a vs → length (filter h (v ∷ vs)) ≡ cond x 1 0 + length (filter h vs) → count_by a (v ∷ vs) ≡ cond y 1 0 + count_by a vs → length (filter h (v ∷ vs)) ≤ count_by a (v ∷ vs)
+    by_tests : (x y : Bool) → (x ≡ true → y ≡ true) → length (filter h vs) ≤ count_by a vs
+        → length (filter h (v ∷ vs)) ≡ cond x 1 0 + length (filter h vs)
+        → count_by a (v ∷ vs) ≡ cond y 1 0 + count_by a vs → length (filter h (v ∷ vs)) ≤ count_by a (v ∷ vs)
     by_tests true true f rest head step = omega (arith, rest, head, step)
     by_tests true false f rest head step = absurd (let both = f refl in cc)
     by_tests false true f rest head step = omega (arith, rest, head, step)
@@ -48,15 +52,20 @@ record Both (P : Vote → Type 0) (h a : Vote → Bool) : Type 0 where
   agreed : a vote ≡ true
 
 -- one passes both tests, or the two counts are few
-both_pass : (P : Vote → Type 0) (h a : Vote → Bool) (vs : List Vote) → Each P vs → Both P h a ⊎ (length (filter h vs) + count_by a vs ≤ length vs)
+both_pass : (P : Vote → Type 0) (h a : Vote → Bool) (vs : List Vote) → Each P vs
+    → Both P h a ⊎ (length (filter h vs) + count_by a vs ≤ length vs)
 both_pass P h a [] each = inr (omega arith)
 both_pass P h a (v ∷ vs) each =
-    by_tests (h v) (a v) refl refl (both_pass P h a vs each.1) (filter_head (h v) v (filter h vs)) (sum_by-cons (λ x. cond (a x) 1 0) v vs)
+    by_tests (h v) (a v) refl refl (both_pass P h a vs each.1) (filter_head (h v) v (filter h vs))
+    (sum_by-cons (λ x. cond (a x) 1 0) v vs)
   where
-    by_tests : (x y : Bool) → h v ≡ x → a v ≡ y → Both P h a ⊎ (length (filter h vs) + count_by a vs ≤ length vs) → length (filter h (v ∷ vs)) ≡ cond x 1 0 + length (filter h vs) → count_by a (v ∷ vs) ≡ cond y 1 0 + count_by a vs
+    by_tests : (x y : Bool) → h v ≡ x → a v ≡ y → Both P h a ⊎ (length (filter h vs) + count_by a vs ≤ length vs)
+        → length (filter h (v ∷ vs)) ≡ cond x 1 0 + length (filter h vs)
+        → count_by a (v ∷ vs) ≡ cond y 1 0 + count_by a vs
         → Both P h a ⊎ (length (filter h (v ∷ vs)) + count_by a (v ∷ vs) ≤ length (v ∷ vs))
     by_tests x y is_x is_y (inl found) head step = inl found
-    by_tests true true is_x is_y (inr few) head step = inl (record { vote = v; is = each.0; held = is_x; agreed = is_y })
+    by_tests true true is_x is_y (inr few) head step =
+        inl (record { vote = v; is = each.0; held = is_x; agreed = is_y })
     by_tests true false is_x is_y (inr few) head step = inr (omega (arith, few, head, step))
     by_tests false true is_x is_y (inr few) head step = inr (omega (arith, few, head, step))
     by_tests false false is_x is_y (inr few) head step = inr (omega (arith, few, head, step))
@@ -66,7 +75,9 @@ each_there : (vs : List Vote) → Each (λ v. list_any (λ (u : Vote). eqb u.vot
 each_there [] = tt
 each_there (v ∷ vs) = (
   ap (λ b. b || list_any (λ (u : Vote). eqb u.voter v.voter) vs) (eq-eqb v.voter v.voter refl),
-  each_map (λ w. list_any (λ (u : Vote). eqb u.voter w.voter) vs ≡ true) (λ w. list_any (λ (u : Vote). eqb u.voter w.voter) (v ∷ vs) ≡ true) vs (λ w e. either (eqb v.voter w.voter) _ e) (each_there vs),
+  each_map (λ w. list_any (λ (u : Vote). eqb u.voter w.voter) vs ≡ true)
+      (λ w. list_any (λ (u : Vote). eqb u.voter w.voter) (v ∷ vs) ≡ true) vs
+      (λ w e. either (eqb v.voter w.voter) _ e) (each_there vs),
 )
   where
     either : (a b : Bool) → b ≡ true → (a || b) ≡ true
@@ -77,35 +88,48 @@ pub some_is : {X : Type 0} (o : Option X) (x y : X) → o ≡ Some x → o ≡ S
 some_is o x y e f = let both : Some x ≡ Some y = sym e ∙ f in cc
 
 -- this vote is over a version with these first blocks
-pub record HeldBy (q : Ballot) (b : ℕ) (good : List (List ℕ)) (Names : Vote → List (List ℕ) → Type 0) (v : Vote) : Type 0 where
+pub record HeldBy (q : Ballot) (b : ℕ) (good : List (List ℕ)) (Names : Vote → List (List ℕ) → Type 0)
+    (v : Vote) : Type 0 where
   pub version : List (List ℕ)
   pub names : Names v version
   pub hashes : v.hashes ≡ hashes_of (is_second q.kind) (key_for q v.voter) version
   pub whole : length version ≡ q.count
   pub front_is : take (b + 1) version ≡ take (b + 1) good
 
-record CollidesIn (q : Ballot) (new : List (List ℕ)) (b : ℕ) (good : List (List ℕ)) (Names : Vote → List (List ℕ) → Type 0) (votes : List Vote) (held : Vote → Bool) : Type 0 where
+record CollidesIn (q : Ballot) (new : List (List ℕ)) (b : ℕ) (good : List (List ℕ))
+    (Names : Vote → List (List ℕ) → Type 0) (votes : List Vote) (held : Vote → Bool) : Type 0 where
   pub vote : Vote
   pub there : list_any (λ (u : Vote). eqb u.voter vote.voter) votes ≡ true
   pub holds : held vote ≡ true
   pub by : HeldBy q b good Names vote
   pub collision : Collision (is_second q.kind) (key_for q vote.voter) (take (b + 1) new) (take (b + 1) by.version)
 
-restores_or_collides : (q : Ballot) (votes : List Vote) (new good : List (List ℕ)) (b minority : ℕ) (Names : Vote → List (List ℕ) → Type 0) (held : Vote → Bool) → b < length new → length new ≡ q.count → Each (λ v. held v ≡ true → HeldBy q b good Names v) votes
-    → against_at q votes new b ≤ minority → minority < length (filter held votes) → (take (b + 1) new ≡ take (b + 1) good) ⊎ CollidesIn q new b good Names votes held
+restores_or_collides : (q : Ballot) (votes : List Vote) (new good : List (List ℕ)) (b minority : ℕ)
+    (Names : Vote → List (List ℕ) → Type 0) (held : Vote → Bool)
+    → b < length new → length new ≡ q.count → Each (λ v. held v ≡ true → HeldBy q b good Names v) votes
+    → against_at q votes new b ≤ minority → minority < length (filter held votes)
+    → (take (b + 1) new ≡ take (b + 1) good) ⊎ CollidesIn q new b good Names votes held
 restores_or_collides q votes new good b minority Names held inside count each few many =
-    elim (both_pass (λ v. (held v ≡ true → HeldBy q b good Names v) × (list_any (λ (u : Vote). eqb u.voter v.voter) votes ≡ true)) held (agrees q new b) votes (each_both (λ v. held v ≡ true → HeldBy q b good Names v) _ votes each (each_there votes))) [
+    elim (both_pass
+    (λ v. (held v ≡ true → HeldBy q b good Names v)
+    × (list_any (λ (u : Vote). eqb u.voter v.voter) votes ≡ true)) held (agrees q new b) votes
+    (each_both (λ v. held v ≡ true → HeldBy q b good Names v) _ votes each (each_there votes))) [
       | inr less ↦ absurd (omega (arith, less, few, many))
       | inl both ↦ by_vote both.vote both.held (both.is.0 both.held) both.is.1 both.agreed
     ]
   where
-    by_hashes : (v : Vote) → held v ≡ true → (x : HeldBy q b good Names v) → list_any (λ (u : Vote). eqb u.voter v.voter) votes ≡ true
-        → (take (b + 1) new ≡ take (b + 1) x.version) ⊎ Collision (is_second q.kind) (key_for q v.voter) (take (b + 1) new) (take (b + 1) x.version)
+    by_hashes : (v : Vote) → held v ≡ true → (x : HeldBy q b good Names v)
+        → list_any (λ (u : Vote). eqb u.voter v.voter) votes ≡ true
+        → (take (b + 1) new ≡ take (b + 1) x.version) ⊎ Collision (is_second q.kind) (key_for q v.voter)
+        (take (b + 1) new) (take (b + 1) x.version)
         → (take (b + 1) new ≡ take (b + 1) good) ⊎ CollidesIn q new b good Names votes held
     by_hashes v holds x there (inl same) = inl (same ∙ x.front_is)
-    by_hashes v holds x there (inr found) = inr (record { vote = v; there = there; holds = holds; by = x; collision = found })
+    by_hashes v holds x there (inr found) =
+        inr (record { vote = v; there = there; holds = holds; by = x; collision = found })
 
-    by_vote : (v : Vote) → held v ≡ true → HeldBy q b good Names v → list_any (λ (u : Vote). eqb u.voter v.voter) votes ≡ true → agrees q new b v ≡ true → (take (b + 1) new ≡ take (b + 1) good) ⊎ CollidesIn q new b good Names votes held
+    by_vote : (v : Vote) → held v ≡ true → HeldBy q b good Names v
+        → list_any (λ (u : Vote). eqb u.voter v.voter) votes ≡ true → agrees q new b v ≡ true
+        → (take (b + 1) new ≡ take (b + 1) good) ⊎ CollidesIn q new b good Names votes held
     by_vote v holds x there agreed =
         let second = is_second q.kind in
         let key = key_for q v.voter in
@@ -115,8 +139,11 @@ restores_or_collides q votes new good b minority Names held inside count each fe
         let short_new : b + 1 ≤ length new = omega (arith, inside) in
         let his = ap (λ hs. slice_get hs b) x.hashes ∙ hash_at_own second key x.version b deep in
         let mine = agrees_hash q new b v agreed in
-        let equal = some_is (slice_get v.hashes b) (running second key (take (b + 1) new)) (running second key (take (b + 1) x.version)) mine his in
-        by_hashes v holds x there (same_or_collide second key (take (b + 1) new) (take (b + 1) x.version) (length-take-le (b + 1) new short_new ∙ sym (length-take-le (b + 1) x.version short)) equal)
+        let equal = some_is (slice_get v.hashes b) (running second key (take (b + 1) new))
+        (running second key (take (b + 1) x.version)) mine his in
+        by_hashes v holds x there
+        (same_or_collide second key (take (b + 1) new) (take (b + 1) x.version)
+        (length-take-le (b + 1) new short_new ∙ sym (length-take-le (b + 1) x.version short)) equal)
 
 -- Of known journals.
 
@@ -126,12 +153,16 @@ pub record Names (journals : Journals) (q : PollName) (v : Vote) (version : List
   pub known : journals v.voter ≡ Some journal
   pub named_so : named_version q journal ≡ Some version
 
-pub restored : (journals : Journals) (q : Ballot) (votes : List Vote) (new good : List (List ℕ)) (b minority : ℕ) → b < length new → length new ≡ q.count
-    → Each (λ v. held_if q.poll good b (journals v.voter) ≡ true → HeldBy q b good (Names journals q.poll) v) votes → against_at q votes new b ≤ minority
-    → minority < length (holders journals q.poll good b votes) → (take (b + 1) new ≡ take (b + 1) good) ⊎ Collides journals q new b votes
+pub restored : (journals : Journals) (q : Ballot) (votes : List Vote) (new good : List (List ℕ)) (b minority : ℕ)
+    → b < length new → length new ≡ q.count
+    → Each (λ v. held_if q.poll good b (journals v.voter) ≡ true → HeldBy q b good (Names journals q.poll) v) votes
+    → against_at q votes new b ≤ minority
+    → minority < length (holders journals q.poll good b votes)
+    → (take (b + 1) new ≡ take (b + 1) good) ⊎ Collides journals q new b votes
 unfolding holders
 restored journals q votes new good b minority inside count each few many =
-    elim (restores_or_collides q votes new good b minority (Names journals q.poll) (λ v. held_if q.poll good b (journals v.voter)) inside count each few many) [
+    elim (restores_or_collides q votes new good b minority (Names journals q.poll)
+    (λ v. held_if q.poll good b (journals v.voter)) inside count each few many) [
       | inl same ↦ inl same
       | inr found ↦ inr (record {
         voter = found.vote.voter;

@@ -1,5 +1,6 @@
 -- A journal that is short enough leaves room for a record more, so each of its records fits the state before it.
-use Rattle.std.proofs.Common.{◌≡◌, ◌≤◌, ◌<◌, ◌+◌, ◌∙◌, inl, inr, ap, sym, subst, ℕ, suc, Bool, true, false, cond, eqb, ltb, List, [], ◌∷◌, ◌++◌, length, refl, arith, length-append}
+use Rattle.std.proofs.Common.{◌≡◌, ◌≤◌, ◌<◌, ◌+◌, ◌∙◌, inl, inr, ap, sym, subst, ℕ, suc, Bool, true, false, cond, eqb}
+use Rattle.std.proofs.Common.{ltb, List, [], ◌∷◌, ◌++◌, length, refl, arith, length-append}
 use Rattle.std.specs.Prelude.{Option, Some, None, ◌*◌, is_some, unwrap_or, map, find, slice_get, ◌&&◌, nat_le, All}
 use Rattle.std.specs.List.{list_all, filter_map, cons_option}
 use Rattle.std.proofs.lemmas.Bool.{and_from, leb-true, lt-ltb}
@@ -21,9 +22,10 @@ use Rattle.lks_law.specs.Facts.{Heard, unnumbered, AddsFor, GoesBy, IsJournalOf}
 use Rattle.lks_law.specs.Firsts.{changed_first}
 use Rattle.lks_law.specs.Fitting.{Fits, AreFitting, IsSound, has_mark_left, marks_left, has_room, most_numbered}
 use Rattle.lks_law.specs.Journal.{is_opening, openings}
-use Rattle.lks_law.specs.Reaction.{nothing, may_open, opened, on_open}
+use Rattle.lks_law.specs.Reaction.{no_effect, may_open, opens_poll, on_open}
 use Rattle.lks_law.specs.Polls.{Station}
-use Rattle.lks_law.specs.State.{Poll, Copy, State, copy_at, poll_at, deposited, opened_at, replaced_in, agreed_at, agreed_on, noted, copies_after, after, after_all, blank, state_of}
+use Rattle.lks_law.specs.State.{Poll, Copy, State, copy_at, poll_at, deposited_copy, opened_at, replaced_in}
+use Rattle.lks_law.specs.State.{agreed_at, agreed_on, noted_overdue, copies_after, after, after_all, blank, state_of}
 use Rattle.lks_law.specs.Table.{react_on, reaction}
 use Rattle.lks_law.specs.Taking.{Mark, mark_at, mark_put, marked_received, marked_given}
 use Rattle.lks_law.specs.World.{station_of, deposit_for, deposits, is_honest_at, honest_peer}
@@ -49,9 +51,11 @@ record HasAtMost (n : ℕ) (s : State) : Type 0 where
 
 -- One record more counts one more.
 
-changed_weaker : {X : Type 0} (P Q : X → Type 0) (test : X → Bool) (f : X → X) (xs : List X) → ((x : X) → P x → Q x) → ((x : X) → P x → Q (f x)) → All P xs → All Q (changed_first test f xs)
+changed_weaker : {X : Type 0} (P Q : X → Type 0) (test : X → Bool) (f : X → X) (xs : List X) → ((x : X) → P x → Q x)
+    → ((x : X) → P x → Q (f x)) → All P xs → All Q (changed_first test f xs)
 changed_weaker P Q test f [] still new all = All-nil Q
-changed_weaker P Q test f (x ∷ xs) still new all = here (test x) (changed_weaker P Q test f xs still new (All-tail P x xs all))
+changed_weaker P Q test f (x ∷ xs) still new all =
+    here (test x) (changed_weaker P Q test f xs still new (All-tail P x xs all))
   where
     here : (b : Bool) → All Q (changed_first test f xs) → All Q (cond b (f x ∷ xs) (x ∷ changed_first test f xs))
     here true rest = All-cons Q (f x) xs (new x (All-head P x xs all)) (All-weaker P Q still xs (All-tail P x xs all))
@@ -64,17 +68,26 @@ module _ (n : ℕ) where
   versions_stay : (cs : List Copy) → All (HasVersions n) cs → All (HasVersions (n + 1)) cs
   versions_stay cs all = All-weaker (HasVersions n) (HasVersions (n + 1)) later_version cs all
 
-  versions_change : (au : ℕ) (f : Copy → Copy) (cs : List Copy) → ((c : Copy) → HasVersions n c → HasVersions (n + 1) (f c)) → All (HasVersions n) cs → All (HasVersions (n + 1)) (changed_first (λ (c : Copy). eqb c.au au) f cs)
-  versions_change au f cs new all = changed_weaker (HasVersions n) (HasVersions (n + 1)) (λ (c : Copy). eqb c.au au) f cs later_version new all
+  versions_change : (au : ℕ) (f : Copy → Copy) (cs : List Copy)
+      → ((c : Copy) → HasVersions n c → HasVersions (n + 1) (f c)) → All (HasVersions n) cs
+      → All (HasVersions (n + 1)) (changed_first (λ (c : Copy). eqb c.au au) f cs)
+  versions_change au f cs new all =
+      changed_weaker (HasVersions n) (HasVersions (n + 1)) (λ (c : Copy). eqb c.au au) f cs later_version new all
 
-  versions_after : (ps : List Poll) (r : Record) (cs : List Copy) → All (HasVersions n) cs → All (HasVersions (n + 1)) (copies_after ps r cs)
+  versions_after : (ps : List Poll) (r : Record) (cs : List Copy) → All (HasVersions n) cs
+      → All (HasVersions (n + 1)) (copies_after ps r cs)
   versions_after ps (records.Deposit au blocks) cs all = here (copy_at au cs)
     where
-      here : (o : Option Copy) → All (HasVersions (n + 1)) (cond (is_some o) cs (cs ++ deposited au blocks ∷ []))
+      here : (o : Option Copy) → All (HasVersions (n + 1)) (cond (is_some o) cs (cs ++ deposited_copy au blocks ∷ []))
       here (Some c) = versions_stay cs all
-      here None = All-append (HasVersions (n + 1)) cs (deposited au blocks ∷ []) (versions_stay cs all) (All-cons (HasVersions (n + 1)) (deposited au blocks) [] (omega arith) (All-nil (HasVersions (n + 1))))
-  versions_after ps (records.PollOpened number au nonce inner tick limits kind) cs all = versions_change au (opened_at tick) cs (λ c low. omega arith) all
-  versions_after ps (records.Replaced number au block bytes) cs all = versions_change au (replaced_in block bytes) cs (λ c low. omega arith) all
+      here None =
+          All-append (HasVersions (n + 1)) cs (deposited_copy au blocks ∷ []) (versions_stay cs all)
+          (All-cons (HasVersions (n + 1)) (deposited_copy au blocks) [] (omega arith)
+          (All-nil (HasVersions (n + 1))))
+  versions_after ps (records.PollOpened number au nonce inner tick limits kind) cs all =
+      versions_change au (opened_at tick) cs (λ c low. omega arith) all
+  versions_after ps (records.Replaced number au block bytes) cs all =
+      versions_change au (replaced_in block bytes) cs (λ c low. omega arith) all
   versions_after ps (records.Closed number Agreed tick) cs all = here (poll_at number ps)
     where
       here : (o : Option Poll) → All (HasVersions (n + 1)) (agreed_on o tick cs)
@@ -83,7 +96,7 @@ module _ (n : ℕ) where
   versions_after ps (records.Closed number Inquorate tick) cs all = versions_stay cs all
   versions_after ps (records.Closed number (Split block) tick) cs all = versions_stay cs all
   versions_after ps (records.Closed number (NoSupplier block) tick) cs all = versions_stay cs all
-  versions_after ps (records.Overdue au tick) cs all = versions_change au noted cs (λ c low. omega arith) all
+  versions_after ps (records.Overdue au tick) cs all = versions_change au noted_overdue cs (λ c low. omega arith) all
   versions_after ps r cs all = versions_stay cs all
 
   later_marks : (m : Mark) → HasMarks n m → HasMarks (n + 1) m
@@ -96,25 +109,37 @@ module _ (n : ℕ) where
   marks_at f [] all = (omega arith, omega arith)
   marks_at f (m ∷ ms) all = here (eqb m.peer f) (marks_at f ms (All-tail (HasMarks n) m ms all))
     where
-      here : (b : Bool) → HasMarks n (mark_at f ms) → HasMarks n (unwrap_or (cond b (Some m) (find (λ (m : Mark). eqb m.peer f) ms)) (record { peer = f; received = 0; given = 0 }))
+      here : (b : Bool) → HasMarks n (mark_at f ms)
+          → HasMarks n
+          (unwrap_or (cond b (Some m) (find (λ (m : Mark). eqb m.peer f) ms))
+          (record { peer = f; received = 0; given = 0 }))
       here true rest = All-head (HasMarks n) m ms all
       here false rest = rest
 
-  marks_put : (m : Mark) (ms : List Mark) → HasMarks (n + 1) m → All (HasMarks n) ms → All (HasMarks (n + 1)) (mark_put m ms)
+  marks_put : (m : Mark) (ms : List Mark) → HasMarks (n + 1) m → All (HasMarks n) ms
+      → All (HasMarks (n + 1)) (mark_put m ms)
   marks_put m [] low all = All-cons (HasMarks (n + 1)) m [] low (All-nil (HasMarks (n + 1)))
   marks_put m (x ∷ xs) low all = here (eqb x.peer m.peer) (marks_put m xs low (All-tail (HasMarks n) x xs all))
     where
-      here : (b : Bool) → All (HasMarks (n + 1)) (mark_put m xs) → All (HasMarks (n + 1)) (cond b (m ∷ xs) (x ∷ mark_put m xs))
+      here : (b : Bool) → All (HasMarks (n + 1)) (mark_put m xs)
+          → All (HasMarks (n + 1)) (cond b (m ∷ xs) (x ∷ mark_put m xs))
       here true rest = All-cons (HasMarks (n + 1)) m xs low (marks_stay xs (All-tail (HasMarks n) x xs all))
-      here false rest = All-cons (HasMarks (n + 1)) x (mark_put m xs) (later_marks x (All-head (HasMarks n) x xs all)) rest
+      here false rest =
+          All-cons (HasMarks (n + 1)) x (mark_put m xs) (later_marks x (All-head (HasMarks n) x xs all)) rest
 
   received_more : (f : ℕ) (ms : List Mark) → All (HasMarks n) ms → All (HasMarks (n + 1)) (marked_received f ms)
-  received_more f ms all = let low = marks_at f ms all in let one = low.0 in let two = low.1 in marks_put (record (mark_at f ms) { received = (mark_at f ms).received + 1 }) ms (omega arith, omega arith) all
+  received_more f ms all =
+      let low = marks_at f ms all in let one = low.0 in let two = low.1 in
+      marks_put (record (mark_at f ms) { received = (mark_at f ms).received + 1 }) ms (omega arith, omega arith)
+      all
 
   given_more : (f : ℕ) (ms : List Mark) → All (HasMarks n) ms → All (HasMarks (n + 1)) (marked_given f ms)
-  given_more f ms all = let low = marks_at f ms all in let one = low.0 in let two = low.1 in marks_put (record (mark_at f ms) { given = (mark_at f ms).given + 1 }) ms (omega arith, omega arith) all
+  given_more f ms all =
+      let low = marks_at f ms all in let one = low.0 in let two = low.1 in
+      marks_put (record (mark_at f ms) { given = (mark_at f ms).given + 1 }) ms (omega arith, omega arith) all
 
-  marks_after : (own : Station) (s : State) (r : Record) → All (HasMarks n) s.voter.marks → All (HasMarks (n + 1)) (after own s r).voter.marks
+  marks_after : (own : Station) (s : State) (r : Record) → All (HasMarks n) s.voter.marks
+      → All (HasMarks (n + 1)) (after own s r).voter.marks
   unfolding after
   marks_after own s (records.VoteIn number voter hashes) all = received_more voter s.voter.marks all
   marks_after own s (records.Voted poll hashes) all = given_more poll.poller s.voter.marks all
@@ -136,14 +161,19 @@ module _ (n : ℕ) where
 
 room_in : (n : ℕ) (s : State) → n < most_numbered → HasAtMost n s → has_room s ≡ true
 room_in n s few most =
-    and_from (ltb s.openings most_numbered && list_all (λ (c : Copy). ltb c.version most_numbered) s.copies) (marks_left s.voter)
+    and_from (ltb s.openings most_numbered && list_all (λ (c : Copy). ltb c.version most_numbered) s.copies)
+    (marks_left s.voter)
     (and_from (ltb s.openings most_numbered) (list_all (λ (c : Copy). ltb c.version most_numbered) s.copies)
-    (lt-ltb s.openings most_numbered (let low = most.openings in omega arith)) (by_copies s.copies most.versions)) (by_marks s.voter.marks most.marks)
+    (lt-ltb s.openings most_numbered (let low = most.openings in omega arith))
+    (by_copies s.copies most.versions)) (by_marks s.voter.marks most.marks)
   where
-    by_copies : (cs : List Copy) → All (HasVersions n) cs → list_all (λ (c : Copy). ltb c.version most_numbered) cs ≡ true
+    by_copies : (cs : List Copy) → All (HasVersions n) cs
+        → list_all (λ (c : Copy). ltb c.version most_numbered) cs ≡ true
     by_copies [] all = refl
-    by_copies (c ∷ cs) all = and_from (ltb c.version most_numbered) (list_all (λ (c : Copy). ltb c.version most_numbered) cs)
-        (lt-ltb c.version most_numbered (let low = All-head (HasVersions n) c cs all in omega (arith, low, few))) (by_copies cs (All-tail (HasVersions n) c cs all))
+    by_copies (c ∷ cs) all =
+        and_from (ltb c.version most_numbered) (list_all (λ (c : Copy). ltb c.version most_numbered) cs)
+        (lt-ltb c.version most_numbered (let low = All-head (HasVersions n) c cs all in omega (arith, low, few)))
+        (by_copies cs (All-tail (HasVersions n) c cs all))
 
     by_marks : (ms : List Mark) → All (HasMarks n) ms → list_all has_mark_left ms ≡ true
     by_marks [] all = refl
@@ -152,7 +182,9 @@ room_in n s few most =
         let one = low.0 in
         let two = low.1 in
         and_from (has_mark_left m) (list_all has_mark_left ms)
-        (and_from (ltb m.received most_numbered) (ltb m.given most_numbered) (lt-ltb m.received most_numbered (omega (arith, one, few))) (lt-ltb m.given most_numbered (omega (arith, two, few))))
+        (and_from (ltb m.received most_numbered) (ltb m.given most_numbered)
+        (lt-ltb m.received most_numbered (omega (arith, one, few)))
+        (lt-ltb m.given most_numbered (omega (arith, two, few))))
         (by_marks ms (All-tail (HasMarks n) m ms all))
 
 -- Records that fit, one after another.
@@ -161,33 +193,45 @@ record IsFine (n : ℕ) (s : State) : Type 0 where
   sound : IsSound s
   most : HasAtMost n s
 
-fine_all : (own : Station) (n : ℕ) (s : State) (rs : List Record) → AreFitting own s rs → IsFine n s → IsFine (n + length rs) (after_all own s rs)
+fine_all : (own : Station) (n : ℕ) (s : State) (rs : List Record) → AreFitting own s rs → IsFine n s
+    → IsFine (n + length rs) (after_all own s rs)
 fine_all own n s [] fits fine = subst (λ (k : ℕ). IsFine k s) (omega arith) fine
 fine_all own n s (r ∷ rs) fits fine =
     subst (λ (k : ℕ). IsFine k (after_all own (after own s r) rs)) (omega arith)
-    (fine_all own (n + 1) (after own s r) rs fits.1 (record { sound = sound_after own s r fits.0 fine.sound; most = most_more n own s r fine.most }))
+    (fine_all own (n + 1) (after own s r) rs fits.1
+    (record { sound = sound_after own s r fits.0 fine.sound; most = most_more n own s r fine.most }))
 
-fit_more : (own : Station) (s : State) (xs ys : List Record) → AreFitting own s xs → AreFitting own (after_all own s xs) ys → AreFitting own s (xs ++ ys)
+fit_more : (own : Station) (s : State) (xs ys : List Record) → AreFitting own s xs
+    → AreFitting own (after_all own s xs) ys → AreFitting own s (xs ++ ys)
 fit_more own s [] ys first next = next
 fit_more own s (x ∷ xs) ys first next = (first.0, fit_more own (after own s x) xs ys first.1 next)
 
 blank_most : (own : Station) → HasAtMost 0 (blank own)
 blank_most own = record { openings = omega arith; versions = All-nil (HasVersions 0); marks = All-nil (HasMarks 0) }
 
-most_all : (own : Station) (n : ℕ) (s : State) (rs : List Record) → HasAtMost n s → HasAtMost (n + length rs) (after_all own s rs)
+most_all : (own : Station) (n : ℕ) (s : State) (rs : List Record) → HasAtMost n s
+    → HasAtMost (n + length rs) (after_all own s rs)
 most_all own n s [] most = subst (λ (k : ℕ). HasAtMost k s) (omega arith) most
-most_all own n s (r ∷ rs) most = subst (λ (k : ℕ). HasAtMost k (after_all own (after own s r) rs)) (omega arith) (most_all own (n + 1) (after own s r) rs (most_more n own s r most))
+most_all own n s (r ∷ rs) most =
+    subst (λ (k : ℕ). HasAtMost k (after_all own (after own s r) rs)) (omega arith)
+    (most_all own (n + 1) (after own s r) rs (most_more n own s r most))
 
 -- a journal that is short enough leaves room
-pub room_left : (own : Station) (journal : List Record) → length journal < most_numbered → has_room (state_of own journal) ≡ true
+pub room_left : (own : Station) (journal : List Record) → length journal < most_numbered
+    → has_room (state_of own journal) ≡ true
 unfolding state_of
 room_left own journal few =
-    room_in (0 + length journal) (after_all own (blank own) journal) (omega (arith, few)) (most_all own 0 (blank own) journal (blank_most own))
+    room_in (0 + length journal) (after_all own (blank own) journal) (omega (arith, few))
+    (most_all own 0 (blank own) journal (blank_most own))
 
-rules_fit : (own : Station) (before : List Record) (h : Heard) → AreWritten [] before → AreFitting own (after_all own (blank own) before) (react_on own (after_all own (blank own) before) h.tick h.input).records
+rules_fit : (own : Station) (before : List Record) (h : Heard) → AreWritten [] before
+    → AreFitting own (after_all own (blank own) before)
+    (react_on own (after_all own (blank own) before) h.tick h.input).records
     → AreFitting own (after_all own (blank own) before) (reaction own before h.tick h.input).records
 unfolding state_of
-rules_fit own before h written fits = subst (λ (r : Reaction). AreFitting own (after_all own (blank own) before) r.records) (react_is own before written h.tick h.input) fits
+rules_fit own before h written fits =
+    subst (λ (r : Reaction). AreFitting own (after_all own (blank own) before) r.records)
+    (react_is own before written h.tick h.input) fits
 
 -- What is added fits with its numbers and without.
 
@@ -197,11 +241,15 @@ one_lacking own s (records.Joined poll au tick low repairs) fits = fits
 one_lacking own s r fits = fits
 
 module _ (own : Station) (js : List Record) (s : State) where
-  opening_lacking : (tick au : ℕ) → AreFitting own s (on_open own js tick au).records → AreFitting own s (map unnumbered (on_open own js tick au).records)
+  opening_lacking : (tick au : ℕ) → AreFitting own s (on_open own js tick au).records
+      → AreFitting own s (map unnumbered (on_open own js tick au).records)
   unfolding on_open
   opening_lacking tick au = by_test (may_open own js tick au)
     where
-      by_test : (b : Bool) → AreFitting own s (cond b (opened own js tick au (openings js + 1)) nothing).records → AreFitting own s (map unnumbered (cond b (opened own js tick au (openings js + 1)) nothing).records)
+      by_test : (b : Bool)
+          → AreFitting own s (cond b (opens_poll own js tick au (openings js + 1)) no_effect).records
+          → AreFitting own s
+          (map unnumbered (cond b (opens_poll own js tick au (openings js + 1)) no_effect).records)
       by_test true fits = fits
       by_test false fits = tt
 
@@ -210,21 +258,27 @@ module _ (own : Station) (js : List Record) (s : State) where
   voters_lacking (r ∷ []) may fits = (one_lacking own s r fits.0, tt)
   voters_lacking (r ∷ q ∷ rs) may fits = absurd may
 
-  all_lacking : (tick : ℕ) (i : Input) → AreFitting own s (reaction own js tick i).records → AreFitting own s (map unnumbered (reaction own js tick i).records)
+  all_lacking : (tick : ℕ) (i : Input) → AreFitting own s (reaction own js tick i).records
+      → AreFitting own s (map unnumbered (reaction own js tick i).records)
   unfolding reaction
   all_lacking tick i fits = elim (half own js tick i) [
-    | inl (au, opens) ↦ subst (λ (x : Input). AreFitting own s (map unnumbered (reaction own js tick x).records)) (sym opens) (opening_lacking tick au (subst (λ (x : Input). AreFitting own s (reaction own js tick x).records) opens fits))
+    | inl (au, opens)
+        ↦ subst (λ (x : Input). AreFitting own s (map unnumbered (reaction own js tick x).records)) (sym opens)
+        (opening_lacking tick au
+        (subst (λ (x : Input). AreFitting own s (reaction own js tick x).records) opens fits))
     | inr (inl other) ↦ subst (AreFitting own s) (sym (other_same own js tick i other)) fits
     | inr (inr may) ↦ voters_lacking _ may fits
   ]
 
-  added_fits : (h : Heard) (added : List Record) → AddsFor own js h added → AreFitting own s (reaction own js h.tick h.input).records → AreFitting own s added
+  added_fits : (h : Heard) (added : List Record) → AddsFor own js h added
+      → AreFitting own s (reaction own js h.tick h.input).records → AreFitting own s added
   added_fits h added (inl is) fits = subst (AreFitting own s) (sym is) fits
   added_fits h added (inr lacks) fits = subst (AreFitting own s) (sym lacks.1) (all_lacking h.tick h.input fits)
 
 -- Every journal.
 
-goes_fitting : (own : Station) (aus : List AuPlan) (copies : List Holding) (heard : List Heard) (js : List Record) → own.rules.inner ≤ MOST_CIRCLE → IsSound (blank own) → AreFitting own (blank own) (deposits aus copies)
+goes_fitting : (own : Station) (aus : List AuPlan) (copies : List Holding) (heard : List Heard) (js : List Record)
+    → own.rules.inner ≤ MOST_CIRCLE → IsSound (blank own) → AreFitting own (blank own) (deposits aus copies)
     → length js < most_numbered → GoesBy own (deposits aus copies) heard js → AreFitting own (blank own) js
 goes_fitting own aus copies [] js few sound begun short is = subst (AreFitting own (blank own)) (sym is) begun
 goes_fitting own aus copies (h ∷ hs) js few sound begun short (before, added, goes, heard, adds, is) =
@@ -232,10 +286,13 @@ goes_fitting own aus copies (h ∷ hs) js few sound begun short (before, added, 
     let low : length before < most_numbered = omega (arith, count, short) in
     let fits : AreFitting own (blank own) before = goes_fitting own aus copies hs before few sound begun low goes in
     let state = after_all own (blank own) before in
-    let fine : IsFine (0 + length before) state = fine_all own 0 (blank own) before fits (record { sound = sound; most = blank_most own }) in
+    let fine : IsFine (0 + length before) state = fine_all own 0 (blank own) before fits
+    (record { sound = sound; most = blank_most own }) in
     let room : has_room state ≡ true = room_in (0 + length before) state (omega (arith, low)) fine.most in
-    let by_rules = rules_fit own before h (written_by own aus copies hs before goes) (reaction_fits own state few room fine.sound h.tick h.input heard) in
-    subst (AreFitting own (blank own)) (sym is) (fit_more own (blank own) before added fits (added_fits own before state h added adds by_rules))
+    let by_rules = rules_fit own before h (written_by own aus copies hs before goes)
+    (reaction_fits own state few room fine.sound h.tick h.input heard) in
+    subst (AreFitting own (blank own)) (sym is)
+    (fit_more own (blank own) before added fits (added_fits own before state h added adds by_rules))
 
 -- Every good plan.
 
@@ -251,8 +308,10 @@ unfolding plan_fault are_bounded
 few_repairs plan good =
     let r = plan.rules in
     leb-true r.repairs MOST_REPAIRS
-    (fourth (is_within 1 MOST_CIRCLE r.inner) (nat_le 1 r.quorum) (nat_le r.outer MOST_CIRCLE) (nat_le r.repairs MOST_REPAIRS) (nat_le r.pace MOST_TICKS)
-    (nat_le r.refractory MOST_TICKS) (nat_le r.overdue MOST_TICKS) (nat_le r.unknown_pct 100) (nat_le r.debt_pct 100) (nat_le r.churn MOST_CIRCLE)
+    (fourth (is_within 1 MOST_CIRCLE r.inner) (nat_le 1 r.quorum) (nat_le r.outer MOST_CIRCLE)
+    (nat_le r.repairs MOST_REPAIRS) (nat_le r.pace MOST_TICKS)
+    (nat_le r.refractory MOST_TICKS) (nat_le r.overdue MOST_TICKS) (nat_le r.unknown_pct 100)
+    (nat_le r.debt_pct 100) (nat_le r.churn MOST_CIRCLE)
     (stands _ _ (no_first _ _ good)))
 
 -- what a peer begins with
@@ -271,33 +330,45 @@ sound_blank plan p good =
     }
 
 module _ (own : Station) where
-  held_fits : (au : AuPlan) (copies : List Holding) (rest : List Record) (s : State) → s.polls ≡ [] → All IsSoundCopy copies
-      → ((t : State) → t.polls ≡ [] → AreFitting own t rest) → AreFitting own s (filter_map (deposit_for au) copies ++ rest)
+  held_fits : (au : AuPlan) (copies : List Holding) (rest : List Record) (s : State) → s.polls ≡ []
+      → All IsSoundCopy copies
+      → ((t : State) → t.polls ≡ [] → AreFitting own t rest)
+      → AreFitting own s (filter_map (deposit_for au) copies ++ rest)
   unfolding after
   held_fits au [] rest s none sound later = later s none
   held_fits au (c ∷ cs) rest s none sound later =
-      by_test (eqb c.au au.id) (All-head IsSoundCopy c cs sound) (λ t still. held_fits au cs rest t still (All-tail IsSoundCopy c cs sound) later)
+      by_test (eqb c.au au.id) (All-head IsSoundCopy c cs sound)
+      (λ t still. held_fits au cs rest t still (All-tail IsSoundCopy c cs sound) later)
     where
-      by_test : (b : Bool) → IsSoundCopy c → ((t : State) → t.polls ≡ [] → AreFitting own t (filter_map (deposit_for au) cs ++ rest))
-          → AreFitting own s (cons_option (cond b (Some (records.Deposit au.id c.blocks)) None) (filter_map (deposit_for au) cs) ++ rest)
+      by_test : (b : Bool) → IsSoundCopy c
+          → ((t : State) → t.polls ≡ [] → AreFitting own t (filter_map (deposit_for au) cs ++ rest))
+          → AreFitting own s
+          (cons_option (cond b (Some (records.Deposit au.id c.blocks)) None) (filter_map (deposit_for au) cs)
+          ++ rest)
       by_test true is more = (((is.0, is.1), none, is.2), more (after own s (records.Deposit au.id c.blocks)) none)
       by_test false is more = more s none
 
-  deposits_fit : (aus : List AuPlan) (copies : List Holding) (s : State) → s.polls ≡ [] → All IsSoundCopy copies → AreFitting own s (deposits aus copies)
+  deposits_fit : (aus : List AuPlan) (copies : List Holding) (s : State) → s.polls ≡ [] → All IsSoundCopy copies
+      → AreFitting own s (deposits aus copies)
   unfolding deposits
   deposits_fit [] copies s none sound = tt
-  deposits_fit (au ∷ aus) copies s none sound = held_fits au copies (deposits aus copies) s none sound (λ t still. deposits_fit aus copies t still sound)
+  deposits_fit (au ∷ aus) copies s none sound =
+      held_fits au copies (deposits aus copies) s none sound (λ t still. deposits_fit aus copies t still sound)
 
-find_at : {X : Type 0} (test : X → Bool) (xs : List X) (x : X) → find test xs ≡ Some x → (i : ℕ) × (slice_get xs i ≡ Some x)
+find_at : {X : Type 0} (test : X → Bool) (xs : List X) (x : X) → find test xs ≡ Some x
+    → (i : ℕ) × (slice_get xs i ≡ Some x)
 find_at test [] x e = absurd cc
 find_at {X = X} test (y ∷ ys) x e = by_test (test y) e (find_at test ys x)
   where
-    by_test : (b : Bool) → cond b (Some y) (find test ys) ≡ Some x → (find test ys ≡ Some x → (i : ℕ) × (slice_get ys i ≡ Some x)) → (i : ℕ) × (slice_get (y ∷ ys) i ≡ Some x)
+    by_test : (b : Bool) → cond b (Some y) (find test ys) ≡ Some x
+        → (find test ys ≡ Some x → (i : ℕ) × (slice_get ys i ≡ Some x)) → (i : ℕ) × (slice_get (y ∷ ys) i ≡ Some x)
     by_test true e rest = (0, e)
     by_test false e rest = let r = rest e in (suc r.0, r.1)
 
-pub journal_fits : (plan : Plan) (id : ℕ) (p : PeerPlan) → plan_fault plan ≡ None → honest_peer id plan ≡ Some p → (tick : ℕ) (journal : List Record) → length journal < most_numbered
-    → IsJournalOf (station_of plan p) (deposits plan.aus p.copies) tick journal → AreFitting (station_of plan p) (blank (station_of plan p)) journal
+pub journal_fits : (plan : Plan) (id : ℕ) (p : PeerPlan) → plan_fault plan ≡ None → honest_peer id plan ≡ Some p
+    → (tick : ℕ) (journal : List Record) → length journal < most_numbered
+    → IsJournalOf (station_of plan p) (deposits plan.aus p.copies) tick journal
+    → AreFitting (station_of plan p) (blank (station_of plan p)) journal
 journal_fits plan id p good found tick journal short is =
     let own = station_of plan p in
     let at = find_at (is_honest_at id) plan.peers p found in

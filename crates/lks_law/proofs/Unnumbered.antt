@@ -1,5 +1,6 @@
 -- Journals that were begun before numbers could be tuned: which of their records lack numbers, and what these keep.
-use Rattle.std.proofs.Common.{◌≡◌, ◌+◌, ◌∙◌, ◌⊎◌, inl, inr, ap, sym, subst, ℕ, Bool, true, false, cond, List, [], ◌∷◌, ◌++◌, length, refl}
+use Rattle.std.proofs.Common.{◌≡◌, ◌+◌, ◌∙◌, ◌⊎◌, inl, inr, ap, sym, subst, ℕ, Bool, true, false, cond, List, [], ◌∷◌}
+use Rattle.std.proofs.Common.{◌++◌, length, refl}
 use Rattle.std.specs.Prelude.{Option, Some, None, unwrap_or, map, not, ◌&&◌}
 use Rattle.std.specs.List.{filter_map, cons_option}
 use Rattle.lks_base.specs.declared.messages.Message.{Message}
@@ -15,21 +16,27 @@ use Rattle.lks_base.specs.declared.records.Record.{Record}
 use Rattle.lks_base.specs.declared.records.Record.TheVariants as records
 use Rattle.lks_hash.specs.Hashes.{nonce_from}
 use Rattle.lks_law.specs.Facts.{AddsFor, limits_left, unnumbered}
-use Rattle.lks_law.specs.Journal.{Opening, Request, opening_of, openings, is_voting, is_widened, unanswered}
+use Rattle.lks_law.specs.Journal.{Opening, Request, opening_of, openings, is_voting, is_widened, unanswered_request}
 use Rattle.lks_law.specs.Polls.{Station, ObeyQuorumRule, limits_in, limits_in_force, verdict_in, candidate, restores}
-use Rattle.lks_law.specs.Reaction.{nothing, for_opening, may_open, opened, on_open, widened, on_widen, is_inquorate, shut_inquorate, shut, on_shut, may_tally, closed, asked, tallied, on_tally, reminded, asked_again, on_nudge, given_up, on_give_up, must_note, overdue_in, on_check, may_prove, proved, on_challenge, may_nominate, nominated, on_nominate, is_accepted, may_vote, counted, on_vote, may_repair, repaired, on_repair}
+use Rattle.lks_law.specs.Reaction.{no_effect, for_opening, may_open, opens_poll, on_open, invites_outer, on_widen}
+use Rattle.lks_law.specs.Reaction.{is_inquorate, shut_inquorate, ends_voting, on_shut, may_tally, closes_poll}
+use Rattle.lks_law.specs.Reaction.{asks_supplier, follows_verdict, on_tally, reminds_silent, asked_again, on_nudge}
+use Rattle.lks_law.specs.Reaction.{given_up, on_give_up, must_note, overdue_in, on_check, may_prove, sends_proof}
+use Rattle.lks_law.specs.Reaction.{on_challenge, may_nominate, notes_nominees, on_nominate, is_accepted, may_vote}
+use Rattle.lks_law.specs.Reaction.{counts_vote, on_vote, may_repair, takes_repair, on_repair}
 use Rattle.lks_law.specs.References.{inner_circle}
 use Rattle.lks_law.specs.Table.{on_message, reaction}
 use Rattle.lks_law.proofs.Kept.{Kept}
 use Rattle.lks_law.proofs.Openings.{kept_opened, kept_on_open, free_of}
 use Rattle.lks_law.proofs.Rows.{KeptBy, kept_nothing}
 use Rattle.lks_law.proofs.Samples.{Adds, inner_sample, open_adds, voter_adds}
-use Rattle.lks_refs.specs.Lists.{IsReferenceList}
+use Rattle.lks_choice.specs.Lists.{IsReferenceList}
 use Rattle.lks_tally.specs.declared.ballots.Verdict.{Verdict}
 use Rattle.lks_tally.specs.declared.ballots.Verdict.TheVariants as verdict
-use Rattle.lks_law.specs.Voting.{named}
+use Rattle.lks_law.specs.Voting.{poll_named}
 use Rattle.lks_law.proofs.KeptVoters.{kept_voters}
-use Rattle.lks_law.proofs.VoterAdds.{VoterAdds, unnumbered_adds, invitation_adds, proof_adds, work_adds, request_adds, end_adds, tune_adds}
+use Rattle.lks_law.proofs.VoterAdds.{VoterAdds, unnumbered_adds, invitation_adds, proof_adds, work_adds, request_adds}
+use Rattle.lks_law.proofs.VoterAdds.{end_adds, tune_adds}
 
 -- none of the records has numbers to lack
 abbrev pub Same : Reaction → Type 0
@@ -54,30 +61,34 @@ IsPollers m = ⊥
 module _ (own : Station) (js : List Record) where
   widen_same : (n : ℕ) → Same (on_widen own js n)
   unfolding on_widen
-  widen_same n = if_same (is_voting n js && not (is_widened n js)) _ nothing (opening_same (opening_of n js) (widened own js n) (λ o. refl)) refl
+  widen_same n =
+      if_same (is_voting n js && not (is_widened n js)) _ no_effect
+      (opening_same (opening_of n js) (invites_outer own js n) (λ o. refl)) refl
 
   shut_same : (tick n : ℕ) → Same (on_shut own js tick n)
   unfolding on_shut
   shut_same tick n =
-      if_same (is_voting n js) _ nothing
-      (opening_same (opening_of n js) (shut own js tick n) (λ o. if_same (is_inquorate own n o js) (shut_inquorate js tick n) _ refl refl)) refl
+      if_same (is_voting n js) _ no_effect
+      (opening_same (opening_of n js) (ends_voting own js tick n)
+      (λ o. if_same (is_inquorate own n o js) (shut_inquorate js tick n) _ refl refl)) refl
 
-  tallied_same : (tick n : ℕ) (o : Opening) (v : Verdict) → Same (tallied own js tick n o v)
-  unfolding closed
+  tallied_same : (tick n : ℕ) (o : Opening) (v : Verdict) → Same (follows_verdict own js tick n o v)
+  unfolding closes_poll
   tallied_same tick n o verdict.Inquorate = refl
   tallied_same tick n o verdict.Agreed = refl
   tallied_same tick n o (verdict.Split b) = refl
   tallied_same tick n o (verdict.Loss b) = by_candidate (candidate own n o b js)
     where
-      by_candidate : (v : Option ℕ) → Same (asked js tick n b v)
+      by_candidate : (v : Option ℕ) → Same (asks_supplier js tick n b v)
       by_candidate None = refl
       by_candidate (Some v) = refl
 
   tally_same : (tick n : ℕ) → Same (on_tally own js tick n)
   unfolding on_tally
   tally_same tick n =
-      if_same (may_tally n js) _ nothing
-      (opening_same (opening_of n js) (λ o. tallied own js tick n o (verdict_in own n o js)) (λ o. tallied_same tick n o (verdict_in own n o js))) refl
+      if_same (may_tally n js) _ no_effect
+      (opening_same (opening_of n js) (λ o. follows_verdict own js tick n o (verdict_in own n o js))
+      (λ o. tallied_same tick n o (verdict_in own n o js))) refl
 
   request_same : (n : ℕ) (r : Option Request) → Same (asked_again n r) × Same (given_up n r)
   request_same n None = (refl, refl)
@@ -85,66 +96,95 @@ module _ (own : Station) (js : List Record) where
 
   nudge_same : (n : ℕ) → Same (on_nudge js n)
   unfolding on_nudge
-  nudge_same n = if_same (is_voting n js) _ (asked_again n (unanswered n js)) (opening_same (opening_of n js) (reminded js n) (λ o. refl)) (request_same n (unanswered n js)).0
+  nudge_same n =
+      if_same (is_voting n js) _ (asked_again n (unanswered_request n js))
+      (opening_same (opening_of n js) (reminds_silent js n) (λ o. refl))
+      (request_same n (unanswered_request n js)).0
 
   give_up_same : (n : ℕ) → Same (on_give_up js n)
   unfolding on_give_up
-  give_up_same n = (request_same n (unanswered n js)).1
+  give_up_same n = (request_same n (unanswered_request n js)).1
 
-  noted_same : (tick : ℕ) (aus : List AuPlan) → map unnumbered (filter_map (overdue_in own js tick) aus) ≡ filter_map (overdue_in own js tick) aus
+  noted_same : (tick : ℕ) (aus : List AuPlan)
+      → map unnumbered (filter_map (overdue_in own js tick) aus) ≡ filter_map (overdue_in own js tick) aus
   noted_same tick [] = refl
   noted_same tick (au ∷ aus) = first (must_note own js tick au.id) (noted_same tick aus)
     where
-      first : (b : Bool) → map unnumbered (filter_map (overdue_in own js tick) aus) ≡ filter_map (overdue_in own js tick) aus
-          → map unnumbered (cons_option (cond b (Some (records.Overdue au.id tick)) None) (filter_map (overdue_in own js tick) aus)) ≡ cons_option (cond b (Some (records.Overdue au.id tick)) None) (filter_map (overdue_in own js tick) aus)
+      first : (b : Bool)
+          → map unnumbered (filter_map (overdue_in own js tick) aus) ≡ filter_map (overdue_in own js tick) aus
+          → map unnumbered
+          (cons_option (cond b (Some (records.Overdue au.id tick)) None)
+          (filter_map (overdue_in own js tick) aus))
+          ≡ cons_option (cond b (Some (records.Overdue au.id tick)) None)
+          (filter_map (overdue_in own js tick) aus)
       first true rest = ap (λ (rs : List Record). records.Overdue au.id tick ∷ rs) rest
       first false rest = rest
 
-  message_same : (tick from : ℕ) (m : Message) (judged : Judged) → IsPollers m → Same (on_message own js tick from m judged)
+  message_same : (tick from : ℕ) (m : Message) (judged : Judged) → IsPollers m
+      → Same (on_message own js tick from m judged)
   unfolding on_challenge on_nominate on_vote on_repair
   message_same tick from (message.PollChallenge n agrees) judged is =
-      if_same (agrees && is_voting n js) _ nothing (opening_same (opening_of n js) (proved own js from n) (λ o. if_same (may_prove js from n o) _ nothing refl refl)) refl
+      if_same (agrees && is_voting n js) _ no_effect
+      (opening_same (opening_of n js) (sends_proof own js from n)
+      (λ o. if_same (may_prove js from n o) _ no_effect refl refl)) refl
   message_same tick from (message.Nominate n nominees) judged is =
-      if_same (is_voting n js && not (is_widened n js)) _ nothing
-      (opening_same (opening_of n js) (nominated js from n nominees) (λ o. if_same (may_nominate js from n o) _ nothing refl refl)) refl
+      if_same (is_voting n js && not (is_widened n js)) _ no_effect
+      (opening_same (opening_of n js) (notes_nominees js from n nominees)
+      (λ o. if_same (may_nominate js from n o) _ no_effect refl refl)) refl
   message_same tick from (message.Vote n hashes proof) judged is =
-      if_same (is_accepted judged && is_voting n js) _ nothing
-      (opening_same (opening_of n js) (counted js from n hashes) (λ o. if_same (may_vote js from n (length hashes) o) _ nothing refl refl)) refl
+      if_same (is_accepted judged && is_voting n js) _ no_effect
+      (opening_same (opening_of n js) (counts_vote js from n hashes)
+      (λ o. if_same (may_vote js from n (length hashes) o) _ no_effect refl refl)) refl
   message_same tick from (message.Repair n b bytes) judged is =
-      if_same (may_repair js from n b) _ nothing
-      (opening_same (opening_of n js) (repaired own js from n b bytes) (λ o. if_same (restores own n o b bytes js) _ _ refl refl)) refl
+      if_same (may_repair js from n b) _ no_effect
+      (opening_same (opening_of n js) (takes_repair own js from n b bytes)
+      (λ o. if_same (restores own n o b bytes js) _ _ refl refl)) refl
   message_same tick from m judged is = absurd is
 
   -- what is added for anything but an opening is what the rules say
-  pub records_are : (tick : ℕ) (i : Input) (added : List Record) → Same (reaction own js tick i) → AddsFor own js (record { tick = tick; input = i }) added
+  pub records_are : (tick : ℕ) (i : Input) (added : List Record) → Same (reaction own js tick i)
+      → AddsFor own js (record { tick = tick; input = i }) added
       → added ≡ (reaction own js tick i).records
   records_are tick i added same (inl is) = is
   records_are tick i added same (inr lacks) = lacks.1 ∙ same
 
   -- an opening may lack its numbers, which keeps all the same
-  opens_kept : (tick au : ℕ) (added : List Record) → AddsFor own js (record { tick = tick; input = input.OpenPoll au }) added → Kept own js → Kept own (js ++ added)
+  opens_kept : (tick au : ℕ) (added : List Record)
+      → AddsFor own js (record { tick = tick; input = input.OpenPoll au }) added → Kept own js
+      → Kept own (js ++ added)
   unfolding reaction on_open
-  opens_kept tick au added (inl is) kept = subst (λ (rs : List Record). Kept own (js ++ rs)) (sym is) (kept_on_open own js tick au kept)
-  opens_kept tick au added (inr lacks) kept = subst (λ (rs : List Record). Kept own (js ++ rs)) (sym lacks.1) (by_test (may_open own js tick au) refl)
+  opens_kept tick au added (inl is) kept =
+      subst (λ (rs : List Record). Kept own (js ++ rs)) (sym is) (kept_on_open own js tick au kept)
+  opens_kept tick au added (inr lacks) kept =
+      subst (λ (rs : List Record). Kept own (js ++ rs)) (sym lacks.1) (by_test (may_open own js tick au) refl)
     where
       by_kind : (kind : HashKind) → ObeyQuorumRule (limits_in own.rules) → ObeyQuorumRule (limits_in_force own.rules js)
           → ObeyQuorumRule (unwrap_or (limits_left kind (Some (limits_in_force own.rules js))) (limits_in own.rules))
       by_kind Sha256 rule in_force = rule
       by_kind Sha512_256 rule in_force = in_force
 
-      by_test : (b : Bool) → may_open own js tick au ≡ b → Kept own (js ++ map unnumbered (cond b (opened own js tick au (openings js + 1)) nothing).records)
+      by_test : (b : Bool) → may_open own js tick au ≡ b
+          → Kept own (js ++ map unnumbered (cond b (opens_poll own js tick au (openings js + 1)) no_effect).records)
       by_test true may =
           kept_opened own js (openings js + 1) tick
-          (record { au = au; nonce = nonce_from own.seed (openings js + 1); inner = inner_circle own (openings js + 1) js; limits = limits_left own.hash (Some (limits_in_force own.rules js)); kind = own.hash })
+          (record {
+            au = au;
+            nonce = nonce_from own.seed (openings js + 1);
+            inner = inner_circle own (openings js + 1) js;
+            limits = limits_left own.hash (Some (limits_in_force own.rules js));
+            kind = own.hash;
+          })
           kept refl (free_of own js tick au may) (by_kind own.hash)
       by_test false may = kept_nothing own js kept
 
-  opens_add : (tick au : ℕ) (added : List Record) → IsReferenceList own.id own.refs → AddsFor own js (record { tick = tick; input = input.OpenPoll au }) added → Adds own js added
+  opens_add : (tick au : ℕ) (added : List Record) → IsReferenceList own.id own.refs
+      → AddsFor own js (record { tick = tick; input = input.OpenPoll au }) added → Adds own js added
   unfolding reaction on_open
   opens_add tick au added listed (inl is) = subst (Adds own js) (sym is) (open_adds own js tick au listed)
   opens_add tick au added listed (inr lacks) = subst (Adds own js) (sym lacks.1) (by_test (may_open own js tick au))
     where
-      by_test : (b : Bool) → Adds own js (map unnumbered (cond b (opened own js tick au (openings js + 1)) nothing).records)
+      by_test : (b : Bool)
+          → Adds own js (map unnumbered (cond b (opens_poll own js tick au (openings js + 1)) no_effect).records)
       by_test true = (inner_sample own (openings js + 1) js listed, tt)
       by_test false = tt
 
@@ -187,17 +227,21 @@ half own js tick input.Check = inr (inl tt)
 half own js tick (input.Work q) = inr (inr (work_adds own js q))
 half own js tick (input.Expire q) = inr (inr (end_adds own js q))
 half own js tick (input.Tune quorum minority repairs) = inr (inr (tune_adds own js quorum minority repairs))
-half own js tick (input.Got from (message.Poll n au) judged) = inr (inr (invitation_adds own js tick (named from n) au))
+half own js tick (input.Got from (message.Poll n au) judged) =
+    inr (inr (invitation_adds own js tick (poll_named from n) au))
 half own js tick (input.Got from (message.PollChallenge n agrees) judged) = inr (inl tt)
-half own js tick (input.Got from (message.PollProof n nonce kind proof) judged) = inr (inr (proof_adds own js (named from n) nonce kind judged))
+half own js tick (input.Got from (message.PollProof n nonce kind proof) judged) =
+    inr (inr (proof_adds own js (poll_named from n) nonce kind judged))
 half own js tick (input.Got from (message.Nominate n nominees) judged) = inr (inl tt)
 half own js tick (input.Got from (message.Vote n hashes proof) judged) = inr (inl tt)
-half own js tick (input.Got from (message.RepairRequest n b) judged) = inr (inr (request_adds own js (named from n) b))
+half own js tick (input.Got from (message.RepairRequest n b) judged) =
+    inr (inr (request_adds own js (poll_named from n) b))
 half own js tick (input.Got from (message.Repair n b bytes) judged) = inr (inl tt)
-half own js tick (input.Got from (message.Receipt n) judged) = inr (inr (end_adds own js (named from n)))
+half own js tick (input.Got from (message.Receipt n) judged) = inr (inr (end_adds own js (poll_named from n)))
 
 -- whatever is added, with its numbers or without, keeps what the rules keep, and its circles are samples
-module _ (own : Station) (js : List Record) (tick : ℕ) (i : Input) (added : List Record) (adds : AddsFor own js (record { tick = tick; input = i }) added) where
+module _ (own : Station) (js : List Record) (tick : ℕ) (i : Input) (added : List Record)
+    (adds : AddsFor own js (record { tick = tick; input = i }) added) where
   -- what is added by a voter is still such without its numbers
   voters_added : VoterAdds js (reaction own js tick i).records → VoterAdds js added
   voters_added may = elim adds [
@@ -207,14 +251,21 @@ module _ (own : Station) (js : List Record) (tick : ℕ) (i : Input) (added : Li
 
   pub adds_kept : KeptBy own js (reaction own js tick i) → Kept own js → Kept own (js ++ added)
   adds_kept by kept = elim (half own js tick i) [
-    | inl (au, opens) ↦ opens_kept own js tick au added (subst (λ i. AddsFor own js (record { tick = tick; input = i }) added) opens adds) kept
-    | inr (inl other) ↦ subst (λ (rs : List Record). Kept own (js ++ rs)) (sym (records_are own js tick i added (other_same own js tick i other) adds)) by
+    | inl (au, opens)
+        ↦ opens_kept own js tick au added
+        (subst (λ i. AddsFor own js (record { tick = tick; input = i }) added) opens adds) kept
+    | inr (inl other)
+        ↦ subst (λ (rs : List Record). Kept own (js ++ rs))
+        (sym (records_are own js tick i added (other_same own js tick i other) adds)) by
     | inr (inr may) ↦ kept_voters own js kept added (voters_added may)
   ]
 
   pub adds_circles : Adds own js (reaction own js tick i).records → IsReferenceList own.id own.refs → Adds own js added
   adds_circles by listed = elim (half own js tick i) [
-    | inl (au, opens) ↦ opens_add own js tick au added listed (subst (λ i. AddsFor own js (record { tick = tick; input = i }) added) opens adds)
-    | inr (inl other) ↦ subst (Adds own js) (sym (records_are own js tick i added (other_same own js tick i other) adds)) by
+    | inl (au, opens)
+        ↦ opens_add own js tick au added listed
+        (subst (λ i. AddsFor own js (record { tick = tick; input = i }) added) opens adds)
+    | inr (inl other)
+        ↦ subst (Adds own js) (sym (records_are own js tick i added (other_same own js tick i other) adds)) by
     | inr (inr may) ↦ voter_adds own js added (voters_added may)
   ]

@@ -14,10 +14,13 @@ use Rattle.lks_base.specs.declared.records.Record.TheVariants as records
 use Rattle.lks_law.specs.Facts.{unnumbered}
 use Rattle.lks_law.specs.Journal.{deposit_of, contents_at}
 use Rattle.lks_law.specs.Polls.{Station}
-use Rattle.lks_law.specs.Reaction.{nothing}
+use Rattle.lks_law.specs.Reaction.{no_effect}
 use Rattle.lks_law.specs.References.{reference_list}
-use Rattle.lks_law.specs.Sessions.{Join, Commitment, join_of, commitment_of, hashes_of_vote, served, is_session, may_work, sessions, version_now}
-use Rattle.lks_law.specs.Voting.{answers, challenge, may_join, joined, on_invitation, repeats, commits, proved_to, on_proof, worked, on_work, most_served, gives, serves, requested, on_request, on_end, may_tune, on_tune}
+use Rattle.lks_law.specs.Sessions.{Join, Commitment, join_of, commitment_of, hashes_of_vote, served_blocks}
+use Rattle.lks_law.specs.Sessions.{is_session, may_work, sessions, version_now}
+use Rattle.lks_law.specs.Voting.{answers, challenge, may_join, joins_poll, on_invitation, repeats, commits, proved_to}
+use Rattle.lks_law.specs.Voting.{on_proof, casts_vote, on_work, most_served, gives, serves, answers_request}
+use Rattle.lks_law.specs.Voting.{on_request, on_end, may_tune, on_tune}
 use Rattle.lks_law.specs.Written.{MayFollow}
 use Rattle.lks_voter.specs.Voting.{answer_of}
 use Rattle.lks_voter.specs.declared.commitments.Serve.{Serve}
@@ -58,11 +61,12 @@ unnumbered_adds js (r ∷ []) may = one_unnumbered js r may
 unnumbered_adds js (r ∷ s ∷ rs) may = absurd may
 
 module _ (own : Station) (js : List Record) where
-  either_adds : (b : Bool) (r s : Reaction) → (b ≡ true → VoterAdds js r.records) → (b ≡ false → VoterAdds js s.records) → VoterAdds js (cond b r s).records
+  either_adds : (b : Bool) (r s : Reaction) → (b ≡ true → VoterAdds js r.records)
+      → (b ≡ false → VoterAdds js s.records) → VoterAdds js (cond b r s).records
   either_adds true r s one other = one refl
   either_adds false r s one other = other refl
 
-  if_adds : (b : Bool) (r : Reaction) → (b ≡ true → VoterAdds js r.records) → VoterAdds js (cond b r nothing).records
+  if_adds : (b : Bool) (r : Reaction) → (b ≡ true → VoterAdds js r.records) → VoterAdds js (cond b r no_effect).records
   if_adds true r one = one refl
   if_adds false r one = tt
 
@@ -74,27 +78,36 @@ module _ (own : Station) (js : List Record) where
   unfolding on_invitation may_join
   invitation_adds tick q au =
       either_adds (is_session q js) (answers (challenge q true)) _ (λ runs. tt)
-      (λ closed. either_adds (may_join own js tick q au) (joined own js tick q au) _ (λ may.
-      let parts = and_parts (not (is_some (join_of q js)) && is_some (deposit_of au js) && nat_lt (sessions js) 16) _ may in
-      let first = and_parts (not (is_some (join_of q js)) && is_some (deposit_of au js)) (nat_lt (sessions js) 16) parts.0 in
+      (λ closed. either_adds (may_join own js tick q au) (joins_poll own js tick q au) _ (λ may.
+      let parts = and_parts (not (is_some (join_of q js)) && is_some (deposit_of au js) && nat_lt (sessions js) 16)
+      _ may in
+      let first = and_parts (not (is_some (join_of q js)) && is_some (deposit_of au js)) (nat_lt (sessions js) 16)
+      parts.0 in
       let both = and_parts (not (is_some (join_of q js))) (is_some (deposit_of au js)) first.0 in
       record { voters = tt; follows = (none_of (join_of q js) both.0, both.1) }) (λ no_place. tt))
 
-  pub proof_adds : (q : PollName) (nonce : List ℕ) (kind : HashKind) (judged : Judged) → VoterAdds js (on_proof own js q nonce kind judged).records
+  pub proof_adds : (q : PollName) (nonce : List ℕ) (kind : HashKind) (judged : Judged)
+      → VoterAdds js (on_proof own js q nonce kind judged).records
   unfolding on_proof
-  proof_adds q nonce kind judged = if_adds (is_session q js) _ (λ runs. by_session runs (join_of q js) refl (commitment_of q js) refl)
+  proof_adds q nonce kind judged =
+      if_adds (is_session q js) _ (λ runs. by_session runs (join_of q js) refl (commitment_of q js) refl)
     where
-      by_judged : is_session q js ≡ true → (j : Join) → join_of q js ≡ Some j → commitment_of q js ≡ None → (judged : Judged) → VoterAdds js (commits own (reference_list own js) q (version_now j.au js) nonce kind judged).records
-      by_judged runs j joins new Accepted = record { voters = tt; follows = (runs, new, ap (option_map (λ j. version_now j.au js)) joins) }
+      by_judged : is_session q js ≡ true → (j : Join) → join_of q js ≡ Some j → commitment_of q js ≡ None
+          → (judged : Judged)
+          → VoterAdds js (commits own (reference_list own js) q (version_now j.au js) nonce kind judged).records
+      by_judged runs j joins new Accepted =
+          record { voters = tt; follows = (runs, new, ap (option_map (λ j. version_now j.au js)) joins) }
       by_judged runs j joins new Refused = record { voters = tt; follows = runs }
       by_judged runs j joins new NotAsked = tt
 
-      by_session : is_session q js ≡ true → (j : Option Join) → join_of q js ≡ j → (c : Option Commitment) → commitment_of q js ≡ c → VoterAdds js (proved_to own js q nonce kind judged j c).records
+      by_session : is_session q js ≡ true → (j : Option Join) → join_of q js ≡ j → (c : Option Commitment)
+          → commitment_of q js ≡ c → VoterAdds js (proved_to own js q nonce kind judged j c).records
       by_session runs None ej c ec = tt
       by_session runs (Some j) ej None ec = by_judged runs j ej ec judged
       by_session runs (Some j) ej (Some c) ec = if_adds (repeats c nonce kind) _ (λ same. tt)
 
-  may_vote_now : (q : PollName) → is_session q js ≡ true → (c : Commitment) → commitment_of q js ≡ Some c → hashes_of_vote q js ≡ None → may_work q js ≡ true
+  may_vote_now : (q : PollName) → is_session q js ≡ true → (c : Commitment) → commitment_of q js ≡ Some c
+      → hashes_of_vote q js ≡ None → may_work q js ≡ true
   unfolding may_work
   may_vote_now q runs c ec eh =
       and_from (is_session q js && is_some (commitment_of q js)) (not (is_some (hashes_of_vote q js)))
@@ -102,9 +115,13 @@ module _ (own : Station) (js : List Record) where
 
   pub work_adds : (q : PollName) → VoterAdds js (on_work own js q).records
   unfolding on_work
-  work_adds q = if_adds (is_session q js) _ (λ runs. by_session runs (join_of q js) refl (commitment_of q js) refl (hashes_of_vote q js) refl)
+  work_adds q =
+      if_adds (is_session q js) _
+      (λ runs. by_session runs (join_of q js) refl (commitment_of q js) refl (hashes_of_vote q js) refl)
     where
-      by_session : is_session q js ≡ true → (j : Option Join) → join_of q js ≡ j → (c : Option Commitment) → commitment_of q js ≡ c → (h : Option (List (List ℕ))) → hashes_of_vote q js ≡ h → VoterAdds js (worked own js q j c h).records
+      by_session : is_session q js ≡ true → (j : Option Join) → join_of q js ≡ j → (c : Option Commitment)
+          → commitment_of q js ≡ c → (h : Option (List (List ℕ))) → hashes_of_vote q js ≡ h
+          → VoterAdds js (casts_vote own js q j c h).records
       by_session runs None ej c ec h eh = tt
       by_session runs (Some j) ej None ec h eh = tt
       by_session runs (Some j) ej (Some c) ec None eh = record { voters = tt; follows = may_vote_now q runs c ec eh }
@@ -112,22 +129,28 @@ module _ (own : Station) (js : List Record) where
 
   pub request_adds : (q : PollName) (b : ℕ) → VoterAdds js (on_request own js q b).records
   unfolding on_request
-  request_adds q b = if_adds (is_session q js) _ (λ runs. by_session runs (join_of q js) (commitment_of q js) (hashes_of_vote q js) refl)
+  request_adds q b =
+      if_adds (is_session q js) _
+      (λ runs. by_session runs (join_of q js) (commitment_of q js) (hashes_of_vote q js) refl)
     where
-      by_block : is_session q js ≡ true → is_some (hashes_of_vote q js) ≡ true → (j : Join) (o : Option (List ℕ)) → VoterAdds js (serves q b (most_served own.rules j.repairs) (served q js) o).records
+      by_block : is_session q js ≡ true → is_some (hashes_of_vote q js) ≡ true → (j : Join) (o : Option (List ℕ))
+          → VoterAdds js (serves q b (most_served own.rules j.repairs) (served_blocks q js) o).records
       by_block runs voted j None = tt
-      by_block runs voted j (Some bytes) = by_answer (answer_of (served q js) b (most_served own.rules j.repairs))
+      by_block runs voted j (Some bytes) =
+          by_answer (answer_of (served_blocks q js) b (most_served own.rules j.repairs))
         where
           by_answer : (a : Serve) → VoterAdds js (gives q b bytes a).records
           by_answer First = record { voters = tt; follows = (runs, voted) }
           by_answer Again = tt
           by_answer Spent = tt
 
-      by_session : is_session q js ≡ true → (j : Option Join) (c : Option Commitment) (h : Option (List (List ℕ))) → hashes_of_vote q js ≡ h → VoterAdds js (requested own js q b j c h).records
+      by_session : is_session q js ≡ true → (j : Option Join) (c : Option Commitment) (h : Option (List (List ℕ)))
+          → hashes_of_vote q js ≡ h → VoterAdds js (answers_request own js q b j c h).records
       by_session runs None c h eh = tt
       by_session runs (Some j) None h eh = tt
       by_session runs (Some j) (Some c) None eh = tt
-      by_session runs (Some j) (Some c) (Some h) eh = by_block runs (ap is_some eh) j (slice_get (contents_at j.au c.version js) b)
+      by_session runs (Some j) (Some c) (Some h) eh =
+          by_block runs (ap is_some eh) j (slice_get (contents_at j.au c.version js) b)
 
   pub end_adds : (q : PollName) → VoterAdds js (on_end js q).records
   unfolding on_end
@@ -136,5 +159,10 @@ module _ (own : Station) (js : List Record) where
   pub tune_adds : (quorum minority repairs : ℕ) → VoterAdds js (on_tune own quorum minority repairs).records
   unfolding on_tune may_tune
   tune_adds quorum minority repairs = if_adds (may_tune own.rules quorum minority repairs) _ (λ may.
-      let some = and_parts (nat_le 1 quorum && nat_le quorum own.rules.inner && obeys_quorum_rule quorum minority) (nat_le repairs MOST_REPAIRS) may in
-      record { voters = (and_parts (nat_le 1 quorum && nat_le quorum own.rules.inner) (obeys_quorum_rule quorum minority) some.0).1; follows = tt })
+      let some = and_parts (nat_le 1 quorum && nat_le quorum own.rules.inner && obeys_quorum_rule quorum minority)
+      (nat_le repairs MOST_REPAIRS) may in
+      record {
+        voters = (and_parts (nat_le 1 quorum && nat_le quorum own.rules.inner)
+            (obeys_quorum_rule quorum minority) some.0).1;
+        follows = tt;
+      })

@@ -1,8 +1,8 @@
 -- The alarms of a history.
 use Rattle.std.specs.Prelude.{ℕ, if◌then◌else◌, Option, Some, None, option_map, List, [], ◌∷◌, ◌++◌}
 use Rattle.std.specs.List.{filter_map}
-use Rattle.lks_alarm.specs.declared.alarms.Alarm.{Alarm}
-use Rattle.lks_alarm.specs.declared.alarms.AlarmKind.TheVariants as kind
+use Rattle.lks_outside.specs.declared.alarms.Alarm.{Alarm}
+use Rattle.lks_outside.specs.declared.alarms.AlarmKind.TheVariants as kind
 use Rattle.lks_base.specs.Notes.{Ending, noted}
 use Rattle.lks_base.specs.declared.entries.Note.{Note}
 use Rattle.lks_base.specs.declared.events.Event.{Event}
@@ -11,7 +11,7 @@ use Rattle.lks_base.specs.declared.names.Outcome.{Outcome}
 use Rattle.lks_base.specs.declared.names.Outcome.TheVariants as outcome
 use Rattle.lks_base.specs.declared.plans.Plan.{Plan}
 use Rattle.lks_base.specs.declared.records.Record.{Record}
-use Rattle.lks_law.specs.Journal.{said}
+use Rattle.lks_law.specs.Journal.{said_by}
 use Rattle.lks_law.specs.World.{World, Deed, start, happens, deed_of, effect_of}
 
 -- a poll raises an alarm where it ends without a landslide, or without a supplier
@@ -19,8 +19,10 @@ use Rattle.lks_law.specs.World.{World, Deed, start, happens, deed_of, effect_of}
 abbrev pub closing_alarm : ℕ → ℕ → ℕ → Outcome → Option Alarm
 closing_alarm peer tick number outcome.Agreed = None
 closing_alarm peer tick number outcome.Inquorate = None
-closing_alarm peer tick number (outcome.Split block) = Some (record { peer = peer; tick = tick; kind = kind.Split number block })
-closing_alarm peer tick number (outcome.NoSupplier block) = Some (record { peer = peer; tick = tick; kind = kind.NoSupplier number block })
+closing_alarm peer tick number (outcome.Split block) =
+    Some (record { peer = peer; tick = tick; kind = kind.Split number block })
+closing_alarm peer tick number (outcome.NoSupplier block) =
+    Some (record { peer = peer; tick = tick; kind = kind.NoSupplier number block })
 
 -- the alarm of a poll that ended, or of an AU that is overdue
 abbrev pub alarm_of : ℕ → ℕ → Option Ending → Option ℕ → Option Alarm
@@ -30,7 +32,9 @@ alarm_of peer tick None None = None
 
 -- the alarm of a record that the peer adds at this tick
 abbrev pub alarm_in : ℕ → ℕ → Record → Option Alarm
-alarm_in peer tick r = alarm_of peer tick (option_map (λ t. record { number = t.number; outcome = t.fact.outcome }) (said r).closed) (said r).overdue
+alarm_in peer tick r =
+    alarm_of peer tick (option_map (λ t. record { number = t.number; outcome = t.fact.outcome }) (said_by r).closed)
+    (said_by r).overdue
 
 -- the alarm of which a note tells, where the peer noted it at this tick
 abbrev pub alarm_noted : ℕ → ℕ → Note → Option Alarm

@@ -29,7 +29,8 @@ added_at place before after = drop (length (journal_at place before)) (journal_a
 
 abbrev pub batches_from : ℕ → World → List (List Record) → List Event → List (List Record)
 batches_from place w batches [] = batches
-batches_from place w batches (e ∷ es) = batches_from place (happens w e) (with_batch batches (added_at place w (happens w e))) es
+batches_from place w batches (e ∷ es) =
+    batches_from place (happens w e) (with_batch batches (added_at place w (happens w e))) es
 
 -- the batches of the honest peer at this place: one for each deposit, and then one for each event that added records
 unfoldable pub batches_at : ℕ → Plan → List Event → List (List Record)

@@ -40,15 +40,34 @@ with_later_votes au b bytes = opened_on au ∷ Shut 1 ∷ Replaced 1 au b bytes 
 -- worlds of two honest peers, 1 and 2
 
 abbrev pub peer_of : Rules → ℕ → List Record → Standing
-peer_of rules id journal = record { own = record { rules = rules; aus = []; id = id; seed = []; proof = []; refs = []; friends = []; hash = Sha256 }; journal = journal }
+peer_of rules id journal =
+    record {
+      own = record {
+        rules = rules;
+        aus = [];
+        id = id;
+        seed = [];
+        proof = [];
+        refs = [];
+        friends = [];
+        hash = Sha256;
+      };
+      journal = journal;
+    }
 
 -- the first one counts a vote that the other didn't vote
 abbrev pub with_strange_vote : Rules → List (List ℕ) → World
-with_strange_vote rules hashes = record { peers = peer_of rules 1 (VoteIn 1 2 hashes ∷ []) ∷ peer_of rules 2 [] ∷ []; bag = []; tick = 0 }
+with_strange_vote rules hashes =
+    record { peers = peer_of rules 1 (VoteIn 1 2 hashes ∷ []) ∷ peer_of rules 2 [] ∷ []; bag = []; tick = 0 }
 
 -- it sends no message
 abbrev pub with_strange_bytes : Rules → World
-with_strange_bytes rules = record { peers = peer_of rules 1 [] ∷ peer_of rules 2 [] ∷ []; bag = record { from = 1; to = 2; bytes = [] } ∷ []; tick = 0 }
+with_strange_bytes rules =
+    record {
+      peers = peer_of rules 1 [] ∷ peer_of rules 2 [] ∷ [];
+      bag = record { from = 1; to = 2; bytes = [] } ∷ [];
+      tick = 0;
+    }
 
 -- an envelope is delivered that nobody sent
 abbrev pub with_no_envelope : List Event

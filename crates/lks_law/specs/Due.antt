@@ -1,5 +1,7 @@
--- What is due after a history: envelopes that wait, work that is ready, and turns of peers. It is chosen without a verdict.
-use Rattle.std.specs.Prelude.{◌≡◌, ℕ, Bool, true, false, not, ◌==◌, if◌then◌else◌, Option, Some, None, is_some, List, [], ◌∷◌, ◌++◌, length, map, filter, slice_get}
+-- What is due after a history: envelopes that wait, work that is ready, and turns of peers. It is chosen without a
+-- verdict.
+use Rattle.std.specs.Prelude.{◌≡◌, ℕ, Bool, true, false, not, ◌==◌, if◌then◌else◌, Option, Some, None, is_some, List}
+use Rattle.std.specs.Prelude.{[], ◌∷◌, ◌++◌, length, map, filter, slice_get}
 use Rattle.std.specs.List.{list_any, filter_map, flat_map, range_with_len}
 use Rattle.lks_base.specs.Steps.{Act, act_of}
 use Rattle.lks_base.specs.declared.events.Due.{Due}
@@ -7,11 +9,12 @@ use Rattle.lks_base.specs.declared.events.Due.TheVariants.{Delivery, Own}
 use Rattle.lks_base.specs.declared.events.Event.{Event}
 use Rattle.lks_base.specs.declared.events.Event.TheVariants.{Step, Cut, Tick, Lose, Forge, Crash}
 use Rattle.lks_base.specs.declared.events.PeerStep.{PeerStep}
-use Rattle.lks_base.specs.declared.events.PeerStep.TheVariants.{OpenPoll, Widen, Shut, Tally, Nudge, GiveUp, Work, Expire, Check, Tune, Deliver}
+use Rattle.lks_base.specs.declared.events.PeerStep.TheVariants.{OpenPoll, Widen, Shut, Tally, Nudge, GiveUp, Work}
+use Rattle.lks_base.specs.declared.events.PeerStep.TheVariants.{Expire, Check, Tune, Deliver}
 use Rattle.lks_base.specs.declared.names.Judged.{Judged}
 use Rattle.lks_base.specs.declared.plans.Plan.{Plan}
 use Rattle.lks_base.specs.declared.records.Record.{Record}
-use Rattle.lks_law.specs.Journal.{openings, is_running, is_voting, is_widened, unanswered}
+use Rattle.lks_law.specs.Journal.{openings, is_running, is_voting, is_widened, unanswered_request}
 use Rattle.lks_law.specs.Reaction.{may_tally}
 use Rattle.lks_law.specs.Sessions.{may_work, committed_polls}
 use Rattle.lks_law.specs.World.{World, Standing, world}
@@ -64,7 +67,9 @@ turn_at id n asked voting widened =
 
 unfoldable pub turn_of : ℕ → List Record → ℕ → Option PeerStep
 turn_of id journal n =
-    if is_running n journal then turn_at id n (is_some (unanswered n journal)) (is_voting n journal) (is_widened n journal) else None
+    if is_running n journal
+    then turn_at id n (is_some (unanswered_request n journal)) (is_voting n journal) (is_widened n journal)
+    else None
 
 -- such steps of a peer, by poll number
 unfoldable pub turns_at : Standing → List PeerStep
@@ -101,10 +106,11 @@ next_to_settle plan history = first_due (pending plan history) (ready (world pla
 
 -- until nothing is due, else a peer takes its turn.
 unfoldable pub next_to_finish : Plan → List Event → Option Due
-next_to_finish plan history = first_due (pending plan history) (ready (world plan history) ++ turns (world plan history))
+next_to_finish plan history =
+    first_due (pending plan history) (ready (world plan history) ++ turns (world plan history))
 
--- What is due at all, of which threads take what they meet: each envelope that waits and each ready work, and the turns of peers
--- only where there is neither.
+-- What is due at all, of which threads take what they meet: each envelope that waits and each ready work, and the turns
+-- of peers only where there is neither.
 
 abbrev pub or_else : List Due → List Due → List Due
 or_else [] others = others
@@ -112,7 +118,8 @@ or_else (d ∷ ds) others = d ∷ ds
 
 unfoldable pub dues : Plan → List Event → List Due
 dues plan history =
-    or_else (map Delivery (pending plan history) ++ map Own (ready (world plan history))) (map Own (turns (world plan history)))
+    or_else (map Delivery (pending plan history) ++ map Own (ready (world plan history)))
+    (map Own (turns (world plan history)))
 
 -- the event of what is due, whatever a judge says
 abbrev pub IsEventOf : Due → Event → Type 0

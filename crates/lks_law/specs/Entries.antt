@@ -1,5 +1,6 @@
 -- What a report says of each event of a history.
-use Rattle.std.specs.Prelude.{ℕ, Bool, false, if◌then◌else◌, min, Option, Some, None, List, [], ◌∷◌, ◌++◌, length, slice_get}
+use Rattle.std.specs.Prelude.{ℕ, Bool, false, if◌then◌else◌, min, Option, Some, None, List, [], ◌∷◌, ◌++◌, length}
+use Rattle.std.specs.Prelude.{slice_get}
 use Rattle.std.specs.List.{filter_map}
 use Rattle.lks_base.specs.Checking.{has_member}
 use Rattle.lks_base.specs.Steps.{Act, act_of}
@@ -12,7 +13,9 @@ use Rattle.lks_base.specs.declared.events.Event.TheVariants.{Step, Cut, Tick, Lo
 use Rattle.lks_base.specs.declared.events.PeerStep.{PeerStep}
 use Rattle.lks_base.specs.declared.plans.Plan.{Plan}
 use Rattle.lks_base.specs.declared.records.Record.{Record}
-use Rattle.lks_base.specs.declared.records.Record.TheVariants.{Deposit, PollOpened, Nominated, OuterOpened, VoteIn, Shut, Asked, RepairBad, Replaced, Closed, Overdue, Joined, Committed, Voted, Served, Ended, Tuned}
+use Rattle.lks_base.specs.declared.records.Record.TheVariants.{Deposit, PollOpened, Nominated, OuterOpened, VoteIn}
+use Rattle.lks_base.specs.declared.records.Record.TheVariants.{Shut, Asked, RepairBad, Replaced, Closed, Overdue}
+use Rattle.lks_base.specs.declared.records.Record.TheVariants.{Joined, Committed, Voted, Served, Ended, Tuned}
 use Rattle.lks_law.specs.Journal.{Opening, opening_of}
 use Rattle.lks_law.specs.World.{World, Deed, Standing, start, happens, deed_of, effect_of, peer_at}
 
@@ -25,8 +28,8 @@ unfoldable pub is_inner : List Record → ℕ → ℕ → Bool
 is_inner journal n v = has_inner (opening_of n journal) v
 
 -- a length as a note has it: in its limits no record has a longer list
-abbrev pub reported : ℕ → ℕ
-reported n = min n 65535
+abbrev pub reported_count : ℕ → ℕ
+reported_count n = min n 65535
 
 -- the note of a record of another peer's poll, or of the peer itself
 unfoldable pub session_note_of : Record → Option Note
@@ -53,12 +56,12 @@ unfoldable pub note_with : (ℕ → ℕ → Bool) → Record → Option Note
 note_with is_in (Deposit au blocks) = None
 note_with is_in (PollOpened number au nonce inner tick limits kind) = Some (note.Opened number au)
 note_with is_in (Nominated number voter nominees) = Some (note.Nominated number voter)
-note_with is_in (OuterOpened number outer) = Some (note.Outer number (reported (length outer)))
+note_with is_in (OuterOpened number outer) = Some (note.Outer number (reported_count (length outer)))
 note_with is_in (VoteIn number voter hashes) = Some (note.VoteIn number voter (is_in number voter))
 note_with is_in (Shut number) = Some (note.Shut number)
 note_with is_in (Asked number block voter) = Some (note.Asked number block voter)
 note_with is_in (RepairBad number block voter) = Some (note.RepairBad number block voter)
-note_with is_in (Replaced number au block bytes) = Some (note.Replaced number au block (reported (length bytes)))
+note_with is_in (Replaced number au block bytes) = Some (note.Replaced number au block (reported_count (length bytes)))
 note_with is_in (Closed number outcome tick) = Some (note.Closed number outcome)
 note_with is_in (Overdue au tick) = session_note_of (Overdue au tick)
 note_with is_in (Joined poll au tick low repairs) = session_note_of (Joined poll au tick low repairs)
@@ -90,18 +93,23 @@ receiver_of None = 0
 receiver_of (Some e) = e.to
 
 -- the envelope that a step delivers
-abbrev pub carried : List Envelope → PeerStep → Option Envelope
-carried bag s = carried_in (act_of s) where
+abbrev pub carried_envelope : List Envelope → PeerStep → Option Envelope
+carried_envelope bag s = carried_in (act_of s) where
   carried_in : Act → Option Envelope
   carried_in (Act.Own peer) = None
   carried_in (Act.Delivery envelope judged) = slice_get bag envelope
 
 abbrev pub entry_for : Event → Option Envelope → List Note → ℕ → Entry
-entry_for event envelope notes sends = record { event = event; from = sender_of envelope; to = receiver_of envelope; notes = notes; sends = sends }
+entry_for event envelope notes sends =
+    record { event = event; from = sender_of envelope; to = receiver_of envelope; notes = notes; sends = sends }
 
 unfoldable pub entry_of : World → Event → Entry
-entry_of w (Step s) = entry_for (Step s) (carried w.bag s) (notes_of w.tick w.peers (deed_of w.bag s)) (length (effect_of w.tick w.peers (deed_of w.bag s)).sends)
-entry_of w (Cut s kept) = entry_for (Cut s kept) (carried w.bag s) (if kept then notes_of w.tick w.peers (deed_of w.bag s) else []) 0
+entry_of w (Step s) =
+    entry_for (Step s) (carried_envelope w.bag s) (notes_of w.tick w.peers (deed_of w.bag s))
+    (length (effect_of w.tick w.peers (deed_of w.bag s)).sends)
+entry_of w (Cut s kept) =
+    entry_for (Cut s kept) (carried_envelope w.bag s)
+    (if kept then notes_of w.tick w.peers (deed_of w.bag s) else []) 0
 entry_of w (Forge from to bytes) = entry_for (Forge from to bytes) None [] 1
 entry_of w (Tick by) = entry_for (Tick by) None [] 0
 entry_of w (Lose envelope) = entry_for (Lose envelope) None [] 0

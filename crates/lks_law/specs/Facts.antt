@@ -1,5 +1,6 @@
 -- What every event keeps: journals are journals of their peers, and what these say of polls.
-use Rattle.std.specs.Prelude.{◌≡◌, ◌≤◌, ◌⊎◌, ℕ, true, false, Option, Some, None, List, [], ◌∷◌, ◌++◌, length, filter, map, slice_get}
+use Rattle.std.specs.Prelude.{◌≡◌, ◌≤◌, ◌⊎◌, ℕ, true, false, Option, Some, None, List, [], ◌∷◌, ◌++◌, length, filter}
+use Rattle.std.specs.Prelude.{map, slice_get}
 use Rattle.std.specs.List.{range_with_len}
 use Rattle.std.specs.Option.{option_to_list}
 use Rattle.lks_base.specs.declared.names.HashKind.{HashKind}
@@ -8,10 +9,12 @@ use Rattle.lks_base.specs.declared.names.Limits.{Limits}
 use Rattle.lks_base.specs.declared.plans.PeerPlan.{PeerPlan}
 use Rattle.lks_base.specs.declared.plans.Plan.{Plan}
 use Rattle.lks_base.specs.declared.reactions.Input.{Input}
-use Rattle.lks_base.specs.declared.reactions.Input.TheVariants.{OpenPoll, Widen, Shut, Tally, Nudge, GiveUp, Work, Expire, Check, Tune, Got}
+use Rattle.lks_base.specs.declared.reactions.Input.TheVariants.{OpenPoll, Widen, Shut, Tally, Nudge, GiveUp, Work}
+use Rattle.lks_base.specs.declared.reactions.Input.TheVariants.{Expire, Check, Tune, Got}
 use Rattle.lks_base.specs.declared.records.Record.{Record}
 use Rattle.lks_base.specs.declared.records.Record.TheVariants as records
-use Rattle.lks_law.specs.Journal.{Opening, Request, contents_of, opening_of, is_shut, is_closed, has_asked, waiting, unanswered, openings, opened_numbers, was_tuned}
+use Rattle.lks_law.specs.Journal.{Opening, Request, contents_of, opening_of, is_shut, is_closed, has_asked}
+use Rattle.lks_law.specs.Journal.{waiting_requests, unanswered_request, openings, opened_numbers, was_tuned}
 use Rattle.lks_law.specs.Polls.{Station, limits_of, votes, inner_votes, said_at}
 use Rattle.lks_law.specs.Table.{reaction}
 use Rattle.lks_law.specs.World.{Standing, World, is_honest, station_of, deposits}
@@ -46,7 +49,8 @@ limits_left Sha512_256 limits = limits
 -- a record as it was written before numbers could be tuned
 abbrev pub unnumbered : Record → Record
 unnumbered (records.Deposit au blocks) = records.Deposit au blocks
-unnumbered (records.PollOpened number au nonce inner tick limits kind) = records.PollOpened number au nonce inner tick (limits_left kind limits) kind
+unnumbered (records.PollOpened number au nonce inner tick limits kind) =
+    records.PollOpened number au nonce inner tick (limits_left kind limits) kind
 unnumbered (records.Nominated number voter nominees) = records.Nominated number voter nominees
 unnumbered (records.OuterOpened number outer) = records.OuterOpened number outer
 unnumbered (records.VoteIn number voter hashes) = records.VoteIn number voter hashes
@@ -63,7 +67,8 @@ unnumbered (records.Served poll block) = records.Served poll block
 unnumbered (records.Ended poll) = records.Ended poll
 unnumbered (records.Tuned quorum minority repairs) = records.Tuned quorum minority repairs
 
--- What the peer adds to this journal for what it heard is what the rules say. Before any tuning it may lack the numbers.
+-- What the peer adds to this journal for what it heard is what the rules say. Before any tuning it may lack the
+-- numbers.
 abbrev pub AddsFor : Station → List Record → Heard → List Record → Type 0
 AddsFor own journal h added =
     let records = (reaction own journal h.tick h.input).records in
@@ -73,7 +78,8 @@ AddsFor own journal h added =
 abbrev pub GoesBy : Station → List Record → List Heard → List Record → Type 0
 GoesBy own begun [] journal = journal ≡ begun
 GoesBy own begun (h ∷ hs) journal =
-    (before : List Record) × (added : List Record) × GoesBy own begun hs before × IsHeard h.input × AddsFor own before h added × (journal ≡ before ++ added)
+    (before : List Record) × (added : List Record) × GoesBy own begun hs before × IsHeard h.input
+    × AddsFor own before h added × (journal ≡ before ++ added)
 
 -- none is later than this tick, and none is earlier than the one before it
 abbrev pub AreInOrder : ℕ → List Heard → Type 0
@@ -90,33 +96,40 @@ pub record IsJournalOf (own : Station) (begun : List Record) (tick : ℕ) (journ
 
 abbrev pub HasJournal : Plan → ℕ → Option PeerPlan → Standing → Type 0
 HasJournal plan tick None s = ⊥
-HasJournal plan tick (Some p) s = (s.own ≡ station_of plan p) × IsJournalOf s.own (deposits plan.aus p.copies) tick s.journal
+HasJournal plan tick (Some p) s =
+    (s.own ≡ station_of plan p) × IsJournalOf s.own (deposits plan.aus p.copies) tick s.journal
 
 pub record HaveJournals (plan : Plan) (w : World) : Type 0 where
   pub count : length w.peers ≡ length (filter is_honest plan.peers)
-  pub each : (place : ℕ) (s : Standing) → slice_get w.peers place ≡ Some s → HasJournal plan w.tick (slice_get (filter is_honest plan.peers) place) s
+  pub each : (place : ℕ) (s : Standing) → slice_get w.peers place ≡ Some s
+      → HasJournal plan w.tick (slice_get (filter is_honest plan.peers) place) s
 
 -- What a journal says of its poll n.
 pub record IsPollOf (own : Station) (journal : List Record) (n : ℕ) : Type 0 where
   -- each voter's vote stands once
   pub distinct : AreDistinct (votes n journal)
   -- a poll that runs and is shut has its quorum
-  pub quorum : (opening : Opening) → opening_of n journal ≡ Some opening → is_closed n journal ≡ false → is_shut n journal ≡ true
+  pub quorum : (opening : Opening) → opening_of n journal ≡ Some opening → is_closed n journal ≡ false
+      → is_shut n journal ≡ true
       → (limits_of own.rules opening).quorum ≤ length (inner_votes n opening.inner journal)
   -- so has one that asked for a repair, and it is shut
   pub asked : (opening : Opening) → opening_of n journal ≡ Some opening → has_asked n journal ≡ true
-      → (is_shut n journal ≡ true) × ((limits_of own.rules opening).quorum ≤ length (inner_votes n opening.inner journal))
+      → (is_shut n journal ≡ true)
+      × ((limits_of own.rules opening).quorum ≤ length (inner_votes n opening.inner journal))
   -- at most one request is unanswered
-  pub single : waiting n journal ≡ option_to_list (unanswered n journal)
+  pub single : waiting_requests n journal ≡ option_to_list (unanswered_request n journal)
   -- while one is, the poll runs, and its votes still say that the block is lost
-  pub runs : (r : Request) → unanswered n journal ≡ Some r → (is_closed n journal ≡ false) × (has_asked n journal ≡ true)
-  pub lost : (opening : Opening) (r : Request) → opening_of n journal ≡ Some opening → unanswered n journal ≡ Some r
+  pub runs : (r : Request) → unanswered_request n journal ≡ Some r
+      → (is_closed n journal ≡ false) × (has_asked n journal ≡ true)
+  pub lost : (opening : Opening) (r : Request) → opening_of n journal ≡ Some opening
+      → unanswered_request n journal ≡ Some r
       → said_at own n opening (contents_of opening.au journal) r.block journal ≡ at.Loss
 
--- what a journal says of its polls: they are numbered from 1 on in the order in which they were opened, each is as above,
--- and at most one runs on an AU
+-- what a journal says of its polls: they are numbered from 1 on in the order in which they were opened, each is as
+-- above, and at most one runs on an AU
 pub record HasPolls (own : Station) (journal : List Record) : Type 0 where
   pub numbered : opened_numbers journal ≡ range_with_len 1 (openings journal)
   pub each : (n : ℕ) → IsPollOf own journal n
-  pub alone : (m n : ℕ) (o p : Opening) → opening_of m journal ≡ Some o → opening_of n journal ≡ Some p → is_closed m journal ≡ false → is_closed n journal ≡ false
+  pub alone : (m n : ℕ) (o p : Opening) → opening_of m journal ≡ Some o → opening_of n journal ≡ Some p
+      → is_closed m journal ≡ false → is_closed n journal ≡ false
       → o.au ≡ p.au → m ≡ n

@@ -1,5 +1,6 @@
 -- What the rules see to before they add a record to a state.
-use Rattle.std.specs.Prelude.{◌≡◌, ◌≤◌, ◌<◌, ◌&&◌, ℕ, Bool, true, false, nat_lt, Option, None, Some, is_some, List, [], ◌∷◌, length, All}
+use Rattle.std.specs.Prelude.{◌≡◌, ◌≤◌, ◌<◌, ◌&&◌, ℕ, Bool, true, false, nat_lt, Option, None, Some, is_some, List}
+use Rattle.std.specs.Prelude.{[], ◌∷◌, length, All}
 use Rattle.std.specs.List.{list_all}
 use Rattle.lks_base.specs.Checking.{has_member}
 use Rattle.lks_base.specs.Quorums.{obeys_quorum_rule}
@@ -7,7 +8,9 @@ use Rattle.lks_base.specs.declared.limits.TheConstants.{MOST_BLOCKS, MOST_BLOCK_
 use Rattle.lks_base.specs.declared.names.Outcome.{Outcome}
 use Rattle.lks_base.specs.declared.names.Outcome.TheVariants.{Agreed, Inquorate, Split, NoSupplier}
 use Rattle.lks_base.specs.declared.records.Record.{Record}
-use Rattle.lks_base.specs.declared.records.Record.TheVariants.{Deposit, PollOpened, Nominated, OuterOpened, VoteIn, Shut, Asked, RepairBad, Replaced, Closed, Overdue, Joined, Committed, Voted, Served, Ended, Tuned}
+use Rattle.lks_base.specs.declared.records.Record.TheVariants.{Deposit, PollOpened, Nominated, OuterOpened, VoteIn}
+use Rattle.lks_base.specs.declared.records.Record.TheVariants.{Shut, Asked, RepairBad, Replaced, Closed, Overdue}
+use Rattle.lks_base.specs.declared.records.Record.TheVariants.{Joined, Committed, Voted, Served, Ended, Tuned}
 use Rattle.lks_law.specs.Polls.{Station}
 use Rattle.lks_law.specs.Reacting.{verdict_of}
 use Rattle.lks_law.specs.State.{Poll, Copy, State, poll_at, copy_at, blocks_at, after}
@@ -60,24 +63,29 @@ marks_left v = list_all has_mark_left v.marks
 abbrev pub MayHave : ℕ → Cast → Type 0
 MayHave block c = answer_of c.voted.served block c.repairs ≡ First
 
--- A deposit has blocks, and comes before any poll; a poll is opened on a held AU; a voter of a running one votes once, with a
--- hash for each block; a voter is asked for a block that the AU has, once voting ended and while nobody is waited for; a block
--- that the AU has is replaced; a poll of another is joined on a held AU; a new block is given while more may be; and numbers in
--- force are such that a poll may be opened with them.
+-- A deposit has blocks, and comes before any poll; a poll is opened on a held AU; a voter of a running one votes once,
+-- with a hash for each block; a voter is asked for a block that the AU has, once voting ended and while nobody is
+-- waited for; a block that the AU has is replaced; a poll of another is joined on a held AU; a new block is given while
+-- more may be; and numbers in force are such that a poll may be opened with them.
 abbrev pub Fits : Station → State → Record → Type 0
 Fits own s (Deposit au blocks) = IsCounted blocks × (s.polls ≡ []) × AreSmall blocks
-Fits own s (PollOpened number au nonce inner tick limits kind) = (is_some (copy_at au s.copies) ≡ true) × (length inner ≤ MOST_CIRCLE) × (s.openings < most_numbered)
+Fits own s (PollOpened number au nonce inner tick limits kind) =
+    (is_some (copy_at au s.copies) ≡ true) × (length inner ≤ MOST_CIRCLE) × (s.openings < most_numbered)
 Fits own s (Nominated number voter nominees) = Unit {0}
 Fits own s (OuterOpened number outer) = Unit {0}
 Fits own s (VoteIn number voter hashes) =
     (is_some (poll_at number s.polls) ≡ true)
-    × Where (poll_at number s.polls) (λ p. (has_member p.voters voter ≡ false) × (length hashes ≡ length (blocks_at p.opening.au s.copies)))
+    × Where (poll_at number s.polls)
+    (λ p. (has_member p.voters voter ≡ false) × (length hashes ≡ length (blocks_at p.opening.au s.copies)))
     × (marks_left s.voter ≡ true)
 Fits own s (Shut number) = Unit {0}
 Fits own s (Asked number block voter) =
-    Where (poll_at number s.polls) (λ p. (p.shut ≡ true) × (p.request ≡ None) × (block < length (blocks_at p.opening.au s.copies)))
+    Where (poll_at number s.polls)
+    (λ p. (p.shut ≡ true) × (p.request ≡ None) × (block < length (blocks_at p.opening.au s.copies)))
 Fits own s (RepairBad number block voter) = Unit {0}
-Fits own s (Replaced number au block bytes) = Where (copy_at au s.copies) (λ c. (block < length c.blocks) × (c.version < most_numbered)) × (length bytes ≤ MOST_BLOCK_BYTES)
+Fits own s (Replaced number au block bytes) =
+    Where (copy_at au s.copies) (λ c. (block < length c.blocks) × (c.version < most_numbered))
+    × (length bytes ≤ MOST_BLOCK_BYTES)
 Fits own s (Closed number outcome tick) = Where (poll_at number s.polls) (λ p. FitsOutcome own s p outcome)
 Fits own s (Overdue au tick) = Unit {0}
 Fits own s (Joined poll au tick low repairs) = is_some (copy_at au s.copies) ≡ true
@@ -108,8 +116,8 @@ IsPinnedWell p = AreWell p.blocks
 abbrev pub IsCastWell : Cast → Type 0
 IsCastWell c = AreWell c.blocks × (length c.voted.hashes ≤ MOST_BLOCKS)
 
--- each copy has as many blocks as an AU has, none of them too large; each request of a running poll is for one of them; each
--- session is on a held AU, and what it pins is such a copy; and a poll may be opened with the numbers in force
+-- each copy has as many blocks as an AU has, none of them too large; each request of a running poll is for one of them;
+-- each session is on a held AU, and what it pins is such a copy; and a poll may be opened with the numbers in force
 pub record IsSound (s : State) : Type 0 where
   pub counted : All (λ (c : Copy). IsCounted c.blocks) s.copies
   pub small : All (λ (c : Copy). AreSmall c.blocks) s.copies
@@ -122,4 +130,6 @@ pub record IsSound (s : State) : Type 0 where
 
 -- whether a poll, a version and a vote more can be numbered
 abbrev pub has_room : State → Bool
-has_room s = nat_lt s.openings most_numbered && list_all (λ (c : Copy). nat_lt c.version most_numbered) s.copies && marks_left s.voter
+has_room s =
+    nat_lt s.openings most_numbered && list_all (λ (c : Copy). nat_lt c.version most_numbered) s.copies
+    && marks_left s.voter

@@ -25,7 +25,8 @@ IsHonest plan peer = has_honest plan.peers peer ≡ true
 abbrev pub WasSent : World → ℕ → Type 0
 WasSent w envelope = envelope < length w.bag
 
--- An honest peer takes a step of its own, or an envelope that was sent is delivered. It is judged where it puts a question.
+-- An honest peer takes a step of its own, or an envelope that was sent is delivered. It is judged where it puts a
+-- question.
 abbrev pub MayStep : Plan → World → PeerStep → Type 0
 MayStep plan w s = MayBe (act_of s) where
   MayBe : Act → Type 0

@@ -1,12 +1,16 @@
 -- What a journal, the list of a peer's records, says of its AUs and polls.
-use Rattle.std.specs.Prelude.{◌≡◌, ℕ, Bool, true, false, ◌==◌, ◌-◌, ◌&&◌, nat_lt, not, if◌then◌else◌, Option, Some, None, is_some, unwrap_or, option_map, option_and_then, List, [], ◌∷◌, ◌++◌, slice_get, slice_set, take, count_by}
+use Rattle.std.specs.Prelude.{◌≡◌, ℕ, Bool, true, false, ◌==◌, ◌-◌, ◌&&◌, nat_lt, not, if◌then◌else◌, Option, Some}
+use Rattle.std.specs.Prelude.{None, is_some, unwrap_or, option_map, option_and_then, List, [], ◌∷◌, ◌++◌, slice_get}
+use Rattle.std.specs.Prelude.{slice_set, take, count_by}
 use Rattle.std.specs.List.{list_any, filter_map}
 use Rattle.std.specs.Option.{option_map_or}
 use Rattle.lks_base.specs.declared.names.Numbers.{Numbers}
 use Rattle.lks_base.specs.declared.names.Outcome.{Outcome}
 use Rattle.lks_base.specs.declared.names.Outcome.TheVariants.{Agreed, Inquorate, Split, NoSupplier}
 use Rattle.lks_base.specs.declared.records.Record.{Record}
-use Rattle.lks_base.specs.declared.records.Record.TheVariants.{Deposit, PollOpened, Nominated, OuterOpened, VoteIn, Shut, Asked, RepairBad, Replaced, Closed, Overdue, Joined, Committed, Voted, Served, Ended, Tuned}
+use Rattle.lks_base.specs.declared.records.Record.TheVariants.{Deposit, PollOpened, Nominated, OuterOpened, VoteIn}
+use Rattle.lks_base.specs.declared.records.Record.TheVariants.{Shut, Asked, RepairBad, Replaced, Closed, Overdue}
+use Rattle.lks_base.specs.declared.records.Record.TheVariants.{Joined, Committed, Voted, Served, Ended, Tuned}
 pub use Rattle.lks_tally.specs.Running.{Opening, Request}
 use Rattle.lks_tally.specs.declared.ballots.Vote.{Vote}
 
@@ -79,37 +83,71 @@ pub record Said : Type 0 where
   pub tuned : Option Numbers
 
 abbrev pub silence : Said
-silence = record { deposit = None; replaced = None; overdue = None; opened = None; nominated = None; widened = None; voted = None; shut = None; asked = None; answered = None; closed = None; tuned = None }
+silence =
+    record {
+      deposit = None;
+      replaced = None;
+      overdue = None;
+      opened = None;
+      nominated = None;
+      widened = None;
+      voted = None;
+      shut = None;
+      asked = None;
+      answered = None;
+      closed = None;
+      tuned = None;
+    }
 
-abbrev pub said : Record → Said
-said (Deposit au blocks) = record silence { deposit = Some (record { number = au; fact = blocks }) }
-said (PollOpened number au nonce inner tick limits kind) =
-    record silence { opened = Some (record { number = number; tick = tick; opening = record { au = au; nonce = nonce; inner = inner; limits = limits; kind = kind } }) }
-said (Nominated number voter nominees) = record silence { nominated = Some (record { number = number; fact = record { voter = voter; nominees = nominees } }) }
-said (OuterOpened number outer) = record silence { widened = Some (record { number = number; fact = outer }) }
-said (VoteIn number voter hashes) = record silence { voted = Some (record { number = number; fact = record { voter = voter; hashes = hashes } }) }
-said (Shut number) = record silence { shut = Some number }
-said (Asked number block voter) = record silence { asked = Some (record { number = number; fact = record { block = block; voter = voter } }) }
-said (RepairBad number block voter) = record silence { answered = Some number }
-said (Replaced number au block bytes) = record silence { answered = Some number; replaced = Some (record { number = number; au = au; block = block; bytes = bytes }) }
-said (Closed number outcome tick) = record silence { closed = Some (record { number = number; fact = record { outcome = outcome; tick = tick } }) }
-said (Overdue au tick) = record silence { overdue = Some au }
-said (Joined poll au tick low repairs) = silence
-said (Committed poll nonce version kind) = silence
-said (Voted poll hashes) = silence
-said (Served poll block) = silence
-said (Ended poll) = silence
-said (Tuned quorum minority repairs) = record silence { tuned = Some (record { quorum = quorum; minority = minority; repairs = repairs }) }
+abbrev pub said_by : Record → Said
+said_by (Deposit au blocks) = record silence { deposit = Some (record { number = au; fact = blocks }) }
+said_by (PollOpened number au nonce inner tick limits kind) =
+    record silence {
+      opened = Some
+          (record {
+            number = number;
+            tick = tick;
+            opening = record { au = au; nonce = nonce; inner = inner; limits = limits; kind = kind };
+          });
+    }
+said_by (Nominated number voter nominees) =
+    record silence {
+      nominated = Some
+          (record { number = number; fact = record { voter = voter; nominees = nominees } });
+    }
+said_by (OuterOpened number outer) = record silence { widened = Some (record { number = number; fact = outer }) }
+said_by (VoteIn number voter hashes) =
+    record silence { voted = Some (record { number = number; fact = record { voter = voter; hashes = hashes } }) }
+said_by (Shut number) = record silence { shut = Some number }
+said_by (Asked number block voter) =
+    record silence { asked = Some (record { number = number; fact = record { block = block; voter = voter } }) }
+said_by (RepairBad number block voter) = record silence { answered = Some number }
+said_by (Replaced number au block bytes) =
+    record silence {
+      answered = Some number;
+      replaced = Some (record { number = number; au = au; block = block; bytes = bytes });
+    }
+said_by (Closed number outcome tick) =
+    record silence { closed = Some (record { number = number; fact = record { outcome = outcome; tick = tick } }) }
+said_by (Overdue au tick) = record silence { overdue = Some au }
+said_by (Joined poll au tick low repairs) = silence
+said_by (Committed poll nonce version kind) = silence
+said_by (Voted poll hashes) = silence
+said_by (Served poll block) = silence
+said_by (Ended poll) = silence
+said_by (Tuned quorum minority repairs) =
+    record silence { tuned = Some (record { quorum = quorum; minority = minority; repairs = repairs }) }
 
 abbrev pub deposit_in : ℕ → Record → Option (List (List ℕ))
-deposit_in au r = told_of au (said r).deposit
+deposit_in au r = told_of au (said_by r).deposit
 
 abbrev pub replacement_if : ℕ → Option Repair → Option Replacement
 replacement_if au None = None
-replacement_if au (Some repair) = if repair.au == au then Some (record { block = repair.block; bytes = repair.bytes }) else None
+replacement_if au (Some repair) =
+    if repair.au == au then Some (record { block = repair.block; bytes = repair.bytes }) else None
 
 abbrev pub replacement_in : ℕ → Record → Option Replacement
-replacement_in au r = replacement_if au (said r).replaced
+replacement_in au r = replacement_if au (said_by r).replaced
 
 -- What a record says of a poll.
 
@@ -118,36 +156,36 @@ opening_if n None = None
 opening_if n (Some opened) = if opened.number == n then Some opened.opening else None
 
 abbrev pub opening_in : ℕ → Record → Option Opening
-opening_in n r = opening_if n (said r).opened
+opening_in n r = opening_if n (said_by r).opened
 
 abbrev pub is_opening : Record → Bool
-is_opening r = is_some (said r).opened
+is_opening r = is_some (said_by r).opened
 
 -- the number of the poll that the record opens
 abbrev pub opened_in : Record → Option ℕ
-opened_in r = option_map (λ o. o.number) (said r).opened
+opened_in r = option_map (λ o. o.number) (said_by r).opened
 
 abbrev pub outer_in : ℕ → Record → Option (List ℕ)
-outer_in n r = told_of n (said r).widened
+outer_in n r = told_of n (said_by r).widened
 
 abbrev pub widens : ℕ → Record → Bool
-widens n r = is_of_poll n (said r).widened
+widens n r = is_of_poll n (said_by r).widened
 
 abbrev pub is_nominated_by : ℕ → ℕ → Record → Bool
-is_nominated_by n v r = tells_of n (λ t. t.voter == v) (said r).nominated
+is_nominated_by n v r = tells_of n (λ t. t.voter == v) (said_by r).nominated
 
 abbrev pub nominees_if : ℕ → Option (Told Named) → Option (List ℕ)
 nominees_if n None = None
 nominees_if n (Some told) = if told.number == n then Some told.fact.nominees else None
 
 abbrev pub nominees_in : ℕ → Record → Option (List ℕ)
-nominees_in n r = nominees_if n (said r).nominated
+nominees_in n r = nominees_if n (said_by r).nominated
 
 abbrev pub vote_in : ℕ → Record → Option Vote
-vote_in n r = told_of n (said r).voted
+vote_in n r = told_of n (said_by r).voted
 
 abbrev pub is_vote_of : ℕ → ℕ → Record → Bool
-is_vote_of n v r = tells_of n (λ t. t.voter == v) (said r).voted
+is_vote_of n v r = tells_of n (λ t. t.voter == v) (said_by r).voted
 
 -- whether there is a number, and it is n
 abbrev pub is_number : Option ℕ → ℕ → Bool
@@ -155,10 +193,10 @@ is_number None n = false
 is_number (Some number) n = number == n
 
 abbrev pub shuts : ℕ → Record → Bool
-shuts n r = is_number (said r).shut n
+shuts n r = is_number (said_by r).shut n
 
 abbrev pub closes : ℕ → Record → Bool
-closes n r = is_of_poll n (said r).closed
+closes n r = is_of_poll n (said_by r).closed
 
 abbrev pub agreed_as : ℕ → Outcome → Option ℕ
 agreed_as n Agreed = Some n
@@ -168,13 +206,13 @@ agreed_as n (NoSupplier block) = None
 
 -- the number of the poll that the record closes as agreed
 abbrev pub agreed_in : Record → Option ℕ
-agreed_in r = option_and_then (λ t. agreed_as t.number t.fact.outcome) (said r).closed
+agreed_in r = option_and_then (λ t. agreed_as t.number t.fact.outcome) (said_by r).closed
 
 abbrev pub asks : ℕ → ℕ → ℕ → Record → Bool
-asks n b v r = tells_of n (λ t. t.block == b && t.voter == v) (said r).asked
+asks n b v r = tells_of n (λ t. t.block == b && t.voter == v) (said_by r).asked
 
 abbrev pub asks_any : ℕ → Record → Bool
-asks_any n r = is_of_poll n (said r).asked
+asks_any n r = is_of_poll n (said_by r).asked
 
 -- the requests of poll n that are unanswered after one more, and after an answer
 
@@ -188,7 +226,7 @@ waiting_without n before (Some number) = if number == n then [] else before
 
 -- those after a record, given those before it
 abbrev pub waiting_after : ℕ → List Request → Record → List Request
-waiting_after n before r = waiting_with n (waiting_without n before (said r).answered) (said r).asked
+waiting_after n before r = waiting_with n (waiting_without n before (said_by r).answered) (said_by r).asked
 
 -- the request of poll n that is unanswered after one more, and after an answer
 
@@ -202,14 +240,14 @@ unanswered_without n before (Some number) = if number == n then None else before
 
 -- that after a record, given the one before it
 abbrev pub unanswered_after : ℕ → Option Request → Record → Option Request
-unanswered_after n before r = unanswered_with n (unanswered_without n before (said r).answered) (said r).asked
+unanswered_after n before r = unanswered_with n (unanswered_without n before (said_by r).answered) (said_by r).asked
 
 -- the numbers in force after a record, given those before it
 abbrev pub numbers_after : Numbers → Record → Numbers
-numbers_after before r = unwrap_or (said r).tuned before
+numbers_after before r = unwrap_or (said_by r).tuned before
 
 abbrev pub is_tuning : Record → Bool
-is_tuning r = is_some (said r).tuned
+is_tuning r = is_some (said_by r).tuned
 
 -- AUs and their contents.
 
@@ -227,7 +265,8 @@ replaced_by blocks (r ∷ rs) = replaced_by (slice_set blocks r.block r.bytes) r
 
 -- the contents of an AU at a version: its deposit with so many replacements made, in order
 unfoldable pub contents_at : ℕ → ℕ → List Record → List (List ℕ)
-contents_at au version journal = replaced_by (unwrap_or (deposit_of au journal) []) (take version (replacements au journal))
+contents_at au version journal =
+    replaced_by (unwrap_or (deposit_of au journal) []) (take version (replacements au journal))
 
 -- its contents with all replacements made
 unfoldable pub contents_of : ℕ → List Record → List (List ℕ)
@@ -235,7 +274,9 @@ contents_of au journal = replaced_by (unwrap_or (deposit_of au journal) []) (rep
 
 -- of each block that a record of the journal replaces, and of the journal before it, this is true
 abbrev pub EachRepair : (List Record → Repair → Type 0) → List Record → Type 0
-EachRepair Is journal = (i : ℕ) (r : Record) (repair : Repair) → slice_get journal i ≡ Some r → (said r).replaced ≡ Some repair → Is (take i journal) repair
+EachRepair Is journal =
+    (i : ℕ) (r : Record) (repair : Repair) → slice_get journal i ≡ Some r → (said_by r).replaced ≡ Some repair
+    → Is (take i journal) repair
 
 -- the copy with the block replaced
 abbrev pub with_repair : List Record → Repair → List (List ℕ)
@@ -290,16 +331,16 @@ waiting_from n before [] = before
 waiting_from n before (r ∷ rs) = waiting_from n (waiting_after n before r) rs
 
 -- the requests of poll n that no record answers
-unfoldable pub waiting : ℕ → List Record → List Request
-waiting n journal = waiting_from n [] journal
+unfoldable pub waiting_requests : ℕ → List Record → List Request
+waiting_requests n journal = waiting_from n [] journal
 
 abbrev pub unanswered_from : ℕ → Option Request → List Record → Option Request
 unanswered_from n before [] = before
 unanswered_from n before (r ∷ rs) = unanswered_from n (unanswered_after n before r) rs
 
 -- the request for a repair that poll n waits for
-unfoldable pub unanswered : ℕ → List Record → Option Request
-unanswered n journal = unanswered_from n None journal
+unfoldable pub unanswered_request : ℕ → List Record → Option Request
+unanswered_request n journal = unanswered_from n None journal
 
 abbrev pub numbers_from : Numbers → List Record → Numbers
 numbers_from before [] = before
@@ -330,7 +371,8 @@ is_of_au au (Some o) = o.au == au
 -- that after the end of a poll on the AU, and after it was noted as overdue
 
 abbrev pub audit_ended : ℕ → ℕ → ℕ → List Record → Audit → Outcome → Audit
-audit_ended au number tick journal before Agreed = if is_of_au au (opening_of number journal) then record { tick = tick; noted = false } else before
+audit_ended au number tick journal before Agreed =
+    if is_of_au au (opening_of number journal) then record { tick = tick; noted = false } else before
 audit_ended au number tick journal before Inquorate = before
 audit_ended au number tick journal before (Split block) = before
 audit_ended au number tick journal before (NoSupplier block) = before
@@ -345,7 +387,7 @@ audit_noted au before (Some a) = if a == au then record { tick = before.tick; no
 
 -- that after a record of the journal, given the one before it
 unfoldable pub audit_after : ℕ → List Record → Audit → Record → Audit
-audit_after au journal before r = audit_noted au (audit_closed au journal before (said r).closed) (said r).overdue
+audit_after au journal before r = audit_noted au (audit_closed au journal before (said_by r).closed) (said_by r).overdue
 
 abbrev pub audit_from : ℕ → List Record → Audit → List Record → Audit
 audit_from au journal before [] = before
@@ -360,12 +402,14 @@ is_overdue au now overdue journal = nat_lt overdue (now - (audit_of au journal).
 
 -- whether the record opens a poll on the AU that isn't closed
 unfoldable pub opens_running : ℕ → List Record → Record → Bool
-opens_running au journal r = option_map_or (λ o. o.opening.au == au && not (is_closed o.number journal)) (said r).opened false
+opens_running au journal r =
+    option_map_or (λ o. o.opening.au == au && not (is_closed o.number journal)) (said_by r).opened false
 
 -- whether the record opens a poll that isn't closed
 unfoldable pub opens_open : List Record → Record → Bool
-opens_open journal r = option_map_or (λ o. not (is_closed o.number journal)) (said r).opened false
+opens_open journal r = option_map_or (λ o. not (is_closed o.number journal)) (said_by r).opened false
 
 -- whether the record opens a poll on the AU less than `pace` ticks ago
 unfoldable pub opens_lately : ℕ → ℕ → ℕ → Record → Bool
-opens_lately au now pace r = option_map_or (λ o. o.opening.au == au && nat_lt (now - o.tick) pace) (said r).opened false
+opens_lately au now pace r =
+    option_map_or (λ o. o.opening.au == au && nat_lt (now - o.tick) pace) (said_by r).opened false

@@ -31,7 +31,8 @@ pub record Station : Type 0 where
 
 -- the numbers in force: the rules', or those of the last tuning
 unfoldable pub numbers_in_force : Rules → List Record → Numbers
-numbers_in_force rules journal = numbers_from (record { quorum = rules.quorum; minority = rules.minority; repairs = rules.repairs }) journal
+numbers_in_force rules journal =
+    numbers_from (record { quorum = rules.quorum; minority = rules.minority; repairs = rules.repairs }) journal
 
 -- those with which a poll begins
 abbrev pub limits_in_force : Rules → List Record → Limits
@@ -66,7 +67,13 @@ is_invited v n inner journal = poll.is_invited inner (outer_of n journal) v
 -- what the votes of a poller's poll n are about
 abbrev pub ballot_for : ℕ → ℕ → Opening → ℕ → Ballot
 ballot_for poller n opening count =
-    record { poll = record { poller = poller; number = n }; au = opening.au; kind = opening.kind; nonce = opening.nonce; count = count }
+    record {
+      poll = record { poller = poller; number = n };
+      au = opening.au;
+      kind = opening.kind;
+      nonce = opening.nonce;
+      count = count;
+    }
 
 -- and those of the peer's own
 abbrev pub ballot_of : Station → ℕ → Opening → ℕ → Ballot
@@ -85,7 +92,8 @@ unfoldable pub verdict_in : Station → ℕ → Opening → List Record → Verd
 verdict_in own n opening journal =
     let copy = contents_of opening.au journal in
     let limits = limits_of own.rules opening in
-    verdict_on limits.quorum limits.minority (ballot_of own n opening (length copy)) (inner_votes n opening.inner journal) copy
+    verdict_on limits.quorum limits.minority (ballot_of own n opening (length copy))
+    (inner_votes n opening.inner journal) copy
 
 -- the first of the inner voters against the copy at b, in order of their votes, that wasn't asked for it yet
 unfoldable pub candidate : Station → ℕ → Opening → ℕ → List Record → Option ℕ
@@ -97,7 +105,8 @@ candidate own n opening b journal =
 -- what the inner votes of poll n say at block b of these blocks
 unfoldable pub said_at : Station → ℕ → Opening → List (List ℕ) → ℕ → List Record → At
 said_at own n opening blocks b journal =
-    verdict_at (limits_of own.rules opening).minority (ballot_of own n opening (length blocks)) (inner_votes n opening.inner journal) blocks b
+    verdict_at (limits_of own.rules opening).minority (ballot_of own n opening (length blocks))
+    (inner_votes n opening.inner journal) blocks b
 
 abbrev pub is_win : At → Bool
 is_win Win = true
@@ -106,4 +115,5 @@ is_win Split = false
 
 -- whether they are for the peer's copy at b once it has these bytes there
 unfoldable pub restores : Station → ℕ → Opening → ℕ → List ℕ → List Record → Bool
-restores own n opening b bytes journal = is_win (said_at own n opening (slice_set (contents_of opening.au journal) b bytes) b journal)
+restores own n opening b bytes journal =
+    is_win (said_at own n opening (slice_set (contents_of opening.au journal) b bytes) b journal)

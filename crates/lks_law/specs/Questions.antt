@@ -14,14 +14,15 @@ use Rattle.lks_base.specs.declared.messages.Message.TheVariants as message
 use Rattle.lks_base.specs.declared.names.Judged.{Judged}
 use Rattle.lks_base.specs.declared.names.Judged.TheVariants.{NotAsked, Accepted, Refused}
 use Rattle.lks_base.specs.declared.plans.Plan.{Plan}
-use Rattle.lks_effort.specs.declared.questions.Question.{Question}
+use Rattle.lks_outside.specs.declared.questions.Question.{Question}
 use Rattle.lks_law.specs.World.{World, Standing, start, happens, peer_at, message_in, world}
 
 -- A poller shows effort with its proof, and a voter with its vote.
 abbrev pub question_by : Envelope → Message → Option Question
 question_by e (message.Poll n au) = None
 question_by e (message.PollChallenge n agrees) = None
-question_by e (message.PollProof n nonce kind proof) = Some (record { from = e.from; poller = e.from; number = n; proof = proof })
+question_by e (message.PollProof n nonce kind proof) =
+    Some (record { from = e.from; poller = e.from; number = n; proof = proof })
 question_by e (message.Nominate n nominees) = None
 question_by e (message.Vote n hashes proof) = Some (record { from = e.from; poller = e.to; number = n; proof = proof })
 question_by e (message.RepairRequest n b) = None
@@ -50,9 +51,9 @@ question_at w i = question_of w.peers (slice_get w.bag i)
 abbrev pub Verdicts : Type 0
 Verdicts = List Question → Question → Bool
 
-abbrev pub judged : Verdicts → List Question → Option Question → Judged
-judged verdict before None = NotAsked
-judged verdict before (Some q) = if verdict before q then Accepted else Refused
+abbrev pub judgement_on : Verdicts → List Question → Option Question → Judged
+judgement_on verdict before None = NotAsked
+judgement_on verdict before (Some q) = if verdict before q then Accepted else Refused
 
 -- the question of a step, if it puts one
 abbrev pub question_on : World → PeerStep → Option Question
@@ -81,7 +82,8 @@ questions plan history = questions_from (start plan) history
 -- the event of the delivery of envelope i, and of what is due: the verdict is asked once it is chosen
 
 abbrev pub delivery_of : Verdicts → Plan → List Event → ℕ → Event
-delivery_of verdict plan history i = Step (Deliver i (judged verdict (questions plan history) (question_at (world plan history) i)))
+delivery_of verdict plan history i =
+    Step (Deliver i (judgement_on verdict (questions plan history) (question_at (world plan history) i)))
 
 abbrev pub event_of : Verdicts → Plan → List Event → Due → Event
 event_of verdict plan history (Delivery i) = delivery_of verdict plan history i
@@ -98,7 +100,7 @@ abbrev pub IsJudgedStep : Verdicts → List Question → World → PeerStep → 
 IsJudgedStep verdict before w s = Says (act_of s) where
   Says : Act → Type 0
   Says (Act.Own peer) = Unit {0}
-  Says (Act.Delivery envelope says) = says ≡ judged verdict before (question_at w envelope)
+  Says (Act.Delivery envelope says) = says ≡ judgement_on verdict before (question_at w envelope)
 
 abbrev pub IsJudged : Verdicts → List Question → World → Event → Type 0
 IsJudged verdict before w (Step s) = IsJudgedStep verdict before w s
@@ -110,7 +112,8 @@ IsJudged verdict before w (Crash peer) = Unit {0}
 
 abbrev pub AreJudgedFrom : Verdicts → List Question → World → List Event → Type 0
 AreJudgedFrom verdict before w [] = Unit {0}
-AreJudgedFrom verdict before w (e ∷ es) = IsJudged verdict before w e × AreJudgedFrom verdict (before ++ asked_by w e) (happens w e) es
+AreJudgedFrom verdict before w (e ∷ es) =
+    IsJudged verdict before w e × AreJudgedFrom verdict (before ++ asked_by w e) (happens w e) es
 
 -- each delivery of a history has the verdict on its question after the questions before
 unfoldable pub AreJudged : Verdicts → Plan → List Event → Type 0

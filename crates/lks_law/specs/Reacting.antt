@@ -1,6 +1,7 @@
--- What a peer in a state adds and sends, one definition for each thing that it does or receives. Each says of the state what
--- the rule of that name says of the journal.
-use Rattle.std.specs.Prelude.{ℕ, Bool, false, not, ◌&&◌, ◌==◌, ◌+◌, ◌-◌, nat_lt, if◌then◌else◌, Option, Some, None, List, [], ◌∷◌, length, map, slice_set}
+-- What a peer in a state adds and sends, one definition for each thing that it does or receives. Each says of the state
+-- what the rule of that name says of the journal.
+use Rattle.std.specs.Prelude.{ℕ, Bool, false, not, ◌&&◌, ◌==◌, ◌+◌, ◌-◌, nat_lt, if◌then◌else◌, Option, Some, None}
+use Rattle.std.specs.Prelude.{List, [], ◌∷◌, length, map, slice_set}
 use Rattle.std.specs.List.{list_any, filter_map}
 use Rattle.lks_base.specs.declared.messages.Message.TheVariants as message
 use Rattle.lks_base.specs.declared.names.Judged.{Judged}
@@ -16,26 +17,27 @@ use Rattle.lks_draw.specs.Picks.{picked_by}
 use Rattle.lks_draw.specs.Words.{drawn_from}
 use Rattle.lks_hash.specs.Hashes.{nonce_from}
 use Rattle.lks_law.specs.Polls.{Station, limits_of, ballot_of, is_win}
-use Rattle.lks_law.specs.Reaction.{nothing, letter, is_accepted, is_request, given_up, asked_again}
+use Rattle.lks_law.specs.Reaction.{no_effect, letter, is_accepted, is_request, given_up, asked_again}
 use Rattle.lks_law.specs.State.{Nomination, Poll, Copy, State, copy_at, blocks_at}
-use Rattle.lks_refs.specs.Circles.{circle_of}
+use Rattle.lks_choice.specs.Circles.{circle_of}
 use Rattle.lks_tally.specs.PollRules as poll
-use Rattle.lks_tally.specs.Running.{may_widen, may_nominate, may_prove, may_vote, may_tally, first_unasked, supplied_by, follows}
+use Rattle.lks_tally.specs.Running.{may_widen, may_nominate, may_prove, may_vote, may_tally, first_unasked}
+use Rattle.lks_tally.specs.Running.{supplied_by, follows}
 unfoldable pub use Rattle.lks_tally.specs.Running.{is_invited_to, has_nominated_in, silent_in, was_asked_of}
 use Rattle.lks_tally.specs.Counting.{verdict_at, verdict_on, voters_against}
 use Rattle.lks_tally.specs.declared.ballots.Verdict.{Verdict}
 
 -- what a poll that runs makes the peer do
 abbrev pub for_poll : Option Poll → (Poll → Reaction) → Reaction
-for_poll None f = nothing
+for_poll None f = no_effect
 for_poll (Some p) f = f p
 
 -- what is done where it may be
 abbrev pub if_may : Bool → Reaction → Reaction
-if_may may does = if may then does else nothing
+if_may may does = if may then does else no_effect
 
--- A poll is opened on a held AU with no running poll on it, while fewer than 8 run, and not within `pace` ticks of the last
--- one on it.
+-- A poll is opened on a held AU with no running poll on it, while fewer than 8 run, and not within `pace` ticks of the
+-- last one on it.
 
 -- whether there was such a tick less than `pace` ticks ago
 abbrev pub is_recent : Option ℕ → ℕ → ℕ → Bool
@@ -46,7 +48,8 @@ is_recent (Some before) tick pace = nat_lt (tick - before) pace
 abbrev pub may_open_copy : ℕ → ℕ → ℕ → List Poll → Option Copy → Bool
 may_open_copy tick pace au polls None = false
 may_open_copy tick pace au polls (Some c) =
-    not (list_any (λ (p : Poll). p.opening.au == au) polls) && nat_lt (length polls) 8 && not (is_recent c.opened tick pace)
+    not (list_any (λ (p : Poll). p.opening.au == au) polls) && nat_lt (length polls) 8
+    && not (is_recent c.opened tick pace)
 
 -- whether one may be opened on this AU
 unfoldable pub may_open_in : Station → State → ℕ → ℕ → Bool
@@ -64,7 +67,10 @@ limits_now s = record { quorum = s.numbers.quorum; minority = s.numbers.minority
 abbrev pub opened_as : Station → State → ℕ → ℕ → ℕ → Reaction
 opened_as own s tick au n =
     record {
-      records = records.PollOpened n au (nonce_from own.seed n) (inner_of own n s.refs) tick (Some (limits_now s)) own.hash ∷ [];
+      records =
+          records.PollOpened n au (nonce_from own.seed n) (inner_of own n s.refs) tick (Some (limits_now s))
+          own.hash
+          ∷ [];
       sends = map (letter (message.Poll n au)) (inner_of own n s.refs);
     }
 
@@ -76,7 +82,8 @@ open_in own s tick au = if_may (may_open_in own s tick au) (opened_as own s tick
 -- the outer circle of a poll
 unfoldable pub outer_of_poll : Station → Poll → List ℕ
 outer_of_poll own p =
-    (circle_of (drawn_from own.seed 2 p.number) own.id p.opening.inner (map (λ (n : Nomination). n.nominees) p.nominations) own.rules.outer).peers
+    (circle_of (drawn_from own.seed 2 p.number) own.id p.opening.inner
+    (map (λ (n : Nomination). n.nominees) p.nominations) own.rules.outer).peers
 
 unfoldable pub widen_in : Station → Poll → Reaction
 widen_in own p =
@@ -109,7 +116,10 @@ receipts_of p = map (letter (message.Receipt p.number)) p.voters
 abbrev pub shut_once : Station → Poll → ℕ → Reaction
 shut_once own p tick =
     if poll.is_inquorate (length p.inner_votes) (limits_of own.rules p.opening).quorum
-    then record { records = records.Shut p.number ∷ records.Closed p.number outcome.Inquorate tick ∷ []; sends = receipts_of p }
+    then record {
+      records = records.Shut p.number ∷ records.Closed p.number outcome.Inquorate tick ∷ [];
+      sends = receipts_of p;
+    }
     else record { records = records.Shut p.number ∷ []; sends = [] }
 
 unfoldable pub shut_in : Station → ℕ → Poll → Reaction
@@ -123,7 +133,8 @@ closed_as p tick how = record { records = records.Closed p.number how tick ∷ [
 
 -- a voter is asked for block b
 abbrev pub asked_of : Poll → ℕ → ℕ → Reaction
-asked_of p b v = record { records = records.Asked p.number b v ∷ []; sends = letter (message.RepairRequest p.number b) v ∷ [] }
+asked_of p b v =
+    record { records = records.Asked p.number b v ∷ []; sends = letter (message.RepairRequest p.number b) v ∷ [] }
 
 -- this voter, or the poll ends where there is none
 abbrev pub asked_for : Poll → ℕ → ℕ → Option ℕ → Reaction
@@ -137,11 +148,13 @@ verdict_of own p blocks =
 
 -- the first of the inner voters against these blocks at b that wasn't asked for it yet
 unfoldable pub supplier : Station → Poll → ℕ → List (List ℕ) → Option ℕ
-supplier own p b blocks = first_unasked p b (voters_against (ballot_of own p.number p.opening (length blocks)) p.inner_votes blocks b)
+supplier own p b blocks =
+    first_unasked p b (voters_against (ballot_of own p.number p.opening (length blocks)) p.inner_votes blocks b)
 
 -- what follows from a verdict
 abbrev pub tallied_as : Station → Poll → ℕ → List (List ℕ) → Verdict → Reaction
-tallied_as own p tick blocks v = follows (closed_as p tick) nothing (λ b. asked_for p tick b (supplier own p b blocks)) v
+tallied_as own p tick blocks v =
+    follows (closed_as p tick) no_effect (λ b. asked_for p tick b (supplier own p b blocks)) v
 
 -- over these blocks
 abbrev pub tally_over : Station → ℕ → List (List ℕ) → Poll → Reaction
@@ -159,7 +172,8 @@ must_note_copy own tick (Some c) = nat_lt own.rules.overdue (tick - c.audit.tick
 
 -- the record that notes it
 abbrev pub overdue_of : Station → List Copy → ℕ → AuPlan → Option Record
-overdue_of own copies tick au = if must_note_copy own tick (copy_at au.id copies) then Some (records.Overdue au.id tick) else None
+overdue_of own copies tick au =
+    if must_note_copy own tick (copy_at au.id copies) then Some (records.Overdue au.id tick) else None
 
 unfoldable pub check_in : Station → List Copy → ℕ → Reaction
 check_in own copies tick = record { records = filter_map (overdue_of own copies tick) own.aus; sends = [] }
@@ -169,7 +183,10 @@ check_in own copies tick = record { records = filter_map (overdue_of own copies 
 unfoldable pub challenge_in : Station → ℕ → Bool → Poll → Reaction
 challenge_in own from agrees p =
     if_may (agrees && may_prove p from)
-    (record { records = []; sends = letter (message.PollProof p.number p.opening.nonce p.opening.kind own.proof) from ∷ [] })
+    (record {
+      records = [];
+      sends = letter (message.PollProof p.number p.opening.nonce p.opening.kind own.proof) from ∷ [];
+    })
 
 unfoldable pub nominate_in : ℕ → List ℕ → Poll → Reaction
 nominate_in from nominees p =
@@ -185,7 +202,9 @@ vote_in_poll from hashes judged copies p =
 unfoldable pub said_of : Station → Poll → ℕ → List ℕ → List (List ℕ) → Bool
 said_of own p b bytes blocks =
     let after = slice_set blocks b bytes in
-    is_win (verdict_at (limits_of own.rules p.opening).minority (ballot_of own p.number p.opening (length after)) p.inner_votes after b)
+    is_win
+    (verdict_at (limits_of own.rules p.opening).minority (ballot_of own p.number p.opening (length after))
+    p.inner_votes after b)
 
 -- a block that comes is taken or passed over, where it answers the request
 abbrev pub repair_over : Station → ℕ → ℕ → List ℕ → List (List ℕ) → Poll → Reaction

@@ -6,8 +6,8 @@ use Rattle.lks_draw.specs.Picks.{picked_by}
 use Rattle.lks_draw.specs.Words.{drawn_from}
 use Rattle.lks_law.specs.Journal.{Opening, agreed_in, contents_of, opening_of, nominations}
 use Rattle.lks_law.specs.Polls.{Station, votes, inner_votes, ballot_of}
-use Rattle.lks_refs.specs.Circles.{circle_of}
-use Rattle.lks_refs.specs.Lists.{list_after}
+use Rattle.lks_choice.specs.Circles.{circle_of}
+use Rattle.lks_choice.specs.Lists.{list_after}
 use Rattle.lks_tally.specs.Counting.{voters_for, voters_against}
 use Rattle.lks_tally.specs.declared.ballots.Vote.{Vote}
 

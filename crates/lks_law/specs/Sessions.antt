@@ -1,10 +1,13 @@
 -- What a journal says of the peer's part in polls of others.
-use Rattle.std.specs.Prelude.{ℕ, Bool, true, false, not, ◌==◌, ◌&&◌, if◌then◌else◌, Option, Some, None, is_some, option_map, option_and_then, List, [], ◌∷◌, length, count_by}
+use Rattle.std.specs.Prelude.{ℕ, Bool, true, false, not, ◌==◌, ◌&&◌, if◌then◌else◌, Option, Some, None, is_some}
+use Rattle.std.specs.Prelude.{option_map, option_and_then, List, [], ◌∷◌, length, count_by}
 use Rattle.std.specs.List.{list_any, filter_map}
 use Rattle.lks_base.specs.declared.names.PollName.{PollName}
 use Rattle.lks_base.specs.declared.records.Record.{Record}
-use Rattle.lks_base.specs.declared.records.Record.TheVariants.{Deposit, PollOpened, Nominated, OuterOpened, VoteIn, Shut, Asked, RepairBad, Replaced, Closed, Overdue, Joined, Committed, Voted, Served, Ended, Tuned}
-use Rattle.lks_law.specs.Journal.{Told, said, later, replacements}
+use Rattle.lks_base.specs.declared.records.Record.TheVariants.{Deposit, PollOpened, Nominated, OuterOpened, VoteIn}
+use Rattle.lks_base.specs.declared.records.Record.TheVariants.{Shut, Asked, RepairBad, Replaced, Closed, Overdue}
+use Rattle.lks_base.specs.declared.records.Record.TheVariants.{Joined, Committed, Voted, Served, Ended, Tuned}
+use Rattle.lks_law.specs.Journal.{Told, said_by, later, replacements}
 use Rattle.lks_tally.specs.declared.ballots.Vote.{Vote}
 pub use Rattle.lks_voter.specs.States.{Commitment}
 
@@ -44,8 +47,10 @@ part_of (RepairBad number block voter) = None
 part_of (Replaced number au block bytes) = None
 part_of (Closed number outcome tick) = None
 part_of (Overdue au tick) = None
-part_of (Joined poll au tick low repairs) = Some (record { poll = poll; turn = Turn.Joins (record { au = au; tick = tick; low = low; repairs = repairs }) })
-part_of (Committed poll nonce version kind) = Some (record { poll = poll; turn = Turn.Commits (record { nonce = nonce; version = version; kind = kind }) })
+part_of (Joined poll au tick low repairs) =
+    Some (record { poll = poll; turn = Turn.Joins (record { au = au; tick = tick; low = low; repairs = repairs }) })
+part_of (Committed poll nonce version kind) =
+    Some (record { poll = poll; turn = Turn.Commits (record { nonce = nonce; version = version; kind = kind }) })
 part_of (Voted poll hashes) = Some (record { poll = poll; turn = Turn.Votes hashes })
 part_of (Served poll block) = Some (record { poll = poll; turn = Turn.Serves block })
 part_of (Ended poll) = Some (record { poll = poll; turn = Turn.Ends })
@@ -131,8 +136,8 @@ unfoldable pub hashes_of_vote : PollName → List Record → Option (List (List 
 hashes_of_vote q journal = first_in (hashes_in q) journal
 
 -- the blocks that were served, in order
-unfoldable pub served : PollName → List Record → List ℕ
-served q journal = filter_map (served_in q) journal
+unfoldable pub served_blocks : PollName → List Record → List ℕ
+served_blocks q journal = filter_map (served_in q) journal
 
 unfoldable pub is_ended : PollName → List Record → Bool
 is_ended q journal = list_any (ends q) journal
@@ -160,7 +165,8 @@ sessions journal = count_by (λ q. not (is_ended q journal)) (joined_polls journ
 -- Committed, open, and not voted.
 
 unfoldable pub may_work : PollName → List Record → Bool
-may_work q journal = is_session q journal && is_some (commitment_of q journal) && not (is_some (hashes_of_vote q journal))
+may_work q journal =
+    is_session q journal && is_some (commitment_of q journal) && not (is_some (hashes_of_vote q journal))
 
 -- the poll in which a record commits
 abbrev pub committed_part : Option Part → Option PollName
@@ -180,15 +186,15 @@ abbrev pub is_vote_by : ℕ → Option (Told Vote) → Bool
 is_vote_by f None = false
 is_vote_by f (Some told) = told.fact.voter == f
 
-unfoldable pub received : ℕ → List Record → ℕ
-received f journal = count_by (λ r. is_vote_by f (said r).voted) journal
+unfoldable pub votes_received : ℕ → List Record → ℕ
+votes_received f journal = count_by (λ r. is_vote_by f (said_by r).voted) journal
 
 abbrev pub is_vote_for : ℕ → Option Part → Bool
 is_vote_for f None = false
 is_vote_for f (Some p) = p.poll.poller == f && is_some (hashes_by p.turn)
 
-unfoldable pub given : ℕ → List Record → ℕ
-given f journal = count_by (λ r. is_vote_for f (part_of r)) journal
+unfoldable pub votes_given : ℕ → List Record → ℕ
+votes_given f journal = count_by (λ r. is_vote_for f (part_of r)) journal
 
 -- the latest tick at which a peer of low grade was let join
 abbrev pub low_by : Option ℕ → Turn → Option ℕ

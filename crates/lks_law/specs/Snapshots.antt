@@ -1,5 +1,6 @@
 -- What stands behind the votes and replaced blocks of all honest peers together.
-use Rattle.std.specs.Prelude.{◌≡◌, ◌≢◌, ◌≤◌, ◌<◌, ◌==◌, ◌+◌, ℕ, Bool, true, false, ◌⊎◌, Option, Some, None, Ok, option_map, List, ◌++◌, length, take, filter, slice_get}
+use Rattle.std.specs.Prelude.{◌≡◌, ◌≢◌, ◌≤◌, ◌<◌, ◌==◌, ◌+◌, ℕ, Bool, true, false, ◌⊎◌, Option, Some, None, Ok}
+use Rattle.std.specs.Prelude.{option_map, List, ◌++◌, length, take, filter, slice_get}
 use Rattle.std.specs.List.{list_any, filter_map}
 use Rattle.std.specs.Cmp.Lexicographic.{pointwise}
 use Rattle.lks_base.specs.Kinds.{is_second}
@@ -13,7 +14,7 @@ use Rattle.lks_hash.specs.Running.{running}
 use Rattle.lks_law.specs.Journal.{Opening, Repair, EachRepair, with_repair, contents_at, contents_of, opening_of}
 use Rattle.lks_law.specs.Polls.{limits_of, votes_behind, ballot_behind}
 use Rattle.lks_law.specs.Sessions.{Join, Commitment, join_in, join_of, commitment_in, commitment_of, version_now}
-use Rattle.lks_law.specs.Voting.{named, vote_hashes}
+use Rattle.lks_law.specs.Voting.{poll_named, vote_hashes}
 use Rattle.lks_law.specs.World.{Standing, World, peer_at}
 use Rattle.lks_message.specs.Reading.{decode_of}
 use Rattle.lks_tally.specs.declared.ballots.Ballot.{Ballot}
@@ -33,8 +34,9 @@ pub record Snapshot (s : Standing) (q : PollName) (hashes : List (List ℕ)) : T
 
 abbrev pub HaveSnapshots : World → Type 0
 HaveSnapshots w =
-    (place : ℕ) (e : Envelope) (s : Standing) (n : ℕ) (hashes : List (List ℕ)) (proof : List ℕ) → slice_get w.bag place ≡ Some e → peer_at e.from w.peers ≡ Some s
-    → decode_of e.bytes ≡ Ok (message.Vote n hashes proof) → Snapshot s (named e.to n) hashes
+    (place : ℕ) (e : Envelope) (s : Standing) (n : ℕ) (hashes : List (List ℕ)) (proof : List ℕ)
+    → slice_get w.bag place ≡ Some e → peer_at e.from w.peers ≡ Some s
+    → decode_of e.bytes ≡ Ok (message.Vote n hashes proof) → Snapshot s (poll_named e.to n) hashes
 
 -- the version that a voter's journal names for a poll
 abbrev pub version_by : List Record → Option Join → Option Commitment → Option (List (List ℕ))
@@ -70,7 +72,10 @@ holders journals q blocks b votes = filter (λ v. held_if q blocks b (journals v
 abbrev pub FewHeld : Journals → Rules → ℕ → List Record → Repair → Type 0
 FewHeld journals rules poller before r =
     (o : Opening) → opening_of r.number before ≡ Some o
-    → length (holders journals (named poller r.number) (contents_of r.au before) r.block (votes_behind before r o)) ≤ (limits_of rules o).minority
+    → length
+    (holders journals (poll_named poller r.number) (contents_of r.au before) r.block
+    (votes_behind before r o))
+    ≤ (limits_of rules o).minority
 
 -- so it is of each, where the journals of honest peers are known
 abbrev pub HasFewHolders : World → Standing → Type 0
@@ -94,22 +99,25 @@ pub record Collision (second : Bool) (key : List ℕ) (one other : List (List �
   pub differ : text ≢ twin
   pub same : hash_of second text ≡ hash_of second twin
 
--- a collision under the key of a voter of the poll, between the blocks up to b and the version that the voter's journal names
-pub record Collides (journals : Journals) (q : Ballot) (blocks : List (List ℕ)) (b : ℕ) (votes : List Vote) : Type 0 where
-  pub voter : ℕ
-  pub voted : list_any (λ v. v.voter == voter) votes ≡ true
-  pub journal : List Record
-  pub known : journals voter ≡ Some journal
-  pub version : List (List ℕ)
-  pub named_so : named_version q.poll journal ≡ Some version
-  pub collision : Collision (is_second q.kind) (key_for q voter) (take (b + 1) blocks) (take (b + 1) version)
+-- a collision under the key of a voter of the poll, between the blocks up to b and the version that the voter's journal
+-- names
+pub record Collides (journals : Journals) (q : Ballot) (blocks : List (List ℕ)) (b : ℕ) (votes : List Vote) : Type 0
+  where
+    pub voter : ℕ
+    pub voted : list_any (λ v. v.voter == voter) votes ≡ true
+    pub journal : List Record
+    pub known : journals voter ≡ Some journal
+    pub version : List (List ℕ)
+    pub named_so : named_version q.poll journal ≡ Some version
+    pub collision : Collision (is_second q.kind) (key_for q voter) (take (b + 1) blocks) (take (b + 1) version)
 
--- where more than a minority of the votes behind a replaced block is of those who held these blocks up to there, it restores them,
--- or there is a collision
+-- where more than a minority of the votes behind a replaced block is of those who held these blocks up to there, it
+-- restores them, or there is a collision
 abbrev pub Restores : Journals → Rules → ℕ → List Record → Repair → Type 0
 Restores journals rules poller before r =
     (o : Opening) (good : List (List ℕ)) → opening_of r.number before ≡ Some o
-    → (limits_of rules o).minority < length (holders journals (named poller r.number) good r.block (votes_behind before r o))
+    → (limits_of rules o).minority
+    < length (holders journals (poll_named poller r.number) good r.block (votes_behind before r o))
     → (take (r.block + 1) (with_repair before r) ≡ take (r.block + 1) good)
     ⊎ Collides journals (ballot_behind poller before r o) (with_repair before r) r.block (votes_behind before r o)
 

@@ -1,18 +1,22 @@
 -- The state of a peer: all that its journal says to it, and what one record more makes of that.
-use Rattle.std.specs.Prelude.{ℕ, true, false, ◌==◌, ◌+◌, ◌-◌, if◌then◌else◌, Option, Some, None, is_some, List, [], ◌∷◌, ◌++◌, slice_set, length, find}
+use Rattle.std.specs.Prelude.{ℕ, true, false, ◌==◌, ◌+◌, ◌-◌, if◌then◌else◌, Option, Some, None, is_some, List, []}
+use Rattle.std.specs.Prelude.{◌∷◌, ◌++◌, slice_set, length, find}
 use Rattle.lks_base.specs.declared.names.Numbers.{Numbers}
 use Rattle.lks_base.specs.declared.names.Outcome.TheVariants.{Agreed, Inquorate, Split, NoSupplier}
 use Rattle.lks_base.specs.declared.plans.Rules.{Rules}
 use Rattle.lks_base.specs.declared.records.Record.{Record}
-use Rattle.lks_base.specs.declared.records.Record.TheVariants.{Deposit, PollOpened, Nominated, OuterOpened, VoteIn, Shut, Asked, RepairBad, Replaced, Closed, Overdue, Joined, Committed, Voted, Served, Ended, Tuned}
+use Rattle.lks_base.specs.declared.records.Record.TheVariants.{Deposit, PollOpened, Nominated, OuterOpened, VoteIn}
+use Rattle.lks_base.specs.declared.records.Record.TheVariants.{Shut, Asked, RepairBad, Replaced, Closed, Overdue}
+use Rattle.lks_base.specs.declared.records.Record.TheVariants.{Joined, Committed, Voted, Served, Ended, Tuned}
 use Rattle.lks_law.specs.Journal.{Opening, Audit, is_opening, agreed_in, numbers_after, later}
 use Rattle.lks_law.specs.Polls.{Station, limits_of, ballot_of}
 use Rattle.lks_law.specs.References.{picked_friends}
 use Rattle.lks_law.specs.Firsts.{changed_first, without_first}
 use Rattle.lks_law.specs.Taking.{Voter, newcomer, voter_after}
-use Rattle.lks_refs.specs.Lists.{list_after}
+use Rattle.lks_choice.specs.Lists.{list_after}
 use Rattle.lks_tally.specs.Counting.{voters_for, voters_against}
-pub use Rattle.lks_tally.specs.Running.{Nomination, Poll, begun, nominated_by, first_circle, widened_to, voted_by, shut_now, asking, answered}
+pub use Rattle.lks_tally.specs.Running.{Nomination, Poll, begun_poll, nominated_by, first_circle, widened_to}
+pub use Rattle.lks_tally.specs.Running.{voted_by, shut_now, request_sent, request_answered}
 
 -- an AU that is held
 pub record Copy : Type 0 where
@@ -34,16 +38,16 @@ pub record State : Type 0 where
 -- Polls.
 
 -- the opening with the numbers of its poll, which may be the rules'
-abbrev pub settled : Rules → Opening → Opening
-settled rules o = record o { limits = Some (limits_of rules o) }
+abbrev pub settled_opening : Rules → Opening → Opening
+settled_opening rules o = record o { limits = Some (limits_of rules o) }
 
 -- the running poll of this number
 abbrev pub poll_at : ℕ → List Poll → Option Poll
 poll_at n ps = find (λ (p : Poll). p.number == n) ps
 
 -- poll n changes: the first of this number
-abbrev pub changed : ℕ → (Poll → Poll) → List Poll → List Poll
-changed n f ps = changed_first (λ (p : Poll). p.number == n) f ps
+abbrev pub changed_poll : ℕ → (Poll → Poll) → List Poll → List Poll
+changed_poll n f ps = changed_first (λ (p : Poll). p.number == n) f ps
 
 -- poll n is gone: the first of this number
 abbrev pub without_poll : ℕ → List Poll → List Poll
@@ -53,14 +57,19 @@ without_poll n ps = without_first (λ (p : Poll). p.number == n) ps
 abbrev pub polls_after : Rules → Record → List Poll → List Poll
 polls_after rules (Deposit au blocks) ps = ps
 polls_after rules (PollOpened number au nonce inner tick limits kind) ps =
-    ps ++ begun number (settled rules (record { au = au; nonce = nonce; inner = inner; limits = limits; kind = kind })) ∷ []
-polls_after rules (Nominated number voter nominees) ps = changed number (nominated_by voter nominees) ps
-polls_after rules (OuterOpened number outer) ps = changed number (widened_to outer) ps
-polls_after rules (VoteIn number voter hashes) ps = changed number (voted_by (record { voter = voter; hashes = hashes })) ps
-polls_after rules (Shut number) ps = changed number shut_now ps
-polls_after rules (Asked number block voter) ps = changed number (asking (record { block = block; voter = voter })) ps
-polls_after rules (RepairBad number block voter) ps = changed number answered ps
-polls_after rules (Replaced number au block bytes) ps = changed number answered ps
+    ps
+    ++ begun_poll number
+    (settled_opening rules (record { au = au; nonce = nonce; inner = inner; limits = limits; kind = kind }))
+    ∷ []
+polls_after rules (Nominated number voter nominees) ps = changed_poll number (nominated_by voter nominees) ps
+polls_after rules (OuterOpened number outer) ps = changed_poll number (widened_to outer) ps
+polls_after rules (VoteIn number voter hashes) ps =
+    changed_poll number (voted_by (record { voter = voter; hashes = hashes })) ps
+polls_after rules (Shut number) ps = changed_poll number shut_now ps
+polls_after rules (Asked number block voter) ps =
+    changed_poll number (request_sent (record { block = block; voter = voter })) ps
+polls_after rules (RepairBad number block voter) ps = changed_poll number request_answered ps
+polls_after rules (Replaced number au block bytes) ps = changed_poll number request_answered ps
 polls_after rules (Closed number outcome tick) ps = without_poll number ps
 polls_after rules (Overdue au tick) ps = ps
 polls_after rules (Joined poll au tick low repairs) ps = ps
@@ -86,8 +95,9 @@ abbrev pub blocks_at : ℕ → List Copy → List (List ℕ)
 blocks_at au cs = blocks_in (copy_at au cs)
 
 -- a copy with which the peer began
-abbrev pub deposited : ℕ → List (List ℕ) → Copy
-deposited au blocks = record { au = au; blocks = blocks; version = 0; opened = None; audit = record { tick = 0; noted = false } }
+abbrev pub deposited_copy : ℕ → List (List ℕ) → Copy
+deposited_copy au blocks =
+    record { au = au; blocks = blocks; version = 0; opened = None; audit = record { tick = 0; noted = false } }
 
 -- a poll on it was opened
 abbrev pub opened_at : ℕ → Copy → Copy
@@ -102,8 +112,8 @@ abbrev pub agreed_at : ℕ → Copy → Copy
 agreed_at tick c = record c { audit = record { tick = tick; noted = false } }
 
 -- it was noted as overdue
-abbrev pub noted : Copy → Copy
-noted c = record c { audit = record { tick = c.audit.tick; noted = true } }
+abbrev pub noted_overdue : Copy → Copy
+noted_overdue c = record c { audit = record { tick = c.audit.tick; noted = true } }
 
 -- the copy of this AU changes
 abbrev pub copy_changed : ℕ → (Copy → Copy) → List Copy → List Copy
@@ -116,7 +126,7 @@ agreed_on (Some p) tick cs = copy_changed p.opening.au (agreed_at tick) cs
 
 -- the copies after a record, given the running polls before it
 abbrev pub copies_after : List Poll → Record → List Copy → List Copy
-copies_after ps (Deposit au blocks) cs = if is_some (copy_at au cs) then cs else cs ++ deposited au blocks ∷ []
+copies_after ps (Deposit au blocks) cs = if is_some (copy_at au cs) then cs else cs ++ deposited_copy au blocks ∷ []
 copies_after ps (PollOpened number au nonce inner tick limits kind) cs = copy_changed au (opened_at tick) cs
 copies_after ps (Nominated number voter nominees) cs = cs
 copies_after ps (OuterOpened number outer) cs = cs
@@ -129,7 +139,7 @@ copies_after ps (Closed number Agreed tick) cs = agreed_on (poll_at number ps) t
 copies_after ps (Closed number Inquorate tick) cs = cs
 copies_after ps (Closed number (Split block) tick) cs = cs
 copies_after ps (Closed number (NoSupplier block) tick) cs = cs
-copies_after ps (Overdue au tick) cs = copy_changed au noted cs
+copies_after ps (Overdue au tick) cs = copy_changed au noted_overdue cs
 copies_after ps (Joined poll au tick low repairs) cs = cs
 copies_after ps (Committed poll nonce version kind) cs = cs
 copies_after ps (Voted poll hashes) cs = cs
@@ -141,17 +151,20 @@ copies_after ps (Tuned quorum minority repairs) cs = cs
 
 -- the inner voters of a poll against these blocks at the last one
 abbrev pub leavers : Station → Poll → List (List ℕ) → List ℕ
-leavers own p blocks = voters_against (ballot_of own p.number p.opening (length blocks)) p.inner_votes blocks (length blocks - 1)
+leavers own p blocks =
+    voters_against (ballot_of own p.number p.opening (length blocks)) p.inner_votes blocks (length blocks - 1)
 
 -- the outer voters for them there
 abbrev pub comers : Station → Poll → List (List ℕ) → List ℕ
-comers own p blocks = voters_for (ballot_of own p.number p.opening (length blocks)) p.outer_votes blocks (length blocks - 1)
+comers own p blocks =
+    voters_for (ballot_of own p.number p.opening (length blocks)) p.outer_votes blocks (length blocks - 1)
 
 -- This poll is agreed: who was against leaves the list, then who joins and who is picked comes to its end.
 abbrev pub refs_agreed : Station → List ℕ → List Copy → Option Poll → List ℕ
 refs_agreed own refs cs None = refs
 refs_agreed own refs cs (Some p) =
-    list_after own.id refs (leavers own p (blocks_at p.opening.au cs)) (comers own p (blocks_at p.opening.au cs)) (picked_friends own p.number)
+    list_after own.id refs (leavers own p (blocks_at p.opening.au cs)) (comers own p (blocks_at p.opening.au cs))
+    (picked_friends own p.number)
 
 -- the list once this poll is agreed, if one is
 abbrev pub refs_if : Station → State → Option ℕ → List ℕ

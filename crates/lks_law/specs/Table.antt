@@ -9,20 +9,23 @@ use Rattle.lks_base.specs.declared.reactions.Reaction.{Reaction}
 use Rattle.lks_base.specs.declared.records.Record.{Record}
 use Rattle.lks_law.specs.Answering.{invitation_in, proof_in, work_in, request_in, end_in}
 use Rattle.lks_law.specs.Polls.{Station}
-use Rattle.lks_law.specs.Reacting.{for_poll, open_in, widen_in, shut_in, tally_in, nudge_in, give_up_in, check_in, challenge_in, nominate_in, vote_in_poll, repair_in}
-use Rattle.lks_law.specs.Reaction.{on_open, on_widen, on_shut, on_tally, on_nudge, on_give_up, on_check, on_challenge, on_nominate, on_vote, on_repair}
+use Rattle.lks_law.specs.Reacting.{for_poll, open_in, widen_in, shut_in, tally_in, nudge_in, give_up_in, check_in}
+use Rattle.lks_law.specs.Reacting.{challenge_in, nominate_in, vote_in_poll, repair_in}
+use Rattle.lks_law.specs.Reaction.{on_open, on_widen, on_shut, on_tally, on_nudge, on_give_up, on_check, on_challenge}
+use Rattle.lks_law.specs.Reaction.{on_nominate, on_vote, on_repair}
 use Rattle.lks_law.specs.State.{State, poll_at}
-use Rattle.lks_law.specs.Voting.{named, on_invitation, on_proof, on_work, on_request, on_end, on_tune}
+use Rattle.lks_law.specs.Voting.{poll_named, on_invitation, on_proof, on_work, on_request, on_end, on_tune}
 
 abbrev pub on_message : Station → List Record → ℕ → ℕ → Message → Judged → Reaction
-on_message own journal tick from (message.Poll n au) judged = on_invitation own journal tick (named from n) au
+on_message own journal tick from (message.Poll n au) judged = on_invitation own journal tick (poll_named from n) au
 on_message own journal tick from (message.PollChallenge n agrees) judged = on_challenge own journal from n agrees
-on_message own journal tick from (message.PollProof n nonce kind proof) judged = on_proof own journal (named from n) nonce kind judged
+on_message own journal tick from (message.PollProof n nonce kind proof) judged =
+    on_proof own journal (poll_named from n) nonce kind judged
 on_message own journal tick from (message.Nominate n nominees) judged = on_nominate journal from n nominees
 on_message own journal tick from (message.Vote n hashes proof) judged = on_vote journal from n hashes judged
-on_message own journal tick from (message.RepairRequest n b) judged = on_request own journal (named from n) b
+on_message own journal tick from (message.RepairRequest n b) judged = on_request own journal (poll_named from n) b
 on_message own journal tick from (message.Repair n b bytes) judged = on_repair own journal from n b bytes
-on_message own journal tick from (message.Receipt n) judged = on_end journal (named from n)
+on_message own journal tick from (message.Receipt n) judged = on_end journal (poll_named from n)
 
 -- what a peer with this journal adds and sends at this tick
 unfoldable pub reaction : Station → List Record → ℕ → Input → Reaction
@@ -39,14 +42,20 @@ reaction own journal tick (input.Tune quorum minority repairs) = on_tune own quo
 reaction own journal tick (input.Got from m judged) = on_message own journal tick from m judged
 
 abbrev pub receive_in : Station → State → ℕ → ℕ → Message → Judged → Reaction
-receive_in own s tick from (message.Poll n au) judged = invitation_in own s.voter s.copies s.numbers.repairs tick (named from n) au
-receive_in own s tick from (message.PollChallenge n agrees) judged = for_poll (poll_at n s.polls) (challenge_in own from agrees)
-receive_in own s tick from (message.PollProof n nonce kind proof) judged = proof_in own s.voter s.copies s.refs (named from n) nonce kind judged
-receive_in own s tick from (message.Nominate n nominees) judged = for_poll (poll_at n s.polls) (nominate_in from nominees)
-receive_in own s tick from (message.Vote n hashes proof) judged = for_poll (poll_at n s.polls) (vote_in_poll from hashes judged s.copies)
-receive_in own s tick from (message.RepairRequest n b) judged = request_in s.voter (named from n) b
-receive_in own s tick from (message.Repair n b bytes) judged = for_poll (poll_at n s.polls) (repair_in own from b bytes s.copies)
-receive_in own s tick from (message.Receipt n) judged = end_in s.voter (named from n)
+receive_in own s tick from (message.Poll n au) judged =
+    invitation_in own s.voter s.copies s.numbers.repairs tick (poll_named from n) au
+receive_in own s tick from (message.PollChallenge n agrees) judged =
+    for_poll (poll_at n s.polls) (challenge_in own from agrees)
+receive_in own s tick from (message.PollProof n nonce kind proof) judged =
+    proof_in own s.voter s.copies s.refs (poll_named from n) nonce kind judged
+receive_in own s tick from (message.Nominate n nominees) judged =
+    for_poll (poll_at n s.polls) (nominate_in from nominees)
+receive_in own s tick from (message.Vote n hashes proof) judged =
+    for_poll (poll_at n s.polls) (vote_in_poll from hashes judged s.copies)
+receive_in own s tick from (message.RepairRequest n b) judged = request_in s.voter (poll_named from n) b
+receive_in own s tick from (message.Repair n b bytes) judged =
+    for_poll (poll_at n s.polls) (repair_in own from b bytes s.copies)
+receive_in own s tick from (message.Receipt n) judged = end_in s.voter (poll_named from n)
 
 -- what a peer in this state adds and sends at this tick
 unfoldable pub react_on : Station → State → ℕ → Input → Reaction

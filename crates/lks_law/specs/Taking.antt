@@ -1,10 +1,11 @@
 -- What a peer knows as a voter in polls of others, and what one record more makes of that.
-use Rattle.std.specs.Prelude.{ℕ, Bool, ◌==◌, ◌+◌, if◌then◌else◌, Option, Some, None, unwrap_or, List, [], ◌∷◌, ◌++◌, find}
+use Rattle.std.specs.Prelude.{ℕ, Bool, ◌==◌, ◌+◌, if◌then◌else◌, Option, Some, None, unwrap_or, List, [], ◌∷◌, ◌++◌}
+use Rattle.std.specs.Prelude.{find}
 use Rattle.lks_base.specs.declared.names.PollName.{PollName}
 use Rattle.lks_base.specs.declared.plans.Rules.{Rules}
 use Rattle.lks_base.specs.declared.records.Record.{Record}
 use Rattle.lks_law.specs.Firsts.{changed_first, without_first}
-use Rattle.lks_law.specs.Journal.{Told, said}
+use Rattle.lks_law.specs.Journal.{Told, said_by}
 use Rattle.lks_law.specs.Sessions.{Join, Commitment, Turn, Part, is_poll, part_of, low_part}
 use Rattle.lks_tally.specs.declared.ballots.Vote.{Vote}
 use Rattle.lks_voter.specs.States.{Joining, Committing}
@@ -69,44 +70,55 @@ cast_at q cs = find (is_cast_of q) cs
 
 -- a session has this number, or the rules' where it has none
 abbrev pub joined_as : Rules → PollName → Join → Session
-joined_as rules q j = record { joined = record { poll = q; au = j.au; tick = j.tick; low = j.low }; repairs = unwrap_or j.repairs rules.repairs }
+joined_as rules q j =
+    record {
+      joined = record { poll = q; au = j.au; tick = j.tick; low = j.low };
+      repairs = unwrap_or j.repairs rules.repairs;
+    }
 
 -- the session is committed to the version that has these blocks
 abbrev pub pinned_to : Commitment → List (List ℕ) → Session → Pinned
-pinned_to c blocks s = record { committed = record { joined = s.joined; commitment = c }; repairs = s.repairs; blocks = blocks }
+pinned_to c blocks s =
+    record { committed = record { joined = s.joined; commitment = c }; repairs = s.repairs; blocks = blocks }
 
 -- where each AU has these
-abbrev pub pinning : (ℕ → List (List ℕ)) → Commitment → Option Session → List Pinned
-pinning blocks c None = []
-pinning blocks c (Some s) = pinned_to c (blocks s.joined.au) s ∷ []
+abbrev pub pins_of : (ℕ → List (List ℕ)) → Commitment → Option Session → List Pinned
+pins_of blocks c None = []
+pins_of blocks c (Some s) = pinned_to c (blocks s.joined.au) s ∷ []
 
 -- the peer voted in it, and gave these blocks
 abbrev pub cast_as : List (List ℕ) → List ℕ → Pinned → Cast
-cast_as hashes served p = record { voted = record { committed = p.committed; hashes = hashes; served = served }; repairs = p.repairs; blocks = p.blocks }
+cast_as hashes served p =
+    record {
+      voted = record { committed = p.committed; hashes = hashes; served = served };
+      repairs = p.repairs;
+      blocks = p.blocks;
+    }
 
-abbrev pub casting : List (List ℕ) → Option Pinned → List Cast
-casting hashes None = []
-casting hashes (Some p) = cast_as hashes [] p ∷ []
+abbrev pub casts_of : List (List ℕ) → Option Pinned → List Cast
+casts_of hashes None = []
+casts_of hashes (Some p) = cast_as hashes [] p ∷ []
 
 -- it gave a new block
-abbrev pub serving : ℕ → Cast → Cast
-serving block c = record c { voted = voting.after c.voted block First }
+abbrev pub serving_block : ℕ → Cast → Cast
+serving_block block c = record c { voted = voting.after c.voted block First }
 
 -- after a turn in poll q, where each AU has these blocks
-abbrev pub turned : Rules → (ℕ → List (List ℕ)) → PollName → Turn → Voter → Voter
-turned rules blocks q (Turn.Joins join) v = record v { sessions = v.sessions ++ joined_as rules q join ∷ [] }
-turned rules blocks q (Turn.Commits commitment) v =
+abbrev pub after_turn : Rules → (ℕ → List (List ℕ)) → PollName → Turn → Voter → Voter
+after_turn rules blocks q (Turn.Joins join) v = record v { sessions = v.sessions ++ joined_as rules q join ∷ [] }
+after_turn rules blocks q (Turn.Commits commitment) v =
     record v {
       sessions = without_first (is_session_of q) v.sessions;
-      pinned = v.pinned ++ pinning blocks commitment (session_at q v.sessions);
+      pinned = v.pinned ++ pins_of blocks commitment (session_at q v.sessions);
     }
-turned rules blocks q (Turn.Votes hashes) v =
+after_turn rules blocks q (Turn.Votes hashes) v =
     record v {
       pinned = without_first (is_pinned_of q) v.pinned;
-      cast = v.cast ++ casting hashes (pinned_at q v.pinned);
+      cast = v.cast ++ casts_of hashes (pinned_at q v.pinned);
     }
-turned rules blocks q (Turn.Serves block) v = record v { cast = changed_first (is_cast_of q) (serving block) v.cast }
-turned rules blocks q Turn.Ends v =
+after_turn rules blocks q (Turn.Serves block) v =
+    record v { cast = changed_first (is_cast_of q) (serving_block block) v.cast }
+after_turn rules blocks q Turn.Ends v =
     record v {
       sessions = without_first (is_session_of q) v.sessions;
       pinned = without_first (is_pinned_of q) v.pinned;
@@ -116,7 +128,7 @@ turned rules blocks q Turn.Ends v =
 
 abbrev pub turned_by : Rules → (ℕ → List (List ℕ)) → Option Part → Voter → Voter
 turned_by rules blocks None v = v
-turned_by rules blocks (Some p) v = turned rules blocks p.poll p.turn v
+turned_by rules blocks (Some p) v = after_turn rules blocks p.poll p.turn v
 
 -- Marks.
 
@@ -158,6 +170,6 @@ marks_by (Some p) marks = marks_turned p.poll p.turn marks
 abbrev pub voter_after : Rules → (ℕ → List (List ℕ)) → Record → Voter → Voter
 voter_after rules blocks r v =
     record (turned_by rules blocks (part_of r) v) {
-      marks = marks_by (part_of r) (marks_told (said r).voted v.marks);
+      marks = marks_by (part_of r) (marks_told (said_by r).voted v.marks);
       last_low = low_part v.last_low (part_of r);
     }

@@ -1,5 +1,5 @@
--- What a peer in a state has ready, whose turns come, and who is in its circles. Each says of the state what the word of that
--- name says of the journal.
+-- What a peer in a state has ready, whose turns come, and who is in its circles. Each says of the state what the word
+-- of that name says of the journal.
 use Rattle.std.specs.Prelude.{ℕ, Bool, false, not, ◌&&◌, if◌then◌else◌, Option, Some, None, is_some, List, ◌++◌, map}
 use Rattle.std.specs.List.{filter_map}
 use Rattle.lks_base.specs.Checking.{has_member}

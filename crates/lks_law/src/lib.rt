@@ -1,9 +1,9 @@
 //! What peers, worlds and histories are, and laws that hold of every one of them.
 //!
-//! The definitions stand in `specs/`: what a journal says of its AUs, its polls and its part in polls of others, the verdict
-//! of a poll, what a peer adds and sends as a poller and as a voter, the state for which a journal stands and what a peer in
-//! it adds and sends, the world after a history of events, what is due in it, and the entry of each event. Each law is the
-//! contract of a function with no parameters and no body.
+//! The definitions stand in `specs/`: what a journal says of its AUs, its polls and its part in polls of others, the
+//! verdict of a poll, what a peer adds and sends as a poller and as a voter, the state for which a journal stands and
+//! what a peer in it adds and sends, the world after a history of events, what is due in it, and the entry of each
+//! event. Each law is the contract of a function with no parameters and no body.
 #![tactic(auto)]
 
 mod laws;

@@ -1,5 +1,6 @@
 -- Lines that say what copies a peer has.
-use Rattle.std.specs.Prelude.{ℕ, ◌+◌, ◌-◌, ◌==◌, Bool, not, ◌&&◌, nat_le, if◌then◌else◌, List, [], ◌∷◌, ◌++◌, length, codes, Option, Some, None, is_none, slice_get}
+use Rattle.std.specs.Prelude.{ℕ, ◌+◌, ◌-◌, ◌==◌, Bool, not, ◌&&◌, nat_le, if◌then◌else◌, List, [], ◌∷◌, ◌++◌, length}
+use Rattle.std.specs.Prelude.{codes, Option, Some, None, is_none, slice_get}
 use Rattle.std.specs.List.{find, position, slice_set}
 use Rattle.std.specs.Str.{bytes_eq}
 use Rattle.lks_base.specs.declared.limits.TheConstants.{MOST_BLOCK_BYTES, MOST_COPY_BYTES}
@@ -18,7 +19,17 @@ may_hold id peer = peer.id == id && not peer.corrupt
 
 -- the peer with these copies
 abbrev pub with_copies : PeerPlan → List Holding → PeerPlan
-with_copies p copies = record { id = p.id; corrupt = p.corrupt; seed = p.seed; proof = p.proof; refs = p.refs; friends = p.friends; copies = copies; hash = p.hash }
+with_copies p copies =
+    record {
+      id = p.id;
+      corrupt = p.corrupt;
+      seed = p.seed;
+      proof = p.proof;
+      refs = p.refs;
+      friends = p.friends;
+      copies = copies;
+      hash = p.hash;
+    }
 
 -- the blocks of a peer's copy of an AU, as they stand now
 unfoldable pub copy_at : List PeerPlan → ℕ → ℕ → Option (List (List ℕ))
@@ -30,7 +41,8 @@ copy_at peers id au = do
 -- BLOCKS, like Q
 unfoldable pub content_in : List PeerPlan → ℕ → List (List ℕ) → Option (List (List ℕ))
 content_in peers au (blocks ∷ []) = blocks_in blocks
-content_in peers au (like ∷ id ∷ []) = if bytes_eq like (codes "like") then (id_in id >>= λ q. copy_at peers q au) else None
+content_in peers au (like ∷ id ∷ []) =
+    if bytes_eq like (codes "like") then (id_in id >>= λ q. copy_at peers q au) else None
 content_in peers au _ = None
 
 -- so many bytes and so many more, if all copies may have them

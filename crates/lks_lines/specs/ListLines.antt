@@ -1,5 +1,6 @@
 -- Lines that say a peer's lists and its hash.
-use Rattle.std.specs.Prelude.{ℕ, ◌==◌, Bool, not, ◌&&◌, nat_le, if◌then◌else◌, List, [], ◌∷◌, ◌++◌, length, Option, Some, None, is_none, slice_get}
+use Rattle.std.specs.Prelude.{ℕ, ◌==◌, Bool, not, ◌&&◌, nat_le, if◌then◌else◌, List, [], ◌∷◌, ◌++◌, length, Option}
+use Rattle.std.specs.Prelude.{Some, None, is_none, slice_get}
 use Rattle.std.specs.List.{position, slice_set}
 use Rattle.lks_base.specs.declared.names.HashKind.{HashKind}
 use Rattle.lks_base.specs.declared.plans.PeerPlan.{PeerPlan}
@@ -22,8 +23,28 @@ lacks_list kind id peer = peer.id == id && not peer.corrupt && length (list_of k
 
 -- the peer with this list of the kind
 unfoldable pub with_list : ListKind → PeerPlan → List ℕ → PeerPlan
-with_list Refs p ids = record { id = p.id; corrupt = p.corrupt; seed = p.seed; proof = p.proof; refs = ids; friends = p.friends; copies = p.copies; hash = p.hash }
-with_list Friends p ids = record { id = p.id; corrupt = p.corrupt; seed = p.seed; proof = p.proof; refs = p.refs; friends = ids; copies = p.copies; hash = p.hash }
+with_list Refs p ids =
+    record {
+      id = p.id;
+      corrupt = p.corrupt;
+      seed = p.seed;
+      proof = p.proof;
+      refs = ids;
+      friends = p.friends;
+      copies = p.copies;
+      hash = p.hash;
+    }
+with_list Friends p ids =
+    record {
+      id = p.id;
+      corrupt = p.corrupt;
+      seed = p.seed;
+      proof = p.proof;
+      refs = p.refs;
+      friends = ids;
+      copies = p.copies;
+      hash = p.hash;
+    }
 
 -- one peer or more, each a declared one, none the peer itself, and none twice
 unfoldable pub is_list : List PeerPlan → ℕ → List ℕ → Bool
@@ -47,7 +68,17 @@ draft_with_list kind d _ = None
 
 -- the peer with this hash
 abbrev pub with_hash : PeerPlan → HashKind → PeerPlan
-with_hash p hash = record { id = p.id; corrupt = p.corrupt; seed = p.seed; proof = p.proof; refs = p.refs; friends = p.friends; copies = p.copies; hash = hash }
+with_hash p hash =
+    record {
+      id = p.id;
+      corrupt = p.corrupt;
+      seed = p.seed;
+      proof = p.proof;
+      refs = p.refs;
+      friends = p.friends;
+      copies = p.copies;
+      hash = hash;
+    }
 
 -- the peers, of which one has this hash
 unfoldable pub hashing : ℕ → HashKind → List PeerPlan → Option (List PeerPlan)
@@ -58,7 +89,9 @@ hashing id hash peers = do
 
 -- the draft that notes besides that the hash of this peer was said, which it wasn't yet
 unfoldable pub noted : PlanDraft → ℕ → Option PlanDraft
-noted d id = if has_member d.hashed id then None else Some (record { plan = d.plan; bytes = d.bytes; hashed = d.hashed ++ id ∷ [] })
+noted d id =
+    if has_member d.hashed id then None
+    else Some (record { plan = d.plan; bytes = d.bytes; hashed = d.hashed ++ id ∷ [] })
 
 -- hash P sha256, hash P sha512-256
 unfoldable pub draft_with_hash : PlanDraft → List (List ℕ) → Option PlanDraft

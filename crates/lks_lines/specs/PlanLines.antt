@@ -1,5 +1,6 @@
 -- Lines that begin a plan: its rules, its AUs and its peers.
-use Rattle.std.specs.Prelude.{ℕ, ◌==◌, Bool, not, ◌&&◌, nat_le, nat_lt, if◌then◌else◌, List, [], ◌∷◌, ◌++◌, length, codes, Option, Some, None, unwrap_or}
+use Rattle.std.specs.Prelude.{ℕ, ◌==◌, Bool, not, ◌&&◌, nat_le, nat_lt, if◌then◌else◌, List, [], ◌∷◌, ◌++◌, length}
+use Rattle.std.specs.Prelude.{codes, Option, Some, None, unwrap_or}
 use Rattle.std.specs.Str.{bytes_eq}
 use Rattle.lks_base.specs.declared.limits.TheConstants.{MOST_AUS, MOST_BLOCKS, MOST_EVENTS, MOST_PEERS}
 use Rattle.lks_base.specs.declared.names.HashKind.TheVariants.{Sha256}
@@ -31,7 +32,20 @@ paces_in sizes words = do
   debt ← named (codes "debt") 255 unknown.1
   churn ← named (codes "churn") 65535 debt.1
   if length churn.1 == 0
-      then Some (record { inner = sizes.inner; quorum = sizes.quorum; minority = sizes.minority; outer = sizes.outer; repairs = sizes.repairs; pace = pace.0; refractory = refractory.0; overdue = overdue.0; unknown_pct = unknown.0; debt_pct = debt.0; churn = churn.0 })
+      then Some
+      (record {
+        inner = sizes.inner;
+        quorum = sizes.quorum;
+        minority = sizes.minority;
+        outer = sizes.outer;
+        repairs = sizes.repairs;
+        pace = pace.0;
+        refractory = refractory.0;
+        overdue = overdue.0;
+        unknown_pct = unknown.0;
+        debt_pct = debt.0;
+        churn = churn.0;
+      })
       else None
 
 -- inner N quorum N minority N outer N repairs N, and the numbers behind these
@@ -42,7 +56,20 @@ numbers_in words = do
   minority ← named (codes "minority") 65535 quorum.1
   outer ← named (codes "outer") 65535 minority.1
   repairs ← named (codes "repairs") 65535 outer.1
-  paces_in (record { inner = inner.0; quorum = quorum.0; minority = minority.0; outer = outer.0; repairs = repairs.0; pace = 0; refractory = 0; overdue = 0; unknown_pct = 0; debt_pct = 0; churn = 0 }) repairs.1
+  paces_in
+      (record {
+        inner = inner.0;
+        quorum = quorum.0;
+        minority = minority.0;
+        outer = outer.0;
+        repairs = repairs.0;
+        pace = 0;
+        refractory = 0;
+        overdue = 0;
+        unknown_pct = 0;
+        debt_pct = 0;
+        churn = 0;
+      }) repairs.1
 
 -- rules ...: in their bounds and in order
 unfoldable pub rules_in : List (List ℕ) → Option Rules
@@ -75,20 +102,42 @@ peer_in (id ∷ kind ∷ seed ∷ proof ∷ []) = do
   corrupt ← kind_in kind
   seed ← seed_in seed
   proof ← proof_in proof
-  Some (record { id = p; corrupt = corrupt; seed = seed; proof = proof; refs = []; friends = []; copies = []; hash = Sha256 })
+  Some
+      (record {
+        id = p;
+        corrupt = corrupt;
+        seed = seed;
+        proof = proof;
+        refs = [];
+        friends = [];
+        copies = [];
+        hash = Sha256;
+      })
 peer_in _ = None
 
 -- a plan without peers, whose copies have no bytes
 abbrev pub begun : Rules → Option ℕ → List AuPlan → PlanDraft
-begun rules turns aus = record { plan = record { rules = rules; turns = unwrap_or turns MOST_EVENTS; aus = aus; peers = [] }; bytes = 0; hashed = [] }
+begun rules turns aus =
+    record {
+      plan = record { rules = rules; turns = unwrap_or turns MOST_EVENTS; aus = aus; peers = [] };
+      bytes = 0;
+      hashed = [];
+    }
 
 -- the draft with other peers, whose copies have so many bytes
 abbrev pub with_peers : PlanDraft → List PeerPlan → ℕ → PlanDraft
-with_peers d peers bytes = record { plan = record { rules = d.plan.rules; turns = d.plan.turns; aus = d.plan.aus; peers = peers }; bytes = bytes; hashed = d.hashed }
+with_peers d peers bytes =
+    record {
+      plan = record { rules = d.plan.rules; turns = d.plan.turns; aus = d.plan.aus; peers = peers };
+      bytes = bytes;
+      hashed = d.hashed;
+    }
 
 -- there is an AU, there is room for one more peer, its number is new, and its proof isn't too long
 unfoldable pub may_add_peer : Plan → PeerPlan → Bool
-may_add_peer plan peer = nat_le 1 (length plan.aus) && nat_lt (length plan.peers) MOST_PEERS && not (has_peer plan.peers peer.id) && is_fit peer
+may_add_peer plan peer =
+    nat_le 1 (length plan.aus) && nat_lt (length plan.peers) MOST_PEERS && not (has_peer plan.peers peer.id)
+    && is_fit peer
 
 -- one peer more
 unfoldable pub draft_with_peer : PlanDraft → List (List ℕ) → Option PlanDraft

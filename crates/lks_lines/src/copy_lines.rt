@@ -5,7 +5,8 @@ ghost use Rattle.std.specs.List.{find, position};
 ghost use Rattle.std.specs.Option.{option_copied};
 ghost use Rattle.lks_base.specs.Checking.{bytes_of_blocks};
 ghost use Rattle.lks_words.specs.Words.{Gives};
-ghost use Rattle.lks_lines.specs.CopyLines.{may_hold, copy_at, content_in, with_more, copies_with, holding, draft_with_copy, block_put, copy_damaged, damaged, draft_with_damage};
+ghost use Rattle.lks_lines.specs.CopyLines.{may_hold, copy_at, content_in, with_more, copies_with, holding};
+ghost use Rattle.lks_lines.specs.CopyLines.{draft_with_copy, block_put, copy_damaged, damaged, draft_with_damage};
 
 use crate::plan_lines::PlanDraft;
 use lks_base::{

@@ -3,7 +3,8 @@
 ghost use Rattle.std.specs.Prelude.{◌≡◌, ◌==◌, map, length};
 ghost use Rattle.std.specs.List.{position};
 ghost use Rattle.lks_words.specs.Words.{Gives};
-ghost use Rattle.lks_lines.specs.ListLines.{list_of, lacks_list, with_list, is_list, listed, draft_with_list, hashing, noted, draft_with_hash};
+ghost use Rattle.lks_lines.specs.ListLines.{list_of, lacks_list, with_list, is_list, listed, draft_with_list, hashing};
+ghost use Rattle.lks_lines.specs.ListLines.{noted, draft_with_hash};
 
 use crate::plan_lines::PlanDraft;
 use lks_base::{HashKind, Ids, PeerPlan, Seq, check_members, has_member};

@@ -2,7 +2,8 @@
 
 ghost use Rattle.std.specs.Prelude.{◌≡◌, ◌≤◌, [], map, IfOk};
 ghost use Rattle.lks_words.specs.Words.{Gives, Shows};
-ghost use Rattle.lks_lines.specs.PlanLines.{named, are_good, numbers_in, paces_in, rules_in, au_in, may_add_au, aus_with, peer_in, begun, with_peers, may_add_peer, draft_with_peer};
+ghost use Rattle.lks_lines.specs.PlanLines.{named, are_good, numbers_in, paces_in, rules_in, au_in, may_add_au};
+ghost use Rattle.lks_lines.specs.PlanLines.{aus_with, peer_in, begun, with_peers, may_add_peer, draft_with_peer};
 
 use lks_base::{
     AuPlan, HashKind, Ids, MOST_AUS, MOST_BLOCKS, MOST_EVENTS, MOST_PEERS, PeerPlan, Plan, Rules,
@@ -29,7 +30,8 @@ fn named_number<'a, 'b>(
     most: u64,
     words: &'a [&'b [u8]],
 ) -> Result<(u64, &'a [&'b [u8]]), Stop>
-    ensures value { Shows (λ x. (x.0, map (λ w. w.now) x.1.now)) result (named name.now most (map (λ w. w.now) words.now)) }
+    ensures value { Shows (λ x. (x.0, map (λ w. w.now) x.1.now)) result
+        (named name.now most (map (λ w. w.now) words.now)) }
     ensures few { IfOk result (λ x. x.0 ≤ most) }
 {
     let [key, word, rest @ ..] = words else {

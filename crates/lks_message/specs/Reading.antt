@@ -2,22 +2,25 @@
 use Rattle.std.specs.Prelude.{◌==◌, ℕ, List, Result, Ok, Err, if◌then◌else◌}
 use Rattle.std.specs.Int.{w16, w32}
 use Rattle.lks_base.specs.Kinds.{is_second}
-use Rattle.lks_base.specs.declared.limits.TheConstants.{LAST_BLOCK, MOST_BLOCKS, MOST_BLOCK_BYTES, MOST_NOMINEES, MOST_PROOF_BYTES}
+use Rattle.lks_base.specs.declared.limits.TheConstants.{LAST_BLOCK, MOST_BLOCKS, MOST_BLOCK_BYTES, MOST_NOMINEES}
+use Rattle.lks_base.specs.declared.limits.TheConstants.{MOST_PROOF_BYTES}
 use Rattle.lks_base.specs.declared.messages.Message.{Message}
 use Rattle.lks_base.specs.declared.messages.Message.TheVariants as messages
 use Rattle.lks_base.specs.declared.names.HashKind.{HashKind}
 use Rattle.lks_base.specs.declared.names.HashKind.TheVariants.{Sha256, Sha512_256}
-use Rattle.lks_field.specs.Reading.{◌>>=◌, byte_at, kind_at, hash_at, number_at, upto_at, sized_at, list_at, end_of, tagged, GivesBut, ReadsBut}
+use Rattle.lks_field.specs.Reading.{◌>>=◌, byte_at, kind_at, hash_at, number_at, upto_at, sized_at, list_at, end_of}
+use Rattle.lks_field.specs.Reading.{tagged, GivesBut, ReadsBut}
 use Rattle.lks_message.specs.declared.fault.MsgFault.{MsgFault}
 use Rattle.lks_message.specs.declared.fault.MsgFault.TheVariants.{Version, Tag}
-use Rattle.lks_message.specs.declared.heading.Heading.{Heading}
-use Rattle.lks_message.specs.declared.heading.Heading.TheVariants.{Poll, PollChallenge, PollProof, Nominate, Vote, RepairRequest, Repair, Receipt}
+use Rattle.lks_message.specs.declared.heading.MessageHeading.{MessageHeading}
+use Rattle.lks_message.specs.declared.heading.MessageHeading.TheVariants.{Poll, PollChallenge, PollProof, Nominate}
+use Rattle.lks_message.specs.declared.heading.MessageHeading.TheVariants.{Vote, RepairRequest, Repair, Receipt}
 use Rattle.lks_message.specs.Faults.{told_as, field, is_memory}
 
 -- ---- version and tag
 
 -- what a tag announces under the first version
-unfoldable pub first_heading : ℕ → Result Heading MsgFault
+unfoldable pub first_heading : ℕ → Result MessageHeading MsgFault
 first_heading tag =
     if tag == 1 then Ok Poll
     else if tag == 2 then Ok PollChallenge
@@ -30,11 +33,11 @@ first_heading tag =
     else Err Tag
 
 -- and under the second, which has the proofs of the second kind of hash alone
-unfoldable pub second_heading : ℕ → Result Heading MsgFault
+unfoldable pub second_heading : ℕ → Result MessageHeading MsgFault
 second_heading tag = if tag == 3 then Ok (PollProof Sha512_256) else Err Tag
 
 -- version and tag: the version is judged before the tag is read
-unfoldable pub heading_at : List ℕ → Result (Heading × List ℕ) MsgFault
+unfoldable pub heading_at : List ℕ → Result (MessageHeading × List ℕ) MsgFault
 heading_at bytes = do
   version ← field (byte_at bytes)
   if version.0 == 1 then tagged told_as first_heading version.1
@@ -112,7 +115,7 @@ repair_at number bytes = do
   Ok (messages.Repair number block.0 content.0, content.1)
 
 -- the message that the heading announces
-abbrev pub message_at : Heading → ℕ → List ℕ → Result (Message × List ℕ) MsgFault
+abbrev pub message_at : MessageHeading → ℕ → List ℕ → Result (Message × List ℕ) MsgFault
 message_at Poll number bytes = poll_at number bytes
 message_at PollChallenge number bytes = challenge_at number bytes
 message_at (PollProof kind) number bytes = poll_proof_at kind number bytes

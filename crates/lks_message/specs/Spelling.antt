@@ -2,12 +2,15 @@
 use Rattle.std.specs.Prelude.{◌≡◌, ℕ, ◌<◌, ◌≤◌, ◌^◌, List, [], ◌∷◌, ◌++◌, length, All}
 use Rattle.std.specs.Int.{w16, w32, to_be_bytes}
 use Rattle.lks_base.specs.Kinds.{is_second}
-use Rattle.lks_base.specs.declared.limits.TheConstants.{LAST_BLOCK, MOST_BLOCKS, MOST_BLOCK_BYTES, MOST_NOMINEES, MOST_PROOF_BYTES}
+use Rattle.lks_base.specs.declared.limits.TheConstants.{LAST_BLOCK, MOST_BLOCKS, MOST_BLOCK_BYTES, MOST_NOMINEES}
+use Rattle.lks_base.specs.declared.limits.TheConstants.{MOST_PROOF_BYTES}
 use Rattle.lks_base.specs.declared.messages.Message.{Message}
-use Rattle.lks_base.specs.declared.messages.Message.TheVariants.{Poll, PollChallenge, PollProof, Nominate, Vote, RepairRequest, Repair, Receipt}
+use Rattle.lks_base.specs.declared.messages.Message.TheVariants.{Poll, PollChallenge, PollProof, Nominate, Vote}
+use Rattle.lks_base.specs.declared.messages.Message.TheVariants.{RepairRequest, Repair, Receipt}
 use Rattle.lks_base.specs.declared.names.HashKind.{HashKind}
 use Rattle.lks_base.specs.declared.names.HashKind.TheVariants.{Sha256, Sha512_256}
-pub use Rattle.lks_field.specs.Spelling.{flag, kind_bytes, number_bytes as nominee_bytes, hash_bytes, sized_bytes as content_bytes}
+pub use Rattle.lks_field.specs.Spelling.{flag, kind_bytes, number_bytes as nominee_bytes, hash_bytes}
+pub use Rattle.lks_field.specs.Spelling.{sized_bytes as content_bytes}
 
 -- what each message begins with: its version, its tag and the number of its poll
 abbrev pub start : ℕ → ℕ → ℕ → List ℕ
@@ -26,7 +29,8 @@ proof_bytes proof = length proof ∷ proof
 unfoldable pub spelling : Message → List ℕ
 spelling (Poll number au) = start 1 1 number ++ to_be_bytes w16 au
 spelling (PollChallenge number joins) = start 1 2 number ++ flag joins ∷ []
-spelling (PollProof number nonce kind proof) = start (version_of kind) 3 number ++ nonce ++ kind_bytes (is_second kind) ++ proof_bytes proof
+spelling (PollProof number nonce kind proof) =
+    start (version_of kind) 3 number ++ nonce ++ kind_bytes (is_second kind) ++ proof_bytes proof
 spelling (Nominate number nominees) = start 1 4 number ++ nominee_bytes nominees
 spelling (Vote number hashes proof) = start 1 5 number ++ hash_bytes hashes ++ proof_bytes proof
 spelling (RepairRequest number block) = start 1 6 number ++ to_be_bytes w16 block

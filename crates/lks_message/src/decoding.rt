@@ -2,10 +2,12 @@
 
 ghost use Rattle.std.specs.Prelude.{◌≡◌, IfOk};
 ghost use Rattle.lks_message.specs.Spelling.{spelling, IsInLimits};
-ghost use Rattle.lks_message.specs.Reading.{Reads, Gives, proof_at, nominees_at, hashes_at, block_at, content_at, poll_at, challenge_at, poll_proof_at, nominate_at, vote_at, request_at, repair_at, message_at, decode_of};
+ghost use Rattle.lks_message.specs.Reading.{Reads, Gives, proof_at, nominees_at, hashes_at, block_at, content_at};
+ghost use Rattle.lks_message.specs.Reading.{poll_at, challenge_at, poll_proof_at, nominate_at, vote_at, request_at};
+ghost use Rattle.lks_message.specs.Reading.{repair_at, message_at, decode_of};
 
 use crate::fault::MsgFault;
-use crate::heading::{Heading, heading_of};
+use crate::heading::{MessageHeading, heading_of};
 use lks_base::{
     Bytes, HashKind, Hashes, Ids, LAST_BLOCK, MOST_BLOCK_BYTES, MOST_BLOCKS, MOST_NOMINEES,
     MOST_PROOF_BYTES, Message,
@@ -133,21 +135,21 @@ fn repair_of(alloc: Global, number: u32, fields: &mut Fields<'_>) -> Result<Mess
 
 fn message_of(
     alloc: Global,
-    heading: Heading,
+    heading: MessageHeading,
     number: u32,
     fields: &mut Fields<'_>,
 ) -> Result<Message, MsgFault>
     ensures { Reads result fields.new (message_at heading number fields.old) }
 {
     match heading {
-        Heading::Poll => poll_of(number, fields),
-        Heading::PollChallenge => challenge_of(number, fields),
-        Heading::PollProof(kind) => poll_proof_of(alloc, kind, number, fields),
-        Heading::Nominate => nominate_of(alloc, number, fields),
-        Heading::Vote => vote_of(alloc, number, fields),
-        Heading::RepairRequest => request_of(number, fields),
-        Heading::Repair => repair_of(alloc, number, fields),
-        Heading::Receipt => Ok(Message::Receipt { number }),
+        MessageHeading::Poll => poll_of(number, fields),
+        MessageHeading::PollChallenge => challenge_of(number, fields),
+        MessageHeading::PollProof(kind) => poll_proof_of(alloc, kind, number, fields),
+        MessageHeading::Nominate => nominate_of(alloc, number, fields),
+        MessageHeading::Vote => vote_of(alloc, number, fields),
+        MessageHeading::RepairRequest => request_of(number, fields),
+        MessageHeading::Repair => repair_of(alloc, number, fields),
+        MessageHeading::Receipt => Ok(Message::Receipt { number }),
     }
 }
 

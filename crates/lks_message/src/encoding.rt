@@ -1,7 +1,8 @@
 //! Messages to bytes.
 
 ghost use Rattle.std.specs.Prelude.{◌≡◌, ◌≤◌, ◌++◌, length, OnOk, IfOk};
-ghost use Rattle.lks_base.specs.declared.limits.TheConstants.{MOST_BLOCKS, MOST_BLOCK_BYTES, MOST_FORGED_BYTES, MOST_NOMINEES, MOST_PROOF_BYTES};
+ghost use Rattle.lks_base.specs.declared.limits.TheConstants.{MOST_BLOCKS, MOST_BLOCK_BYTES, MOST_FORGED_BYTES};
+ghost use Rattle.lks_base.specs.declared.limits.TheConstants.{MOST_NOMINEES, MOST_PROOF_BYTES};
 ghost use Rattle.lks_message.specs.Spelling.{start, version_of, proof_bytes, spelling, IsWithin, IsSized};
 ghost use Rattle.lks_message.specs.Reading.{decode_of};
 
@@ -65,7 +66,8 @@ fn put_poll_proof(
     proof: &[u8],
 ) -> Written
     requires { length proof.now ≤ MOST_PROOF_BYTES }
-    ensures spelled { OnOk result (out.new.items ≡ out.old.items ++ spelling (Message.PollProof number nonce.now kind proof.now)) }
+    ensures spelled { OnOk result
+        (out.new.items ≡ out.old.items ++ spelling (Message.PollProof number nonce.now kind proof.now)) }
     ensures sized { IsSized (Message.PollProof number nonce.now kind proof.now) }
 {
     put_start(out, version_byte(kind), 3, number)?;
@@ -88,7 +90,8 @@ fn put_nominate(out: &mut Vec<u8>, number: u32, nominees: &[u16]) -> Written
 fn put_vote(out: &mut Vec<u8>, number: u32, hashes: &[[u8; 32]], proof: &[u8]) -> Written
     requires hashes { length hashes.now ≤ MOST_BLOCKS }
     requires proof { length proof.now ≤ MOST_PROOF_BYTES }
-    ensures spelled { OnOk result (out.new.items ≡ out.old.items ++ spelling (Message.Vote number hashes.now proof.now)) }
+    ensures spelled { OnOk result
+        (out.new.items ≡ out.old.items ++ spelling (Message.Vote number hashes.now proof.now)) }
     ensures sized { IsSized (Message.Vote number hashes.now proof.now) }
 {
     put_start(out, 1, 5, number)?;

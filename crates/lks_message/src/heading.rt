@@ -9,7 +9,7 @@ use lks_field::Fields;
 
 /// What a version and a tag announce.
 #[derive(Clone, Copy)]
-pub enum Heading {
+pub enum MessageHeading {
     Poll,
     PollChallenge,
     PollProof(HashKind),
@@ -21,35 +21,35 @@ pub enum Heading {
 }
 
 #[tactic(auto, unfolding(crate::specs::Reading::first_heading))]
-fn first_heading_of(tag: u8) -> Result<Heading, MsgFault>
+fn first_heading_of(tag: u8) -> Result<MessageHeading, MsgFault>
     ensures { result ≡ first_heading tag }
 {
     match tag {
-        1 => Ok(Heading::Poll),
-        2 => Ok(Heading::PollChallenge),
-        3 => Ok(Heading::PollProof(HashKind::Sha256)),
-        4 => Ok(Heading::Nominate),
-        5 => Ok(Heading::Vote),
-        6 => Ok(Heading::RepairRequest),
-        7 => Ok(Heading::Repair),
-        8 => Ok(Heading::Receipt),
+        1 => Ok(MessageHeading::Poll),
+        2 => Ok(MessageHeading::PollChallenge),
+        3 => Ok(MessageHeading::PollProof(HashKind::Sha256)),
+        4 => Ok(MessageHeading::Nominate),
+        5 => Ok(MessageHeading::Vote),
+        6 => Ok(MessageHeading::RepairRequest),
+        7 => Ok(MessageHeading::Repair),
+        8 => Ok(MessageHeading::Receipt),
         _ => Err(MsgFault::Tag),
     }
 }
 
 #[tactic(auto, unfolding(crate::specs::Reading::second_heading))]
-fn second_heading_of(tag: u8) -> Result<Heading, MsgFault>
+fn second_heading_of(tag: u8) -> Result<MessageHeading, MsgFault>
     ensures { result ≡ second_heading tag }
 {
     match tag {
-        3 => Ok(Heading::PollProof(HashKind::Sha512_256)),
+        3 => Ok(MessageHeading::PollProof(HashKind::Sha512_256)),
         _ => Err(MsgFault::Tag),
     }
 }
 
 /// The heading at the front. The version is judged before the tag is read.
 #[tactic(auto, unfolding(crate::specs::Reading::heading_at))]
-pub fn heading_of(fields: &mut Fields<'_>) -> Result<Heading, MsgFault>
+pub fn heading_of(fields: &mut Fields<'_>) -> Result<MessageHeading, MsgFault>
     ensures { Reads result fields.new (heading_at fields.old) }
 {
     match fields.get_u8()? {

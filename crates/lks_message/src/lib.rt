@@ -1,4 +1,6 @@
 //! Messages between peers as bytes, both ways.
+//!
+//! Its trials: `lks_format_trials`, `message`.
 #![tactic(auto)]
 
 mod decoding;

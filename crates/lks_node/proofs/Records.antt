@@ -7,11 +7,13 @@ use Rattle.std.specs.Int.{w16, to_be_bytes}
 use Rattle.std.specs.List.{flat_map}
 use Rattle.std.specs.Prelude.{sum_by}
 use Rattle.lks_base.specs.declared.records.Record.{Record}
-use Rattle.lks_base.specs.declared.records.Record.TheVariants.{Deposit, PollOpened, Nominated, OuterOpened, VoteIn, Shut, Asked, RepairBad, Replaced, Closed, Overdue, Joined, Committed, Voted, Served, Ended, Tuned}
+use Rattle.lks_base.specs.declared.records.Record.TheVariants.{Deposit, PollOpened, Nominated, OuterOpened, VoteIn}
+use Rattle.lks_base.specs.declared.records.Record.TheVariants.{Shut, Asked, RepairBad, Replaced, Closed, Overdue}
+use Rattle.lks_base.specs.declared.records.Record.TheVariants.{Joined, Committed, Voted, Served, Ended, Tuned}
 use Rattle.lks_host.specs.Bodies.{bodies_of}
 use Rattle.lks_law.specs.Batches.{together}
 use Rattle.lks_record.specs.Spelling.{batch_spelling, poll_bytes, spelling}
-use Rattle.lks_sort.specs.Owners.{Spell}
+use Rattle.lks_host.specs.Owners.{Spell}
 
 some_bytes : (r : Record) → 3 ≤ length (spelling r)
 unfolding spelling poll_bytes
@@ -52,7 +54,8 @@ all_batches (b ∷ bs) =
     let rest = all_batches bs in
     omega (arith, records, bytes, count, one, rest)
 
-pub records_few : (bodies : List (List ℕ)) (list : List Record) → Spell bodies list → sum_by length bodies ≤ 2147483647 → length list ≤ 1000000000
+pub records_few : (bodies : List (List ℕ)) (list : List Record) → Spell bodies list
+    → sum_by length bodies ≤ 2147483647 → length list ≤ 1000000000
 records_few bodies list spell few =
     let each = all_batches spell.batches in
     let same = ap (sum_by length) spell.spelled in

@@ -10,7 +10,9 @@ use Rattle.lks_node.specs.declared.ends.Unready.TheVariants as unready
 use Rattle.lks_node.specs.declared.ends.Unscripted.TheVariants.{Unread, Unframed, Unsaid}
 use Rattle.lks_node.specs.declared.frames.Unread.TheVariants as reading
 use Rattle.lks_node.specs.declared.statuses.NodeStatus.{NodeStatus}
-use Rattle.lks_node.specs.declared.statuses.NodeStatus.TheVariants.{Done, Usage, BadScript, ReadFault, WriteFault, DiskFault, NoMemory, Foreign, BadFrame, OpenFault, Full, TooMany, Stranger, Damaged}
+use Rattle.lks_node.specs.declared.statuses.NodeStatus.TheVariants.{Done, Usage, BadScript, ReadFault, WriteFault}
+use Rattle.lks_node.specs.declared.statuses.NodeStatus.TheVariants.{DiskFault, NoMemory, Foreign, BadFrame, OpenFault}
+use Rattle.lks_node.specs.declared.statuses.NodeStatus.TheVariants.{Full, TooMany, Stranger, Damaged}
 use Rattle.lks_outside.specs.declared.sinks.WriteStop.TheVariants as writing
 use Rattle.lks_script.specs.declared.faults.ScriptFault.TheVariants as script
 use Rattle.lks_store.specs.declared.openers.OpenStop.TheVariants as opening

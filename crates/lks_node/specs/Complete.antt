@@ -6,7 +6,7 @@ use Rattle.lks_base.specs.declared.records.Record.{Record}
 use Rattle.lks_field.specs.Frames.{HoldsBodies}
 use Rattle.lks_host.specs.Bodies.{bodies_of}
 use Rattle.lks_law.specs.Batches.{together}
-use Rattle.lks_law.specs.Behind.{latest}
+use Rattle.lks_law.specs.Behind.{latest_tick}
 use Rattle.lks_law.specs.Polls.{Station}
 use Rattle.lks_law.specs.Questions.{Verdicts}
 use Rattle.lks_law.specs.World.{deposits, honest_peer, station_of}
@@ -25,13 +25,17 @@ use Rattle.lks_node.specs.declared.statuses.NodeStatus.TheVariants.{Done, NoMemo
 use Rattle.lks_script.specs.Grammar.{script_of}
 use Rattle.lks_script.specs.declared.steps.Script.{Script}
 
--- A store of these bytes is empty, or it holds a journal of the peer's own, or the first of its deposits, which aren't too long.
+-- A store of these bytes is empty, or it holds a journal of the peer's own, or the first of its deposits, which aren't
+-- too long.
 abbrev pub IsOwn : Station → List Record → List ℕ → Type 0
 IsOwn own begun content =
-    (content ≡ []) ⊎ ((held : List (List Record)) × HoldsBodies (bodies_of held) content × IsSorted own begun (bodies_of held) (together held) × (sum_by length (bodies_of held) ≤ MOST_BYTES))
+    (content ≡ []) ⊎
+    ((held : List (List Record)) × HoldsBodies (bodies_of held) content
+    × IsSorted own begun (bodies_of held) (together held) × (sum_by length (bodies_of held) ≤ MOST_BYTES))
 
--- The words name a peer. The source tells a script in which it is honest, and behind it frames that tell orders, as many as a run may
--- take, and nothing else. The store tells its bytes, is the peer's own, and has room before each order.
+-- The words name a peer. The source tells a script in which it is honest, and behind it frames that tell orders, as
+-- many as a run may take, and nothing else. The store tells its bytes, is the peer's own, and has room before each
+-- order.
 pub record HasWork (verdict : Verdicts) (told : Told) (words : List (List ℕ)) (left : Option (List ℕ)) : Type 0 where
   pub id : ℕ
   pub path : List ℕ
@@ -50,7 +54,8 @@ pub record HasWork (verdict : Verdicts) (told : Told) (words : List (List ℕ)) 
   pub tell : Tell script.plan p.id behind orders []
   pub tells : told.tells
   pub own : IsOwn (station_of script.plan p) (deposits script.plan.aus p.copies) told.content
-  pub room : (begun : Progress) → BeginsWith (deposits script.plan.aus p.copies) told.content begun.batches → begun.tick ≡ latest (journal_of begun) → begun.heard ≡ []
+  pub room : (begun : Progress) → BeginsWith (deposits script.plan.aus p.copies) told.content begun.batches
+      → begun.tick ≡ latest_tick (journal_of begun) → begun.heard ≡ []
       → HadRoom verdict (station_of script.plan p) begun orders
 
 -- the answers to such work while no fault is counted

@@ -1,5 +1,6 @@
 -- Frames: bytes behind their length, a number of four bytes.
-use Rattle.std.specs.Prelude.{◌≡◌, ◌≤◌, ℕ, ◌++◌, ◌&&◌, nat_le, if◌then◌else◌, List, [], ◌∷◌, length, take, drop, Option, Some}
+use Rattle.std.specs.Prelude.{◌≡◌, ◌≤◌, ℕ, ◌++◌, ◌&&◌, nat_le, if◌then◌else◌, List, [], ◌∷◌, length, take, drop}
+use Rattle.std.specs.Prelude.{Option, Some}
 use Rattle.std.specs.Int.{from_be_bytes, w32}
 use Rattle.lks_node.specs.declared.frames.Frame.{Frame}
 use Rattle.lks_node.specs.declared.frames.Frame.TheVariants as frame
@@ -12,7 +13,8 @@ pub data Framed : Type 0 where
 
 -- a body of this size, if it may have so many bytes and all are there
 abbrev pub sized : ℕ → ℕ → List ℕ → Framed
-sized most size rest = if nat_le size most && nat_le size (length rest) then Whole (take size rest) (drop size rest) else Broken
+sized most size rest =
+    if nat_le size most && nat_le size (length rest) then Whole (take size rest) (drop size rest) else Broken
 
 abbrev pub behind : ℕ → List ℕ → List ℕ → Framed
 behind most [] rest = Ended
@@ -31,4 +33,5 @@ IsFound f after (frame.Whole body) = (rest : List ℕ) × (f ≡ Whole body.item
 
 -- a read took so many of the bytes that were left, and none exactly at the end
 abbrev pub Took : List ℕ → List ℕ → List ℕ → Option (List ℕ) → ℕ → Type 0
-Took bytes old new after n = (new ≡ old ++ take n bytes) × (n ≤ length bytes) × (after ≡ Some (drop n bytes)) × (n ≡ 0 → bytes ≡ [])
+Took bytes old new after n =
+    (new ≡ old ++ take n bytes) × (n ≤ length bytes) × (after ≡ Some (drop n bytes)) × (n ≡ 0 → bytes ≡ [])

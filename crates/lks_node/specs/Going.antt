@@ -3,16 +3,16 @@ use Rattle.std.specs.Prelude.{ℕ, ◌+◌, ◌-◌, ◌^◌, min, Option, Some,
 use Rattle.std.specs.Option.{option_to_list}
 use Rattle.lks_base.specs.declared.reactions.Reaction.{Reaction}
 use Rattle.lks_base.specs.declared.records.Record.{Record}
-use Rattle.lks_effort.specs.declared.questions.Question.{Question}
+use Rattle.lks_outside.specs.declared.questions.Question.{Question}
 use Rattle.lks_inbox.specs.Received.{sent, asked_by, judged_by}
 use Rattle.lks_law.specs.Batches.{together, with_batch}
 use Rattle.lks_law.specs.Facts.{IsHeard}
 use Rattle.lks_law.specs.Polls.{Station}
 use Rattle.lks_law.specs.Questions.{Verdicts}
-use Rattle.lks_law.specs.Reaction.{nothing}
+use Rattle.lks_law.specs.Reaction.{no_effect}
 use Rattle.lks_law.specs.State.{State}
 use Rattle.lks_law.specs.Table.{react_on, reaction}
-use Rattle.lks_law.specs.World.{Deed, delivered}
+use Rattle.lks_law.specs.World.{Deed, delivers}
 use Rattle.lks_node.specs.Replies.{reply}
 use Rattle.lks_node.specs.declared.orders.Order.{Order}
 use Rattle.lks_node.specs.declared.orders.Order.TheVariants.{Hear, Do, Pass}
@@ -28,7 +28,8 @@ journal_of p = together p.batches
 
 -- what an order makes the peer of this number do, while its judge has heard these
 abbrev pub deed_by : Verdicts → ℕ → List Question → Order → Option Deed
-deed_by verdict id heard (Hear from bytes) = delivered (Some (sent from id bytes)) (judged_by verdict heard (sent from id bytes))
+deed_by verdict id heard (Hear from bytes) =
+    delivers (Some (sent from id bytes)) (judged_by verdict heard (sent from id bytes))
 deed_by verdict id heard (Do i) = Some (record { peer = id; input = i })
 deed_by verdict id heard (Pass ticks) = None
 
@@ -46,12 +47,12 @@ tick_after tick (Pass ticks) = min (tick + ticks) (2 ^ 32 - 1)
 
 -- what a deed makes a peer in this state add and send
 abbrev pub reacts : Station → State → ℕ → Option Deed → Reaction
-reacts own s tick None = nothing
+reacts own s tick None = no_effect
 reacts own s tick (Some d) = react_on own s tick d.input
 
 -- what the rules say of it over this journal
 abbrev pub reaction_to : Station → List Record → ℕ → Option Deed → Reaction
-reaction_to own journal tick None = nothing
+reaction_to own journal tick None = no_effect
 reaction_to own journal tick (Some d) = reaction own journal tick d.input
 
 -- what the order makes the peer add and send
@@ -59,7 +60,12 @@ abbrev pub does : Verdicts → Station → Progress → Order → Reaction
 does verdict own p o = reaction_to own (journal_of p) p.tick (deed_by verdict own.id p.heard o)
 
 abbrev pub after : Verdicts → Station → Progress → Order → Progress
-after verdict own p o = record { batches = with_batch p.batches (does verdict own p o).records; tick = tick_after p.tick o; heard = p.heard ++ asked_for own.id o }
+after verdict own p o =
+    record {
+      batches = with_batch p.batches (does verdict own p o).records;
+      tick = tick_after p.tick o;
+      heard = p.heard ++ asked_for own.id o;
+    }
 
 -- after these orders, one after another
 unfoldable pub after_all : Verdicts → Station → Progress → List Order → Progress

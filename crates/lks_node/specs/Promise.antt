@@ -4,7 +4,7 @@ use Rattle.lks_base.specs.declared.plans.PeerPlan.{PeerPlan}
 use Rattle.lks_base.specs.declared.plans.Plan.{Plan}
 use Rattle.lks_disk.specs.Counts.{Rose}
 use Rattle.lks_disk.specs.Face.{Face}
-use Rattle.lks_effort.specs.declared.questions.Question.{Question}
+use Rattle.lks_outside.specs.declared.questions.Question.{Question}
 use Rattle.lks_law.specs.Questions.{Verdicts}
 use Rattle.lks_law.specs.World.{deposits, honest_peer, station_of}
 use Rattle.lks_node.specs.Being.{HasStopped}
@@ -34,17 +34,23 @@ pub record IsScripted (left now : Option (List ℕ)) (plan : Plan) : Type 0 wher
   pub script : Script
   pub says : script_of body ≡ Ok script
   pub plan_is : script.plan ≡ plan
-  pub first : (bytes : List ℕ) → left ≡ Some bytes → (rest : List ℕ) × (framed MOST_SCRIPT bytes ≡ Whole body rest) × (now ≡ Some rest)
+  pub first : (bytes : List ℕ) → left ≡ Some bytes
+      → (rest : List ℕ) × (framed MOST_SCRIPT bytes ≡ Whole body rest) × (now ≡ Some rest)
 
 -- there is no first frame, or it is no script
 abbrev pub IsUnscripted : Option (List ℕ) → Unscripted → Type 0
 IsUnscripted left (Unread e) = Unit {0}
-IsUnscripted left Unframed = (bytes : List ℕ) → left ≡ Some bytes → (framed MOST_SCRIPT bytes ≡ Ended) ⊎ (framed MOST_SCRIPT bytes ≡ Broken)
-IsUnscripted left (Unsaid (script.BadLine line)) = (body : List ℕ) × (script_of body ≡ Err line) × ((bytes : List ℕ) → left ≡ Some bytes → (rest : List ℕ) × (framed MOST_SCRIPT bytes ≡ Whole body rest))
+IsUnscripted left Unframed =
+    (bytes : List ℕ) → left ≡ Some bytes → (framed MOST_SCRIPT bytes ≡ Ended) ⊎ (framed MOST_SCRIPT bytes ≡ Broken)
+IsUnscripted left (Unsaid (script.BadLine line)) =
+    (body : List ℕ) × (script_of body ≡ Err line)
+    × ((bytes : List ℕ) → left ≡ Some bytes → (rest : List ℕ) × (framed MOST_SCRIPT bytes ≡ Whole body rest))
 IsUnscripted left (Unsaid script.Memory) = Unit {0}
 
-module _ {D : Type 0} (f : Face D) (verdict : Verdicts) (plan : Plan) (p : PeerPlan) (left before now : Option (List ℕ)) (asked : List Question) (store store_now : D) where
-  -- the peer's journal was made or taken over, and it answered frames as `Ends` says; the store is handed back as it left it
+module _ {D : Type 0} (f : Face D) (verdict : Verdicts) (plan : Plan) (p : PeerPlan)
+    (left before now : Option (List ℕ)) (asked : List Question) (store store_now : D) where
+  -- the peer's journal was made or taken over, and it answered frames as `Ends` says; the store is handed back as it
+  -- left it
   pub record Answers (stop : Stop) : Type 0 where
     pub node : Node D
     pub begun : IsBegun f plan p store node
@@ -58,10 +64,12 @@ module _ {D : Type 0} (f : Face D) (verdict : Verdicts) (plan : Plan) (p : PeerP
   Serves (end.Unopened stop) = ⊥
   Serves (end.Unscripted none) = ⊥
   Serves end.Strange = ⊥
-  Serves (end.Unready why) = IsUnready f (station_of plan p) (deposits plan.aus p.copies) store store_now why × (now ≡ before)
+  Serves (end.Unready why) =
+      IsUnready f (station_of plan p) (deposits plan.aus p.copies) store store_now why × (now ≡ before)
   Serves (end.Answered stop) = Answers stop
 
-module _ {D : Type 0} (f : Face D) (verdict : Verdicts) (id : ℕ) (left before now : Option (List ℕ)) (asked : List Question) (store store_now : D) where
+module _ {D : Type 0} (f : Face D) (verdict : Verdicts) (id : ℕ) (left before now : Option (List ℕ))
+    (asked : List Question) (store store_now : D) where
   -- the first frame is a script with this honest peer, and it came so far
   pub record HasPeer (e : End) : Type 0 where
     pub plan : Plan
@@ -91,7 +99,8 @@ module _ {D : Type 0} (f : Face D) (verdict : Verdicts) (id : ℕ) (left before 
 abbrev pub HasEnded : ℕ → ℕ → ℕ → ℕ → ℕ → ℕ → End → Type 0
 HasEnded source source_now store store_now sink sink_now end.Unnamed = Unit {0}
 HasEnded source source_now store store_now sink sink_now (end.Unopened stop) = Unit {0}
-HasEnded source source_now store store_now sink sink_now (end.Unscripted (Unread reading.Failed)) = Rose source source_now
+HasEnded source source_now store store_now sink sink_now (end.Unscripted (Unread reading.Failed)) =
+    Rose source source_now
 HasEnded source source_now store store_now sink sink_now (end.Unscripted (Unread reading.Memory)) = Unit {0}
 HasEnded source source_now store store_now sink sink_now (end.Unscripted Unframed) = Unit {0}
 HasEnded source source_now store store_now sink sink_now (end.Unscripted (Unsaid fault)) = Unit {0}
@@ -101,7 +110,8 @@ HasEnded source source_now store store_now sink sink_now (end.Unready unready.Me
 HasEnded source source_now store store_now sink sink_now (end.Unready (unready.Damaged offset)) = Unit {0}
 HasEnded source source_now store store_now sink sink_now (end.Unready unready.Full) = Unit {0}
 HasEnded source source_now store store_now sink sink_now (end.Unready (unready.Foreign batch)) = Unit {0}
-HasEnded source source_now store store_now sink sink_now (end.Answered stop) = HasStopped source source_now store store_now sink sink_now stop
+HasEnded source source_now store store_now sink sink_now (end.Answered stop) =
+    HasStopped source source_now store store_now sink sink_now stop
 
 -- what the opener told of the store that it was to give, and how often that had failed
 pub record Told : Type 1 where
@@ -109,7 +119,8 @@ pub record Told : Type 1 where
   pub content : List ℕ
   pub faults : ℕ
 
-module _ {D : Type 0} (f : Face D) (verdict : Verdicts) (told : Told) (words : List (List ℕ)) (left before now : Option (List ℕ)) (asked : List Question) where
+module _ {D : Type 0} (f : Face D) (verdict : Verdicts) (told : Told) (words : List (List ℕ))
+    (left before now : Option (List ℕ)) (asked : List Question) where
   -- the words name a peer, and the store at this path was opened
   pub record Opens (store_now : D) (e : End) : Type 0 where
     pub id : ℕ

@@ -13,7 +13,8 @@ use Rattle.lks_node.specs.declared.orders.Order.{Order}
 
 -- the bytes begin with a frame that tells this
 abbrev pub Begins : Plan → ℕ → List ℕ → Order → List ℕ → Type 0
-Begins plan id bytes o more = (body : List ℕ) × (framed MOST_BODY bytes ≡ Whole body more) × (order_in plan id body ≡ Some o)
+Begins plan id bytes o more =
+    (body : List ℕ) × (framed MOST_BODY bytes ≡ Whole body more) × (order_in plan id body ≡ Some o)
 
 -- they begin with frames that tell these, one after another
 abbrev pub Tell : Plan → ℕ → List ℕ → List Order → List ℕ → Type 0
@@ -22,7 +23,9 @@ Tell plan id bytes (o ∷ os) more = (behind : List ℕ) × Begins plan id bytes
 
 -- they begin with what is no frame, or with one that tells nothing
 abbrev pub IsBad : Plan → ℕ → List ℕ → Type 0
-IsBad plan id bytes = (framed MOST_BODY bytes ≡ Broken) ⊎ ((body more : List ℕ) × (framed MOST_BODY bytes ≡ Whole body more) × (order_in plan id body ≡ None))
+IsBad plan id bytes =
+    (framed MOST_BODY bytes ≡ Broken) ⊎
+    ((body more : List ℕ) × (framed MOST_BODY bytes ≡ Whole body more) × (order_in plan id body ≡ None))
 
 -- the next order is there, and this is so of it
 abbrev pub ForNext : Option Order → (Order → Type 0) → Type 0

@@ -17,8 +17,7 @@ use crate::orders::{Order, read_order};
 use lks_base::{MOST_EVENTS, PeerId, Plan};
 use lks_blocks::BlockPool;
 use lks_disk::Disk;
-use lks_effort::EffortJudge;
-use lks_outside::{Sink, Source};
+use lks_outside::{EffortJudge, Sink, Source};
 use std::alloc::Global;
 use std::sync::Wait;
 
@@ -36,7 +35,8 @@ fn next_order<S: Source>(
     index: u32,
     source: &mut S,
 ) -> Result<Option<Order>, Rest>
-    ensures found { (bytes : List ℕ) → S.left source.old ≡ Some bytes → IsFoundNext plan.now id index bytes (S.left source.new) result }
+    ensures found { (bytes : List ℕ) → S.left source.old ≡ Some bytes
+        → IsFoundNext plan.now id index bytes (S.left source.new) result }
     ensures taken { IfOk result (λ o. IfSome o IsTaken) }
     ensures failed { result ≡ Err (Rest.Unread Unread.Failed) → Rose (S.faults source.old) (S.faults source.new) }
     ensures rested { IfErr result (λ rest. rest ≡ Rest.Full → ⊥) }
@@ -84,20 +84,29 @@ fn turn<R: Wait, S: Source, K: Sink, D: Disk, J: EffortJudge>(
     judge: &mut J,
 ) -> Result<(), Stop>
     requires fit { IsFit D.face pool.now node.old }
-    requires at { (aus : List PlannedAu) × (copies : List Held) × (p : Progress) × IsAt D.face aus copies p node.old (J.heard judge.old) }
+    requires at { (aus : List PlannedAu) × (copies : List Held) × (p : Progress)
+        × IsAt D.face aus copies p node.old (J.heard judge.old) }
     requires place { place < MOST_EVENTS }
     requires room { length (J.heard judge.old) ≤ place }
-    ensures turns { (aus : List PlannedAu) (copies : List Held) (p : Progress) → IsAt D.face aus copies p node.old (J.heard judge.old) →
-        OnOk result (Turns D.face (J.verdict judge.old) plan.now node.old.host.peer.own aus copies p (S.left source.old) (S.left source.new) (K.taken sink.old) (K.taken sink.new) node.new (J.heard judge.new)) }
-    ensures halts { (aus : List PlannedAu) (copies : List Held) (p : Progress) → IsAt D.face aus copies p node.old (J.heard judge.old) →
-        IfErr result (Halts D.face (J.verdict judge.old) plan.now node.old.host.peer.own aus copies place p (S.left source.old) (K.taken sink.old) (K.taken sink.new) node.new (J.heard judge.new)) }
+    ensures turns { (aus : List PlannedAu) (copies : List Held) (p : Progress)
+        → IsAt D.face aus copies p node.old (J.heard judge.old) →
+        OnOk result
+        (Turns D.face (J.verdict judge.old) plan.now node.old.host.peer.own aus copies p (S.left source.old)
+        (S.left source.new) (K.taken sink.old) (K.taken sink.new) node.new (J.heard judge.new)) }
+    ensures halts { (aus : List PlannedAu) (copies : List Held) (p : Progress)
+        → IsAt D.face aus copies p node.old (J.heard judge.old) →
+        IfErr result
+        (Halts D.face (J.verdict judge.old) plan.now node.old.host.peer.own aus copies place p
+        (S.left source.old) (K.taken sink.old) (K.taken sink.new) node.new (J.heard judge.new)) }
     ensures whole { OnOk result (node.new.host.broken ≡ false) }
     ensures stays { Stays D.face node.old node.new }
     ensures faults { OnOk result (D.face.faults node.new.host.journal.disk ≡ D.face.faults node.old.host.journal.disk) }
     ensures count { D.face.faults node.old.host.journal.disk ≤ D.face.faults node.new.host.journal.disk }
     ensures source_count { S.faults source.old ≤ S.faults source.new }
     ensures sink_count { K.faults sink.old ≤ K.faults sink.new }
-    ensures cause { IfErr result (HasStopped (S.faults source.old) (S.faults source.new) (D.face.faults node.old.host.journal.disk) (D.face.faults node.new.host.journal.disk) (K.faults sink.old) (K.faults sink.new)) }
+    ensures cause { IfErr result
+        (HasStopped (S.faults source.old) (S.faults source.new) (D.face.faults node.old.host.journal.disk)
+        (D.face.faults node.new.host.journal.disk) (K.faults sink.old) (K.faults sink.new)) }
     ensures same { J.verdict judge.new ≡ J.verdict judge.old }
 {
     let order = match next_order(alloc, plan, node.host.id(), place + 1, source) {
@@ -123,15 +132,20 @@ pub fn answer_all<R: Wait, S: Source, K: Sink, D: Disk, J: EffortJudge>(
     judge: &mut J,
 ) -> Stop
     requires fit { IsFit D.face pool.now node.old }
-    requires at { (aus : List PlannedAu) × (copies : List Held) × (p : Progress) × IsAt D.face aus copies p node.old (J.heard judge.old) }
+    requires at { (aus : List PlannedAu) × (copies : List Held) × (p : Progress)
+        × IsAt D.face aus copies p node.old (J.heard judge.old) }
     requires unasked { J.heard judge.old ≡ [] }
-    ensures ends { (aus : List PlannedAu) (copies : List Held) (p : Progress) → IsAt D.face aus copies p node.old (J.heard judge.old) →
-        Ends D.face (J.verdict judge.old) plan.now node.old.host.peer.own aus copies p (S.left source.old) (K.taken sink.old) (K.taken sink.new) node.new (J.heard judge.new) result }
+    ensures ends { (aus : List PlannedAu) (copies : List Held) (p : Progress)
+        → IsAt D.face aus copies p node.old (J.heard judge.old) →
+        Ends D.face (J.verdict judge.old) plan.now node.old.host.peer.own aus copies p (S.left source.old)
+        (K.taken sink.old) (K.taken sink.new) node.new (J.heard judge.new) result }
     ensures stays { Stays D.face node.old node.new }
     ensures source_count { S.faults source.old ≤ S.faults source.new }
     ensures count { D.face.faults node.old.host.journal.disk ≤ D.face.faults node.new.host.journal.disk }
     ensures sink_count { K.faults sink.old ≤ K.faults sink.new }
-    ensures cause { HasStopped (S.faults source.old) (S.faults source.new) (D.face.faults node.old.host.journal.disk) (D.face.faults node.new.host.journal.disk) (K.faults sink.old) (K.faults sink.new) result }
+    ensures cause { HasStopped (S.faults source.old) (S.faults source.new)
+        (D.face.faults node.old.host.journal.disk) (D.face.faults node.new.host.journal.disk) (K.faults sink.old)
+        (K.faults sink.new) result }
     ensures same { J.verdict judge.new ≡ J.verdict judge.old }
 {
     for place in 0..MOST_EVENTS as u32 {

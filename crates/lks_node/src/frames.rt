@@ -98,7 +98,8 @@ fn read_body<S: Source>(
     size: u32,
     most: u32,
 ) -> Result<Frame, Unread>
-    ensures found { (rest : List ℕ) → S.left source.old ≡ Some rest → IfOk result (IsFound (sized most size rest) (S.left source.new)) }
+    ensures found { (rest : List ℕ) → S.left source.old ≡ Some rest
+        → IfOk result (IsFound (sized most size rest) (S.left source.new)) }
     ensures failed { IsErrOf result Unread.Failed → Rose (S.faults source.old) (S.faults source.new) }
     ensures count { S.faults source.old ≤ S.faults source.new }
 {
@@ -119,7 +120,8 @@ fn read_behind<S: Source>(
     head: &[u8],
     most: u32,
 ) -> Result<Frame, Unread>
-    ensures found { (rest : List ℕ) → S.left source.old ≡ Some rest → IfOk result (IsFound (behind most head.now rest) (S.left source.new)) }
+    ensures found { (rest : List ℕ) → S.left source.old ≡ Some rest
+        → IfOk result (IsFound (behind most head.now rest) (S.left source.new)) }
     ensures failed { IsErrOf result Unread.Failed → Rose (S.faults source.old) (S.faults source.new) }
     ensures count { S.faults source.old ≤ S.faults source.new }
 {
@@ -136,7 +138,8 @@ fn read_behind<S: Source>(
 /// What stands next, if it is a frame with a body of at most so many bytes.
 #[tactic(auto, unfolding(crate::specs::Framing::framed))]
 pub fn read_frame<S: Source>(alloc: Global, source: &mut S, most: u32) -> Result<Frame, Unread>
-    ensures found { (bytes : List ℕ) → S.left source.old ≡ Some bytes → IfOk result (IsFound (framed most bytes) (S.left source.new)) }
+    ensures found { (bytes : List ℕ) → S.left source.old ≡ Some bytes
+        → IfOk result (IsFound (framed most bytes) (S.left source.new)) }
     ensures failed { IsErrOf result Unread.Failed → Rose (S.faults source.old) (S.faults source.new) }
     ensures count { S.faults source.old ≤ S.faults source.new }
 {

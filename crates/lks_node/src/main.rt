@@ -16,8 +16,7 @@ mod tests;
 mod words;
 
 pub use laws::{every_node_goes_on, every_start_is_where_it_stopped};
-use lks_effort::FirstByteJudge;
-use lks_outside::{StdSink, StdSource};
+use lks_outside::{FirstByteJudge, StdSink, StdSource};
 use lks_store::FileOpener;
 pub use runs::node;
 pub use statuses::NodeStatus;

@@ -1,6 +1,7 @@
 //! A peer with its journal and its clock.
 
-ghost use Rattle.std.specs.Prelude.{◌≡◌, ◌<◌, ◌≤◌, ◌++◌, false, true, Some, ℕ, List, IfSome, IfOk, IfErr, OnOk, OnErr, IsErrOf, length};
+ghost use Rattle.std.specs.Prelude.{◌≡◌, ◌<◌, ◌≤◌, ◌++◌, false, true, Some, ℕ, List, IfSome, IfOk, IfErr, OnOk, OnErr};
+ghost use Rattle.std.specs.Prelude.{IsErrOf, length};
 ghost use Rattle.lks_base.specs.declared.plans.AuPlan.{AuPlan as PlannedAu};
 ghost use Rattle.lks_base.specs.declared.plans.Holding.{Holding as Held};
 ghost use Rattle.lks_base.specs.declared.limits.TheConstants.{MOST_EVENTS};
@@ -8,7 +9,7 @@ ghost use Rattle.lks_host.specs.Faults.{breaks};
 ghost use Rattle.lks_host.specs.declared.faults.HostFault.TheVariants as hosted;
 ghost use Rattle.lks_inbox.specs.Received.{deed_by as deed_to};
 ghost use Rattle.lks_law.specs.Facts.{IsHeard};
-ghost use Rattle.lks_law.specs.Reaction.{nothing};
+ghost use Rattle.lks_law.specs.Reaction.{no_effect};
 ghost use Rattle.lks_law.specs.Table.{react_on};
 ghost use Rattle.lks_node.specs.Going.{Progress, after, asked_for, deed_by, does, reacts, tick_after, IsDone, IsTaken};
 ghost use Rattle.lks_node.specs.Replies.{reply};
@@ -22,10 +23,9 @@ use crate::replies::reply_to;
 use lks_base::{Input, PeerId, Reaction, Seq};
 use lks_blocks::BlockPool;
 use lks_disk::Disk;
-use lks_effort::EffortJudge;
 use lks_host::{Host, HostFault};
 use lks_inbox::receive;
-use lks_outside::{Sink, WriteStop, write_all};
+use lks_outside::{EffortJudge, Sink, WriteStop, write_all};
 use std::alloc::Global;
 use std::sync::Wait;
 
@@ -51,7 +51,7 @@ pub fn fall(fault: HostFault) -> Fall
 
 /// What a peer adds and sends that does nothing.
 fn idle(alloc: Global) -> Reaction
-    ensures { result ≡ nothing }
+    ensures { result ≡ no_effect }
 {
     Reaction {
         records: Seq::from_vec(Vec::new(alloc)),
@@ -68,7 +68,8 @@ impl<D: Disk> Node<D> {
         requires can { CanStep D.face pool.now self.old.host }
         requires unfused { D.face.fused self.old.host.journal.disk ≡ false }
         requires heard { IsHeard input.now }
-        ensures acted { Acted D.face self.old self.new (react_on self.old.host.peer.own self.old.host.peer.state self.old.tick input.now) result }
+        ensures acted { Acted D.face self.old self.new
+            (react_on self.old.host.peer.own self.old.host.peer.state self.old.tick input.now) result }
         ensures tick { self.new.tick ≡ self.old.tick }
     {
         match self.host.step(rt, pool, self.tick, input) {
@@ -88,7 +89,9 @@ impl<D: Disk> Node<D> {
         requires can { CanStep D.face pool.now self.old.host }
         requires unfused { D.face.fused self.old.host.journal.disk ≡ false }
         requires heard { IfSome input IsHeard }
-        ensures acted { (to : ℕ) → Acted D.face self.old self.new (reacts self.old.host.peer.own self.old.host.peer.state self.old.tick (deed_to to input)) result }
+        ensures acted { (to : ℕ)
+            → Acted D.face self.old self.new
+            (reacts self.old.host.peer.own self.old.host.peer.state self.old.tick (deed_to to input)) result }
         ensures done { (to : ℕ) → IsDone (deed_to to input) }
         ensures tick { self.new.tick ≡ self.old.tick }
     {
@@ -111,10 +114,18 @@ impl<D: Disk> Node<D> {
         requires can { CanStep D.face pool.now self.old.host }
         requires unfused { D.face.fused self.old.host.journal.disk ≡ false }
         requires room { length (J.heard judge.old) < MOST_EVENTS }
-        ensures acted { Acted D.face self.old self.new (reacts self.old.host.peer.own self.old.host.peer.state self.old.tick (deed_by (J.verdict judge.old) self.old.host.peer.own.id (J.heard judge.old) (Order.Hear from bytes.now))) result }
+        ensures acted { Acted D.face self.old self.new
+            (reacts self.old.host.peer.own self.old.host.peer.state self.old.tick
+            (deed_by (J.verdict judge.old) self.old.host.peer.own.id (J.heard judge.old)
+            (Order.Hear from bytes.now))) result }
         ensures tick { self.new.tick ≡ self.old.tick }
-        ensures done { OnOk result (IsDone (deed_by (J.verdict judge.old) self.old.host.peer.own.id (J.heard judge.old) (Order.Hear from bytes.now))) }
-        ensures asks { OnOk result (J.heard judge.new ≡ J.heard judge.old ++ asked_for self.old.host.peer.own.id (Order.Hear from bytes.now)) }
+        ensures done { OnOk result
+            (IsDone
+            (deed_by (J.verdict judge.old) self.old.host.peer.own.id (J.heard judge.old)
+            (Order.Hear from bytes.now))) }
+        ensures asks { OnOk result
+            (J.heard judge.new
+            ≡ J.heard judge.old ++ asked_for self.old.host.peer.own.id (Order.Hear from bytes.now)) }
         ensures same { J.verdict judge.new ≡ J.verdict judge.old }
     {
         match receive(alloc, from, self.host.id(), bytes, judge) {
@@ -136,10 +147,14 @@ impl<D: Disk> Node<D> {
         requires unfused { D.face.fused self.old.host.journal.disk ≡ false }
         requires room { length (J.heard judge.old) < MOST_EVENTS }
         requires heard { IsTaken order.now }
-        ensures acted { Acted D.face self.old self.new (reacts self.old.host.peer.own self.old.host.peer.state self.old.tick (deed_by (J.verdict judge.old) self.old.host.peer.own.id (J.heard judge.old) order.now)) result }
+        ensures acted { Acted D.face self.old self.new
+            (reacts self.old.host.peer.own self.old.host.peer.state self.old.tick
+            (deed_by (J.verdict judge.old) self.old.host.peer.own.id (J.heard judge.old) order.now)) result }
         ensures tick { self.new.tick ≡ tick_after self.old.tick order.now }
-        ensures done { OnOk result (IsDone (deed_by (J.verdict judge.old) self.old.host.peer.own.id (J.heard judge.old) order.now)) }
-        ensures asks { OnOk result (J.heard judge.new ≡ J.heard judge.old ++ asked_for self.old.host.peer.own.id order.now) }
+        ensures done { OnOk result
+            (IsDone (deed_by (J.verdict judge.old) self.old.host.peer.own.id (J.heard judge.old) order.now)) }
+        ensures asks { OnOk result
+            (J.heard judge.new ≡ J.heard judge.old ++ asked_for self.old.host.peer.own.id order.now) }
         ensures same { J.verdict judge.new ≡ J.verdict judge.old }
     {
         match order {
@@ -172,14 +187,19 @@ impl<D: Disk> Node<D> {
         requires unfused { D.face.fused self.old.host.journal.disk ≡ false }
         requires room { length (J.heard judge.old) < MOST_EVENTS }
         requires heard { IsTaken order.now }
-        ensures goes { (aus : List PlannedAu) (copies : List Held) (p : Progress) → IsAt D.face aus copies p self.old (J.heard judge.old) →
+        ensures goes { (aus : List PlannedAu) (copies : List Held) (p : Progress)
+            → IsAt D.face aus copies p self.old (J.heard judge.old) →
             IfOk result (λ r. (r ≡ does (J.verdict judge.old) self.old.host.peer.own p order.now)
-            × IsAt D.face aus copies (after (J.verdict judge.old) self.old.host.peer.own p order.now) self.new (J.heard judge.new)) }
-        ensures falls { (aus : List PlannedAu) (copies : List Held) (p : Progress) → IsAt D.face aus copies p self.old (J.heard judge.old) →
-            OnErr result (FallsFrom D.face p (after (J.verdict judge.old) self.old.host.peer.own p order.now) self.new) }
+            × IsAt D.face aus copies (after (J.verdict judge.old) self.old.host.peer.own p order.now) self.new
+            (J.heard judge.new)) }
+        ensures falls { (aus : List PlannedAu) (copies : List Held) (p : Progress)
+            → IsAt D.face aus copies p self.old (J.heard judge.old) →
+            OnErr result
+            (FallsFrom D.face p (after (J.verdict judge.old) self.old.host.peer.own p order.now) self.new) }
         ensures whole { OnOk result (self.new.host.broken ≡ false) }
         ensures stays { Stays D.face self.old self.new }
-        ensures cause { HasCause (D.face.faults self.old.host.journal.disk) (D.face.faults self.new.host.journal.disk) result }
+        ensures cause { HasCause (D.face.faults self.old.host.journal.disk)
+            (D.face.faults self.new.host.journal.disk) result }
         ensures same { J.verdict judge.new ≡ J.verdict judge.old }
     {
         let _tick = self.tick;
@@ -200,16 +220,30 @@ impl<D: Disk> Node<D> {
         requires unfused { D.face.fused self.old.host.journal.disk ≡ false }
         requires room { length (J.heard judge.old) < MOST_EVENTS }
         requires heard { IsTaken order.now }
-        ensures goes { (aus : List PlannedAu) (copies : List Held) (p : Progress) → IsAt D.face aus copies p self.old (J.heard judge.old) →
-            OnOk result (IsAt D.face aus copies (after (J.verdict judge.old) self.old.host.peer.own p order.now) self.new (J.heard judge.new)) }
-        ensures replies { (aus : List PlannedAu) (copies : List Held) (p : Progress) → IsAt D.face aus copies p self.old (J.heard judge.old) → (bytes : List ℕ) → K.taken sink.old ≡ Some bytes →
-            OnOk result (K.taken sink.new ≡ Some (bytes ++ reply (does (J.verdict judge.old) self.old.host.peer.own p order.now))) }
-        ensures stops { (aus : List PlannedAu) (copies : List Held) (p : Progress) → IsAt D.face aus copies p self.old (J.heard judge.old) →
-            IfErr result (StopsIn D.face aus copies p (after (J.verdict judge.old) self.old.host.peer.own p order.now) (reply (does (J.verdict judge.old) self.old.host.peer.own p order.now)) self.new (J.heard judge.new) (K.taken sink.old) (K.taken sink.new)) }
-        ensures cause { IfErr result (IsCausedBy (D.face.faults self.old.host.journal.disk) (D.face.faults self.new.host.journal.disk) (K.faults sink.old) (K.faults sink.new)) }
+        ensures goes { (aus : List PlannedAu) (copies : List Held) (p : Progress)
+            → IsAt D.face aus copies p self.old (J.heard judge.old) →
+            OnOk result
+            (IsAt D.face aus copies (after (J.verdict judge.old) self.old.host.peer.own p order.now) self.new
+            (J.heard judge.new)) }
+        ensures replies { (aus : List PlannedAu) (copies : List Held) (p : Progress)
+            → IsAt D.face aus copies p self.old (J.heard judge.old) → (bytes : List ℕ)
+            → K.taken sink.old ≡ Some bytes →
+            OnOk result
+            (K.taken sink.new
+            ≡ Some (bytes ++ reply (does (J.verdict judge.old) self.old.host.peer.own p order.now))) }
+        ensures stops { (aus : List PlannedAu) (copies : List Held) (p : Progress)
+            → IsAt D.face aus copies p self.old (J.heard judge.old) →
+            IfErr result
+            (StopsIn D.face aus copies p (after (J.verdict judge.old) self.old.host.peer.own p order.now)
+            (reply (does (J.verdict judge.old) self.old.host.peer.own p order.now)) self.new
+            (J.heard judge.new) (K.taken sink.old) (K.taken sink.new)) }
+        ensures cause { IfErr result
+            (IsCausedBy (D.face.faults self.old.host.journal.disk) (D.face.faults self.new.host.journal.disk)
+            (K.faults sink.old) (K.faults sink.new)) }
         ensures whole { OnOk result (self.new.host.broken ≡ false) }
         ensures stays { Stays D.face self.old self.new }
-        ensures faults { OnOk result (D.face.faults self.new.host.journal.disk ≡ D.face.faults self.old.host.journal.disk) }
+        ensures faults { OnOk result
+            (D.face.faults self.new.host.journal.disk ≡ D.face.faults self.old.host.journal.disk) }
         ensures count { D.face.faults self.old.host.journal.disk ≤ D.face.faults self.new.host.journal.disk }
         ensures sink_count { K.faults sink.old ≤ K.faults sink.new }
         ensures same { J.verdict judge.new ≡ J.verdict judge.old }
@@ -222,8 +256,10 @@ impl<D: Disk> Node<D> {
 
 /// Writes the reply.
 fn tell<K: Sink>(alloc: Global, sink: &mut K, reaction: &Reaction) -> Result<(), WriteStop>
-    ensures whole { (bytes : List ℕ) → K.taken sink.old ≡ Some bytes → OnOk result (K.taken sink.new ≡ Some (bytes ++ reply reaction.now)) }
-    ensures part { (bytes : List ℕ) → K.taken sink.old ≡ Some bytes → OnErr result (AddsFront bytes (reply reaction.now) (K.taken sink.new)) }
+    ensures whole { (bytes : List ℕ) → K.taken sink.old ≡ Some bytes
+        → OnOk result (K.taken sink.new ≡ Some (bytes ++ reply reaction.now)) }
+    ensures part { (bytes : List ℕ) → K.taken sink.old ≡ Some bytes
+        → OnErr result (AddsFront bytes (reply reaction.now) (K.taken sink.new)) }
     ensures failed { IsErrOf result WriteStop.Failed → Rose (K.faults sink.old) (K.faults sink.new) }
     ensures count { K.faults sink.old ≤ K.faults sink.new }
 {

@@ -1,6 +1,7 @@
 //! A store becomes a journal of the peer's own.
 
-ghost use Rattle.std.specs.Prelude.{◌≡◌, true, ◌≤◌, ◌↔◌, ◌⊎◌, ℕ, List, [], false, length, map, sum_by, None, Some, IfOk, IfErr, IsSome, IsTrue};
+ghost use Rattle.std.specs.Prelude.{◌≡◌, true, ◌≤◌, ◌↔◌, ◌⊎◌, ℕ, List, [], false, length, map, sum_by, None, Some};
+ghost use Rattle.std.specs.Prelude.{IfOk, IfErr, IsSome, IsTrue};
 ghost use Rattle.lks_base.specs.Checking.{plan_fault};
 ghost use Rattle.lks_base.specs.declared.plans.PeerPlan.{PeerPlan as Planned};
 ghost use Rattle.lks_base.specs.declared.records.Record.{Record as Recorded};
@@ -15,21 +16,21 @@ ghost use Rattle.lks_journal.specs.declared.faults.JournalFault.TheVariants as j
 ghost use Rattle.lks_journal.specs.Settled.{disk_read};
 ghost use Rattle.lks_journal.specs.Stays.{Stays};
 ghost use Rattle.lks_law.specs.Batches.{alone};
-ghost use Rattle.lks_law.specs.Behind.{tick_in, latest};
+ghost use Rattle.lks_law.specs.Behind.{tick_in, latest_tick};
 ghost use Rattle.lks_law.specs.World.{deposits, honest_peer, station_of};
 ghost use Rattle.lks_node.specs.Being.{IsFit};
-ghost use Rattle.lks_node.specs.Opening.{of_disk, of_journal, store_of, IsBegun, IsCalm, IsPlain, IsSorted, IsUnread, IsUnready, IsUnsorted};
-ghost use Rattle.lks_sort.specs.Owners.{Owns, missing_of};
+ghost use Rattle.lks_node.specs.Opening.{of_disk, of_journal, store_of, IsBegun, IsCalm, IsPlain, IsSorted, IsUnread};
+ghost use Rattle.lks_node.specs.Opening.{IsUnready, IsUnsorted};
+ghost use Rattle.lks_host.specs.Owners.{Owns, missing_of};
 
 use crate::ends::{Fall, Unready};
 use crate::nodes::{Node, fall};
 use lks_base::{Bytes, PeerId, Plan, Record};
 use lks_blocks::BlockPool;
 use lks_disk::{Disk, DiskFail};
-use lks_host::{Host, HostFault};
+use lks_host::{Host, HostFault, PeerSort, sort_with_peer};
 use lks_journal::{Journal, JournalFault};
 use lks_peer::Peer;
-use lks_sort::{PeerSort, sort_with_peer};
 use std::alloc::Global;
 use std::sync::Wait;
 
@@ -115,9 +116,9 @@ fn tick_of(r: &Record) -> Option<u32>
 }
 
 /// The greatest tick of these records, or 0.
-#[tactic(auto, unfolding(lks_law::specs::Behind::latest))]
+#[tactic(auto, unfolding(lks_law::specs::Behind::latest_tick))]
 fn latest(records: &[Record]) -> u32
-    ensures { result ≡ latest records.now }
+    ensures { result ≡ latest_tick records.now }
 {
     let mut found = 0u32;
     for r in records {
@@ -144,7 +145,8 @@ fn begin<R: Wait, D: Disk>(
     ensures begun { (p : Planned) → honest_peer id plan.now ≡ Some p → IfOk result (IsBegun D.face plan.now p store) }
     ensures fit { IfOk result (IsFit D.face pool.now) }
     ensures causes { IfErr result (λ e. IsPlain (D.face.faults store) (D.face.faults e.0) e.1 ×
-        ((p : Planned) → honest_peer id plan.now ≡ Some p → D.face.told store → Only [] (D.face.may_leave store) → HasFront D.face (map alone (deposits plan.now.aus p.copies)) e.0)) }
+        ((p : Planned) → honest_peer id plan.now ≡ Some p → D.face.told store → Only [] (D.face.may_leave store)
+        → HasFront D.face (map alone (deposits plan.now.aus p.copies)) e.0)) }
     ensures calm { IsCalm D.face store (store_of result) }
     ensures ok { IfOk result (λ node. D.face.faults node.host.journal.disk ≡ D.face.faults store) }
 {
@@ -167,12 +169,17 @@ fn adopt<D: Disk>(
     requires honest { IsSome (honest_peer id plan.now) }
     requires unfused { D.face.fused journal.disk ≡ false }
     requires owned { (bodies : List (List ℕ)) × (sum_by length bodies ≤ MOST_BYTES) × IsReadAs D.face journal bodies ×
-        ((p : Planned) → honest_peer id plan.now ≡ Some p → Owns (station_of plan.now p) plan.now.aus p.copies bodies list.now peer) }
-    ensures begun { (p : Planned) → honest_peer id plan.now ≡ Some p → (bodies : List (List ℕ)) → IsReadAs D.face journal bodies → Owns (station_of plan.now p) plan.now.aus p.copies bodies list.now peer →
-        IsSorted (station_of plan.now p) (deposits plan.now.aus p.copies) bodies list.now → IfOk result (IsBegun D.face plan.now p journal.disk) }
+        ((p : Planned) → honest_peer id plan.now ≡ Some p
+        → Owns (station_of plan.now p) plan.now.aus p.copies bodies list.now peer) }
+    ensures begun { (p : Planned) → honest_peer id plan.now ≡ Some p → (bodies : List (List ℕ))
+        → IsReadAs D.face journal bodies → Owns (station_of plan.now p) plan.now.aus p.copies bodies list.now peer
+        →
+        IsSorted (station_of plan.now p) (deposits plan.now.aus p.copies) bodies list.now
+        → IfOk result (IsBegun D.face plan.now p journal.disk) }
     ensures fit { IfOk result (IsFit D.face peer.pool) }
     ensures causes { IfErr result (λ e. IsPlain (D.face.faults journal.disk) (D.face.faults e.0) e.1 ×
-        ((p : Planned) → honest_peer id plan.now ≡ Some p → D.face.told journal.disk → (batches : List (List Recorded)) → IsFiled D.face journal list.now batches →
+        ((p : Planned) → honest_peer id plan.now ≡ Some p → D.face.told journal.disk
+        → (batches : List (List Recorded)) → IsFiled D.face journal list.now batches →
         LeavesFront D.face batches (map alone (missing_of (deposits plan.now.aus p.copies) list.now)) e.0)) }
     ensures calm { IsCalm D.face journal.disk (store_of result) }
     ensures ok { IfOk result (λ node. D.face.faults node.host.journal.disk ≡ D.face.faults journal.disk) }
@@ -199,9 +206,13 @@ fn sort_bodies<R: Wait, D: Disk>(
     requires unfused { D.face.fused journal.disk ≡ false }
     requires few { sum_by length bodies.now ≤ MOST_BYTES }
     requires read { IsReadAs D.face journal bodies.now }
-    ensures begun { (p : Planned) → honest_peer id plan.now ≡ Some p → IfOk result (IsBegun D.face plan.now p journal.disk) }
+    ensures begun { (p : Planned) → honest_peer id plan.now ≡ Some p
+        → IfOk result (IsBegun D.face plan.now p journal.disk) }
     ensures fit { IfOk result (IsFit D.face pool.now) }
-    ensures causes { (p : Planned) → honest_peer id plan.now ≡ Some p → IfErr result (λ e. IsUnsorted D.face (station_of plan.now p) (deposits plan.now.aus p.copies) bodies.now journal.disk e.0 e.1) }
+    ensures causes { (p : Planned) → honest_peer id plan.now ≡ Some p
+        → IfErr result
+        (λ e. IsUnsorted D.face (station_of plan.now p) (deposits plan.now.aus p.copies) bodies.now journal.disk
+        e.0 e.1) }
     ensures calm { IsCalm D.face journal.disk (store_of result) }
     ensures ok { IfOk result (λ node. D.face.faults node.host.journal.disk ≡ D.face.faults journal.disk) }
 {
@@ -249,7 +260,9 @@ fn resume<R: Wait, D: Disk>(
     requires some { D.face.told store → D.face.seen store ≡ [] → ⊥ }
     ensures begun { (p : Planned) → honest_peer id plan.now ≡ Some p → IfOk result (IsBegun D.face plan.now p store) }
     ensures fit { IfOk result (IsFit D.face pool.now) }
-    ensures causes { (p : Planned) → honest_peer id plan.now ≡ Some p → IfErr result (λ e. IsUnready D.face (station_of plan.now p) (deposits plan.now.aus p.copies) store e.0 e.1) }
+    ensures causes { (p : Planned) → honest_peer id plan.now ≡ Some p
+        → IfErr result
+        (λ e. IsUnready D.face (station_of plan.now p) (deposits plan.now.aus p.copies) store e.0 e.1) }
     ensures calm { IsCalm D.face store (store_of result) }
     ensures ok { IfOk result (λ node. D.face.faults node.host.journal.disk ≡ D.face.faults store) }
 {
@@ -274,7 +287,9 @@ pub fn open_journal<R: Wait, D: Disk>(
     requires unfused { D.face.fused store ≡ false }
     ensures begun { (p : Planned) → honest_peer id plan.now ≡ Some p → IfOk result (IsBegun D.face plan.now p store) }
     ensures fit { IfOk result (IsFit D.face pool.now) }
-    ensures causes { (p : Planned) → honest_peer id plan.now ≡ Some p → IfErr result (λ e. IsUnready D.face (station_of plan.now p) (deposits plan.now.aus p.copies) store e.0 e.1) }
+    ensures causes { (p : Planned) → honest_peer id plan.now ≡ Some p
+        → IfErr result
+        (λ e. IsUnready D.face (station_of plan.now p) (deposits plan.now.aus p.copies) store e.0 e.1) }
     ensures calm { IsCalm D.face store (store_of result) }
     ensures ok { IfOk result (λ node. D.face.faults node.host.journal.disk ≡ D.face.faults store) }
 {

@@ -1,6 +1,7 @@
 //! A node from its words to its end.
 
-ghost use Rattle.std.specs.Prelude.{◌≡◌, ◌≤◌, [], false, None, Some, Err, map, string_bytes, IfOk, IfErr, IfSome, IsSome};
+ghost use Rattle.std.specs.Prelude.{◌≡◌, ◌≤◌, [], false, None, Some, Err, map, string_bytes, IfOk, IfErr, IfSome};
+ghost use Rattle.std.specs.Prelude.{IsSome};
 ghost use Rattle.lks_base.specs.Checking.{plan_fault};
 ghost use Rattle.lks_base.specs.declared.plans.PeerPlan.{PeerPlan as Planned};
 ghost use Rattle.lks_law.specs.World.{honest_peer};
@@ -17,8 +18,7 @@ use crate::words::asked;
 use lks_base::{PeerId, Plan};
 use lks_blocks::BlockPool;
 use lks_disk::Disk;
-use lks_effort::EffortJudge;
-use lks_outside::{Sink, Source};
+use lks_outside::{EffortJudge, Sink, Source};
 use lks_peer::find_honest;
 use lks_script::{Script, read_script};
 use lks_store::Opener;
@@ -63,8 +63,10 @@ fn serve<R: Wait, S: Source, K: Sink, D: Disk, J: EffortJudge>(
     requires unfused { D.face.fused store ≡ false }
     requires unasked { J.heard judge.old ≡ [] }
     ensures comes { (p : Planned) → honest_peer id plan.now ≡ Some p →
-        Serves D.face (J.verdict judge.old) plan.now p (S.left source.old) (K.taken sink.old) (K.taken sink.new) (J.heard judge.new) store result.1 result.0 }
-    ensures cause { HasEnded (S.faults source.old) (S.faults source.new) (D.face.faults store) (D.face.faults result.1) (K.faults sink.old) (K.faults sink.new) result.0 }
+        Serves D.face (J.verdict judge.old) plan.now p (S.left source.old) (K.taken sink.old) (K.taken sink.new)
+        (J.heard judge.new) store result.1 result.0 }
+    ensures cause { HasEnded (S.faults source.old) (S.faults source.new) (D.face.faults store)
+        (D.face.faults result.1) (K.faults sink.old) (K.faults sink.new) result.0 }
     ensures source_count { S.faults source.old ≤ S.faults source.new }
     ensures count { D.face.faults store ≤ D.face.faults result.1 }
     ensures sink_count { K.faults sink.old ≤ K.faults sink.new }
@@ -96,8 +98,10 @@ fn run_on<R: Wait, S: Source, K: Sink, D: Disk, J: EffortJudge>(
 ) -> (End, D)
     requires unfused { D.face.fused store ≡ false }
     requires unasked { J.heard judge.old ≡ [] }
-    ensures comes { ComesOver D.face (J.verdict judge.old) id (S.left source.old) (K.taken sink.old) (K.taken sink.new) (J.heard judge.new) store result.1 result.0 }
-    ensures cause { HasEnded (S.faults source.old) (S.faults source.new) (D.face.faults store) (D.face.faults result.1) (K.faults sink.old) (K.faults sink.new) result.0 }
+    ensures comes { ComesOver D.face (J.verdict judge.old) id (S.left source.old) (K.taken sink.old)
+        (K.taken sink.new) (J.heard judge.new) store result.1 result.0 }
+    ensures cause { HasEnded (S.faults source.old) (S.faults source.new) (D.face.faults store)
+        (D.face.faults result.1) (K.faults sink.old) (K.faults sink.new) result.0 }
     ensures source_count { S.faults source.old ≤ S.faults source.new }
     ensures count { D.face.faults store ≤ D.face.faults result.1 }
     ensures sink_count { K.faults sink.old ≤ K.faults sink.new }
@@ -113,8 +117,9 @@ fn run_on<R: Wait, S: Source, K: Sink, D: Disk, J: EffortJudge>(
     serve(alloc, rt, &plan, id, source, sink, store, judge)
 }
 
-/// Runs one honest peer, with its journal on a store that the words name. Frames come in, each is answered by a frame once what it
-/// adds is on the store, and a run that was stopped at any moment goes on from its store. The store is handed back.
+/// Runs one honest peer, with its journal on a store that the words name. Frames come in, each is answered by a frame
+/// once what it adds is on the store, and a run that was stopped at any moment goes on from its store. The store is
+/// handed back.
 pub fn node<R: Wait, S: Source, K: Sink, O: Opener, J: EffortJudge>(
     alloc: Global,
     rt: &R,
@@ -125,15 +130,30 @@ pub fn node<R: Wait, S: Source, K: Sink, O: Opener, J: EffortJudge>(
     judge: &mut J,
 ) -> (NodeStatus, Option<O::Store>)
     requires unasked { J.heard judge.old ≡ [] }
-    ensures promise { Promise O.Store.face (J.verdict judge.old) (record { tells = O.tells opener.old; content = O.content opener.old; faults = O.store_faults opener.old }) (map string_bytes words.now) (S.left source.old) (K.taken sink.old) (K.taken sink.new) (J.heard judge.new) result.0 result.1 }
+    ensures promise { Promise O.Store.face (J.verdict judge.old)
+        (record {
+          tells = O.tells opener.old;
+          content = O.content opener.old;
+          faults = O.store_faults opener.old;
+        }) (map string_bytes words.now) (S.left source.old) (K.taken sink.old)
+        (K.taken sink.new) (J.heard judge.new) result.0 result.1 }
     ensures read { result.0 ≡ NodeStatus.ReadFault → Rose (S.faults source.old) (S.faults source.new) }
     ensures write { result.0 ≡ NodeStatus.WriteFault → Rose (K.faults sink.old) (K.faults sink.new) }
     ensures open { result.0 ≡ NodeStatus.OpenFault → Rose (O.faults opener.old) (O.faults opener.new) }
-    ensures disk { result.0 ≡ NodeStatus.DiskFault → IfSome result.1 (λ store. Rose (O.store_faults opener.old) (O.Store.face.faults store)) }
+    ensures disk { result.0 ≡ NodeStatus.DiskFault
+        → IfSome result.1 (λ store. Rose (O.store_faults opener.old) (O.Store.face.faults store)) }
     // With work to do, and where no fault is counted, all of it is done, or memory is wanting.
-    ensures complete { HasWork (J.verdict judge.old) (record { tells = O.tells opener.old; content = O.content opener.old; faults = O.store_faults opener.old }) (map string_bytes words.now) (S.left source.old)
-        → IfSome result.1 O.Store.face.told → (Rose (S.faults source.old) (S.faults source.new) → ⊥) → (Rose (K.faults sink.old) (K.faults sink.new) → ⊥) → (Rose (O.faults opener.old) (O.faults opener.new) → ⊥)
-        → IfSome result.1 (λ store. Rose (O.store_faults opener.old) (O.Store.face.faults store) → ⊥) → Completes result.0 }
+    ensures complete { HasWork (J.verdict judge.old)
+        (record {
+          tells = O.tells opener.old;
+          content = O.content opener.old;
+          faults = O.store_faults opener.old;
+        }) (map string_bytes words.now) (S.left source.old)
+        → IfSome result.1 O.Store.face.told → (Rose (S.faults source.old) (S.faults source.new) → ⊥)
+        → (Rose (K.faults sink.old) (K.faults sink.new) → ⊥)
+        → (Rose (O.faults opener.old) (O.faults opener.new) → ⊥)
+        → IfSome result.1 (λ store. Rose (O.store_faults opener.old) (O.Store.face.faults store) → ⊥)
+        → Completes result.0 }
     ensures source_count { S.faults source.old ≤ S.faults source.new }
     ensures sink_count { K.faults sink.old ≤ K.faults sink.new }
     ensures opener_count { O.faults opener.old ≤ O.faults opener.new }

@@ -17,8 +17,8 @@ pub enum NodeStatus {
     /// The count of faults of the store rose.
     DiskFault,
     NoMemory,
-    /// The store holds a journal that isn't this peer's: the batch at this place, counted from 0, is the first that it wouldn't
-    /// have written.
+    /// The store holds a journal that isn't this peer's: the batch at this place, counted from 0, is the first that it
+    /// wouldn't have written.
     Foreign { batch: u32 },
     /// This frame, counted from 0, isn't whole, is too long, or tells nothing.
     BadFrame { index: u32 },

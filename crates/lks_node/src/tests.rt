@@ -7,8 +7,7 @@ ghost use Rattle.lks_store.specs.Opening.{IsIdle};
 use crate::runs::node;
 use crate::statuses::NodeStatus;
 use lks_disk::{Disk, MemDisk};
-use lks_effort::FirstByteJudge;
-use lks_outside::{MemSink, MemSource};
+use lks_outside::{FirstByteJudge, MemSink, MemSource};
 use lks_store::{FileOpener, MemOpener, Opener};
 use std::alloc::Global;
 use std::fs;
@@ -344,7 +343,8 @@ fn stops_at_a_fault(rt: HostRuntime) -> Result<(), Fail> {
     Ok(())
 }
 
-// A journal is made by 2 calls, and the deposit and the opening take 4 each. What is left goes on: the poll is opened, or was.
+// A journal is made by 2 calls, and the deposit and the opening take 4 each. What is left goes on: the poll is opened,
+// or was.
 #[test]
 fn goes_on_where_a_call_failed(rt: HostRuntime) -> Result<(), Fail> {
     let alloc = rt.alloc();

@@ -33,6 +33,7 @@ after_read s (Err e) = record s { calls = raised s.calls; faults = raised s.faul
 
 -- the sink after a write of this piece with this answer
 abbrev pub after_write : SinkState → List ℕ → Result ℕ SinkStop → SinkState
-after_write s piece (Ok n) = record s { taken = s.taken ++ take n piece; calls = raised s.calls; faults = count_after s.faults piece n }
+after_write s piece (Ok n) =
+    record s { taken = s.taken ++ take n piece; calls = raised s.calls; faults = count_after s.faults piece n }
 after_write s piece (Err Failed) = record s { calls = raised s.calls; faults = raised s.faults }
 after_write s piece (Err Memory) = s

@@ -1,5 +1,6 @@
 -- What reads take of the bytes that are left, and what writes add to those that were taken.
-use Rattle.std.specs.Prelude.{◌≡◌, ◌↔◌, ℕ, ◌+◌, ◌<◌, ◌≤◌, List, [], ◌++◌, length, take, drop, Option, Some, Result, Ok, Err, Vec}
+use Rattle.std.specs.Prelude.{◌≡◌, ◌↔◌, ℕ, ◌+◌, ◌<◌, ◌≤◌, List, [], ◌++◌, length, take, drop, Option, Some, Result}
+use Rattle.std.specs.Prelude.{Ok, Err, Vec}
 use Rattle.std.specs.declared.alloc.Global.{Global}
 use Rattle.lks_outside.specs.declared.sources.ReadStop.{ReadStop}
 use Rattle.lks_outside.specs.declared.sources.ReadStop.TheVariants as reading

@@ -1,5 +1,6 @@
 //! A source and a sink in memory, with calls that fail.
-ghost use Rattle.std.specs.Prelude.{◌≡◌, ◌-◌, ◌^◌, ◌<◌, ◌≤◌, ◌++◌, [], length, take, drop, min, is_err, vec_len, Some, Ok, IfOk, OnErr, IsErrOf, IsTrue, ◌↔◌};
+ghost use Rattle.std.specs.Prelude.{◌≡◌, ◌-◌, ◌^◌, ◌<◌, ◌≤◌, ◌++◌, [], length, take, drop, min, is_err, vec_len, Some};
+ghost use Rattle.std.specs.Prelude.{Ok, IfOk, OnErr, IsErrOf, IsTrue, ◌↔◌};
 ghost use Rattle.lks_outside.specs.Counts.{Rose, raised};
 ghost use Rattle.lks_outside.specs.Fakes.{SourceState, SinkState, next_fails, after_read, after_write};
 ghost use Rattle.lks_outside.specs.Streams.{Gave};

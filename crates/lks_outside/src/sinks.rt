@@ -1,5 +1,6 @@
 //! Where bytes go.
-ghost use Rattle.std.specs.Prelude.{◌≡◌, ◌<◌, ◌≤◌, ◌++◌, ℕ, List, [], length, take, Some, Option, Ok, IsOk, IfOk, OnOk, OnErr, IsErrOf};
+ghost use Rattle.std.specs.Prelude.{◌≡◌, ◌<◌, ◌≤◌, ◌++◌, ℕ, List, [], length, take, Some, Option, Ok, IsOk, IfOk};
+ghost use Rattle.std.specs.Prelude.{OnOk, OnErr, IsErrOf};
 ghost use Rattle.lks_outside.specs.declared.sinks.SinkStop.TheVariants as taking;
 ghost use Rattle.lks_outside.specs.Counts.{Rose};
 ghost use Rattle.lks_outside.specs.Streams.{AddsFront, told_as};

@@ -1,5 +1,6 @@
 //! Where bytes come from.
-ghost use Rattle.std.specs.Prelude.{◌≡◌, ◌+◌, ◌-◌, ◌<◌, ◌≤◌, ℕ, List, length, Some, Option, IfOk, OnErr, IsErrOf, vec_len};
+ghost use Rattle.std.specs.Prelude.{◌≡◌, ◌+◌, ◌-◌, ◌<◌, ◌≤◌, ℕ, List, length, Some, Option, IfOk, OnErr, IsErrOf};
+ghost use Rattle.std.specs.Prelude.{vec_len};
 ghost use Rattle.lks_outside.specs.declared.sources.ReadStop.TheVariants as reading;
 ghost use Rattle.lks_outside.specs.Counts.{Rose};
 ghost use Rattle.lks_outside.specs.Streams.{Gave, ReadEnds};

@@ -10,15 +10,20 @@ use Rattle.lks_law.specs.Journal.{Request}
 use Rattle.lks_law.specs.State.{Poll, State, poll_at, blocks_at}
 use Rattle.lks_peer.specs.Knows.{AsksSmall}
 use Rattle.lks_poller.specs.Polling.{Polled}
-use Rattle.lks_repair.specs.Asking.{awaited}
+use Rattle.lks_choice.specs.Asking.{awaited}
 
 -- as the poll keeps it
-pub small_request : (s : Polled) (o : Option Poll) → o ≡ Some (poll_of s) → AsksSmall o → IfSome (awaited s.suppliers) (λ r. r.0 ≤ LAST_BLOCK)
+pub small_request : (s : Polled) (o : Option Poll) → o ≡ Some (poll_of s) → AsksSmall o
+    → IfSome (awaited s.suppliers) (λ r. r.0 ≤ LAST_BLOCK)
 unfolding AsksSmall
 small_request s None is small = absurd cc
-small_request s (Some p) is small = let same : p ≡ poll_of s = cc in by_request (awaited s.suppliers) (subst (λ (x : Poll). Where x.request (λ r. r.block ≤ LAST_BLOCK)) same small)
+small_request s (Some p) is small =
+    let same : p ≡ poll_of s = cc in
+    by_request (awaited s.suppliers)
+    (subst (λ (x : Poll). Where x.request (λ r. r.block ≤ LAST_BLOCK)) same small)
   where
-    by_request : (o : Option (ℕ × ℕ)) → Where (option_map request_of o) (λ r. r.block ≤ LAST_BLOCK) → IfSome o (λ r. r.0 ≤ LAST_BLOCK)
+    by_request : (o : Option (ℕ × ℕ)) → Where (option_map request_of o) (λ r. r.block ≤ LAST_BLOCK)
+        → IfSome o (λ r. r.0 ≤ LAST_BLOCK)
     by_request None within = tt
     by_request (Some r) within = within
 
@@ -27,10 +32,12 @@ pub asks_small : (s : State) (n : ℕ) → IsSound s → AsksSmall (poll_at n s.
 unfolding AsksSmall
 asks_small s n sound = each (poll_at n s.polls) (poll_where (AsksWithin s.copies) n s.polls sound.asks)
   where
-    one : (au : ℕ) (o : Option Request) → Where o (λ r. r.block < length (blocks_at au s.copies)) → Where o (λ r. r.block ≤ LAST_BLOCK)
+    one : (au : ℕ) (o : Option Request) → Where o (λ r. r.block < length (blocks_at au s.copies))
+        → Where o (λ r. r.block ≤ LAST_BLOCK)
     one au None within = tt
     one au (Some r) within = omega (arith, within, few_on au s.copies sound.counted)
 
-    each : (o : Option Poll) → Where o (AsksWithin s.copies) → Where o (λ p. Where p.request (λ r. r.block ≤ LAST_BLOCK))
+    each : (o : Option Poll) → Where o (AsksWithin s.copies)
+        → Where o (λ p. Where p.request (λ r. r.block ≤ LAST_BLOCK))
     each None all = tt
     each (Some p) all = one p.opening.au p.request all

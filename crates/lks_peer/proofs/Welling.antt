@@ -59,18 +59,24 @@ module _ (own : Station) (pool : List ℕ) (old : Known) (well : IsWell own pool
   well_same new is tied = record { tied = tied; fit = fit_same own (state_of old) (state_of new) well.fit is }
 
   -- after a record that fits, or where there was no memory for it
-  pub well_noted : {E : Type 0} (new : Known) (r : Record) (result : Result (Unit {0}) E) → Fits own (state_of old) r → OnOk result (state_of new ≡ after own (state_of old) r)
+  pub well_noted : {E : Type 0} (new : Known) (r : Record) (result : Result (Unit {0}) E)
+      → Fits own (state_of old) r → OnOk result (state_of new ≡ after own (state_of old) r)
       → OnErr result (IsSameButMarks (state_of old) (state_of new)) → IsTied own.id pool new → IsWell own pool new
-  well_noted new r (Ok _) fits is same tied = record { tied = tied; fit = fit_after own (state_of old) (state_of new) well.fit r fits is }
-  well_noted new r (Err e) fits is same tied = record { tied = tied; fit = fit_marked own (state_of old) (state_of new) well.fit same }
+  well_noted new r (Ok _) fits is same tied =
+      record { tied = tied; fit = fit_after own (state_of old) (state_of new) well.fit r fits is }
+  well_noted new r (Err e) fits is same tied =
+      record { tied = tied; fit = fit_marked own (state_of old) (state_of new) well.fit same }
 
   -- what it adds fits its state
-  pub adds_fit : (tick : ℕ) (i : Input) (r : Reaction) → IsHeard i → has_room (state_of old) ≡ true → r ≡ react_on own (state_of old) tick i → AreFitting own (state_of old) r.records
+  pub adds_fit : (tick : ℕ) (i : Input) (r : Reaction) → IsHeard i → has_room (state_of old) ≡ true
+      → r ≡ react_on own (state_of old) tick i → AreFitting own (state_of old) r.records
   adds_fit tick i r heard room is =
-      subst (λ (x : Reaction). AreFitting own (state_of old) x.records) (sym is) (reaction_fits own (state_of old) well.fit.inner room well.fit.sound tick i heard)
+      subst (λ (x : Reaction). AreFitting own (state_of old) x.records) (sym is)
+      (reaction_fits own (state_of old) well.fit.inner room well.fit.sound tick i heard)
 
 -- a peer that knows nothing yet
-pub well_made : (own : Station) (pool : List ℕ) (known : Known) → IsMade own known → IsFit own (blank own) → IsWell own pool known
+pub well_made : (own : Station) (pool : List ℕ) (known : Known) → IsMade own known → IsFit own (blank own)
+    → IsWell own pool known
 well_made own pool known made fit = record { tied = made.tied pool; fit = subst (IsFit own) (sym made.state) fit }
 
 -- an outer circle has at most 16 peers, and a session gives at most 512 blocks
@@ -92,8 +98,10 @@ unfolding plan_fault are_bounded
 few_repairs plan good =
     let r = plan.rules in
     leb-true r.repairs 512
-    (fourth (is_within 1 16 r.inner) (nat_le 1 r.quorum) (nat_le r.outer 16) (nat_le r.repairs 512) (nat_le r.pace 1000000)
-    (nat_le r.refractory 1000000) (nat_le r.overdue 1000000) (nat_le r.unknown_pct 100) (nat_le r.debt_pct 100) (nat_le r.churn 16)
+    (fourth (is_within 1 16 r.inner) (nat_le 1 r.quorum) (nat_le r.outer 16) (nat_le r.repairs 512)
+    (nat_le r.pace 1000000)
+    (nat_le r.refractory 1000000) (nat_le r.overdue 1000000) (nat_le r.unknown_pct 100) (nat_le r.debt_pct 100)
+    (nat_le r.churn 16)
     (stands _ _ (no_first _ _ good)))
 
 few_outer : (plan : Plan) → plan_fault plan ≡ None → plan.rules.outer ≤ 16
@@ -101,12 +109,15 @@ unfolding plan_fault are_bounded
 few_outer plan good =
     let r = plan.rules in
     leb-true r.outer 16
-    (third (is_within 1 16 r.inner) (nat_le 1 r.quorum) (nat_le r.outer 16) (nat_le r.repairs 512) (nat_le r.pace 1000000)
-    (nat_le r.refractory 1000000) (nat_le r.overdue 1000000) (nat_le r.unknown_pct 100) (nat_le r.debt_pct 100) (nat_le r.churn 16)
+    (third (is_within 1 16 r.inner) (nat_le 1 r.quorum) (nat_le r.outer 16) (nat_le r.repairs 512)
+    (nat_le r.pace 1000000)
+    (nat_le r.refractory 1000000) (nat_le r.overdue 1000000) (nat_le r.unknown_pct 100) (nat_le r.debt_pct 100)
+    (nat_le r.churn 16)
     (stands _ _ (no_first _ _ good)))
 
 -- an honest peer of a good plan goes by such numbers, and begins in such a state
-pub fit_blank : (plan : Plan) (q : PeerPlan → Bool) (p : PeerPlan) → plan_fault plan ≡ None → find q plan.peers ≡ Some p → IsFit (station_of plan p) (blank (station_of plan p))
+pub fit_blank : (plan : Plan) (q : PeerPlan → Bool) (p : PeerPlan) → plan_fault plan ≡ None
+    → find q plan.peers ≡ Some p → IsFit (station_of plan p) (blank (station_of plan p))
 fit_blank plan q p good found =
     let rules = good_rules plan good in
     record {

@@ -1,5 +1,6 @@
 -- Work that leaves a peer as a job, and comes back.
-use Rattle.std.specs.Prelude.{◌≡◌, ◌≢◌, ◌==◌, ◌&&◌, ◌++◌, ℕ, Bool, false, not, if◌then◌else◌, Option, Some, None, is_some, List, [], map}
+use Rattle.std.specs.Prelude.{◌≡◌, ◌≢◌, ◌==◌, ◌&&◌, ◌++◌, ℕ, Bool, false, not, if◌then◌else◌, Option, Some, None}
+use Rattle.std.specs.Prelude.{is_some, List, [], map}
 use Rattle.std.specs.List.{filter_map}
 use Rattle.lks_audit.specs.Kept.{Kept, kept_at}
 use Rattle.lks_audit.specs.Tallying.{IsTallyIn, tag_ready}
@@ -53,13 +54,18 @@ is_ready_for own s (names.Tally peer number) = (peer == own.id) && is_poll_ready
 abbrev pub tally_in : ℕ → Poll → Option JobName
 tally_in id p = if p.shut && not (is_some p.request) then Some (names.Tally id p.number) else None
 
--- all work for which the peer is ready: the votes in order of its commitments, and then the tallies in order of its running polls
+-- all work for which the peer is ready: the votes in order of its commitments, and then the tallies in order of its
+-- running polls
 abbrev pub works_in : Station → State → List JobName
-works_in own s = map (λ (p : Pinned). names.Vote own.id p.committed.joined.poll) s.voter.pinned ++ filter_map (tally_in own.id) s.polls
+works_in own s =
+    map (λ (p : Pinned). names.Vote own.id p.committed.joined.poll) s.voter.pinned
+    ++ filter_map (tally_in own.id) s.polls
 
--- It is the vote of the session, or the tally of the poll with as many hashes as are kept, where deposits stand at these places.
+-- It is the vote of the session, or the tally of the poll with as many hashes as are kept, where deposits stand at
+-- these places.
 abbrev pub IsJobOf : Station → State → List Kept → List Place → JobName → Job → Type 0
-IsJobOf own s kept places (names.Vote peer poll) (jobs.Vote job) = IsVoteIn own places (pinned_at poll s.voter.pinned) (Some job)
+IsJobOf own s kept places (names.Vote peer poll) (jobs.Vote job) =
+    IsVoteIn own places (pinned_at poll s.voter.pinned) (Some job)
 IsJobOf own s kept places (names.Vote peer poll) (jobs.Tally job) = ⊥
 IsJobOf own s kept places (names.Tally peer number) (jobs.Vote job) = ⊥
 IsJobOf own s kept places (names.Tally peer number) (jobs.Tally job) =

@@ -2,10 +2,13 @@
 use Rattle.std.specs.Prelude.{◌≡◌, ◌<◌, ℕ, List, [], ◌∷◌, ◌++◌, map, Some}
 use Rattle.lks_audit.specs.Kept.{Kept, kept_at, kept_before, kept_by_tally, kept_voted, without_kept}
 use Rattle.lks_base.specs.declared.reactions.Input.{Input}
-use Rattle.lks_base.specs.declared.reactions.Input.TheVariants.{OpenPoll, Widen, Tally, Nudge, GiveUp, Work, Expire, Check, Tune, Got}
+use Rattle.lks_base.specs.declared.reactions.Input.TheVariants.{OpenPoll, Widen, Tally, Nudge, GiveUp, Work, Expire}
+use Rattle.lks_base.specs.declared.reactions.Input.TheVariants.{Check, Tune, Got}
 use Rattle.lks_base.specs.declared.reactions.Input.TheVariants as input
 use Rattle.lks_base.specs.declared.records.Record.{Record}
-use Rattle.lks_base.specs.declared.records.Record.TheVariants.{Deposit, PollOpened, Nominated, OuterOpened, VoteIn, Shut, Asked, RepairBad, Replaced, Closed, Overdue, Joined, Committed, Voted, Served, Ended, Tuned}
+use Rattle.lks_base.specs.declared.records.Record.TheVariants.{Deposit, PollOpened, Nominated, OuterOpened, VoteIn}
+use Rattle.lks_base.specs.declared.records.Record.TheVariants.{Shut, Asked, RepairBad, Replaced, Closed, Overdue}
+use Rattle.lks_base.specs.declared.records.Record.TheVariants.{Joined, Committed, Voted, Served, Ended, Tuned}
 use Rattle.lks_law.specs.Polls.{Station}
 use Rattle.lks_law.specs.State.{Poll, State, after, poll_at}
 use Rattle.lks_law.specs.Turning.{has_inner_of}
@@ -14,11 +17,12 @@ use Rattle.lks_law.specs.Turning.{has_inner_of}
 abbrev pub nothing_kept : List Poll → List Kept
 nothing_kept polls = map (λ (p : Poll). record { number = p.number; au = p.opening.au; count = 0 }) polls
 
--- What a record makes of the counts, where these polls ran before it. A poll begins with nothing kept, a vote of its inner
--- circle leaves nothing, and of an AU of which a block changed nothing is kept from that block on.
+-- What a record makes of the counts, where these polls ran before it. A poll begins with nothing kept, a vote of its
+-- inner circle leaves nothing, and of an AU of which a block changed nothing is kept from that block on.
 abbrev pub kept_after : List Poll → Record → List Kept → List Kept
 kept_after ps (Deposit au blocks) ks = ks
-kept_after ps (PollOpened number au nonce inner tick limits kind) ks = ks ++ record { number = number; au = au; count = 0 } ∷ []
+kept_after ps (PollOpened number au nonce inner tick limits kind) ks =
+    ks ++ record { number = number; au = au; count = 0 } ∷ []
 kept_after ps (Nominated number voter nominees) ks = ks
 kept_after ps (OuterOpened number outer) ks = ks
 kept_after ps (VoteIn number voter hashes) ks = kept_voted number (has_inner_of (poll_at number ps) voter) ks
@@ -58,8 +62,8 @@ kept_deciding own s (Got from m judged) ks = ks
 abbrev pub KeepsBlock : ℕ → ℕ → List Kept → Type 0
 KeepsBlock n b ks = (count : ℕ) × (kept_at n ks ≡ Some count) × (b < count)
 
--- What a step of a peer in this state makes of the counts, which adds these records. A tally that asks for a block keeps
--- its hashes, and one that adds nothing leaves all counts.
+-- What a step of a peer in this state makes of the counts, which adds these records. A tally that asks for a block
+-- keeps its hashes, and one that adds nothing leaves all counts.
 pub record Keeps (own : Station) (s : State) (i : Input) (records : List Record) (old new : List Kept) : Type 0 where
   pub after : new ≡ kept_after_all own s records (kept_deciding own s i old)
   pub asked : (n m b voter : ℕ) → i ≡ Tally n → records ≡ Asked m b voter ∷ [] → KeepsBlock n b new

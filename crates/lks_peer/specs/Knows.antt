@@ -28,8 +28,8 @@ state_of k =
       voter = voter_of k.sessions;
     }
 
--- All blocks are of this pool, those that sessions pin too; each poll runs over the copy that is held, and the reference list is
--- this peer's.
+-- All blocks are of this pool, those that sessions pin too; each poll runs over the copy that is held, and the
+-- reference list is this peer's.
 pub record IsTied (id : ℕ) (pool : List ℕ) (k : Known) : Type 0 where
   pub of : All (IsOf pool) k.copies
   pub on : All (IsOn id (copies_of k.copies)) k.polls
@@ -66,8 +66,9 @@ pub record IsMade (own : Station) (k : Known) : Type 0 where
 unfoldable pub AsksSmall : Option Poll → Type 0
 AsksSmall o = Where o (λ p. Where p.request (λ r. r.block ≤ LAST_BLOCK))
 
--- What a peer goes by, the pool of its blocks, the state in which it is, and for how many blocks its running polls keep hashes.
--- Where its deposits stand in the pool isn't seen until a job or a result asks for it, and is then seen for good.
+-- What a peer goes by, the pool of its blocks, the state in which it is, and for how many blocks its running polls keep
+-- hashes. Where its deposits stand in the pool isn't seen until a job or a result asks for it, and is then seen for
+-- good.
 pub record Knowing : Type 0 where
   pub own : Station
   pub pool : List ℕ
@@ -77,4 +78,6 @@ pub record Knowing : Type 0 where
 
 -- a peer with this journal, whose blocks are in this pool, whose polls keep nothing yet, and which told no place
 abbrev pub knowing_of : List ℕ → Standing → Knowing
-knowing_of pool s = let state = law.state_of s.own s.journal in record { own = s.own; pool = pool; state = state; kept = nothing_kept state.polls; places = [] }
+knowing_of pool s =
+    let state = law.state_of s.own s.journal in
+    record { own = s.own; pool = pool; state = state; kept = nothing_kept state.polls; places = [] }

@@ -1,6 +1,7 @@
 //! The work for which a peer is ready, as jobs, and what a result of such work finds.
 
-ghost use Rattle.std.specs.Prelude.{◌≡◌, ◌↔◌, ◌==◌, ◌&&◌, ◌++◌, ℕ, List, IsTrue, IfOk, IfSome, Some, is_some, All, find, map};
+ghost use Rattle.std.specs.Prelude.{◌≡◌, ◌↔◌, ◌==◌, ◌&&◌, ◌++◌, ℕ, List, IsTrue, IfOk, IfSome, Some, is_some, All};
+ghost use Rattle.std.specs.Prelude.{find, map};
 ghost use Rattle.std.specs.List.{filter_map};
 ghost use Rattle.lks_audit.specs.Copied.{copies_of};
 ghost use Rattle.lks_audit.specs.Copied.{IsOf as IsCopyOf};
@@ -57,8 +58,11 @@ fn vote_job(
     poll: PollName,
 ) -> Result<Option<VoteJob>, OutOfMemory>
     requires { IsSendable (voter_of sessions.now) }
-    ensures ready { IfOk result (λ o. is_some o ≡ ((peer == own.now.id) && is_some (pinned_at poll (voter_of sessions.now).pinned))) }
-    ensures job { IfOk result (λ o. IfSome o (λ j. IsVoteIn own.now places.now (pinned_at poll (voter_of sessions.now).pinned) (Some j))) }
+    ensures ready { IfOk result
+        (λ o. is_some o ≡ ((peer == own.now.id) && is_some (pinned_at poll (voter_of sessions.now).pinned))) }
+    ensures job { IfOk result
+        (λ o. IfSome o
+        (λ j. IsVoteIn own.now places.now (pinned_at poll (voter_of sessions.now).pinned) (Some j))) }
     ensures name { IfOk result (λ o. IfSome o (λ j. names.Vote j.peer j.poll ≡ names.Vote peer poll)) }
     ensures of { IfOk result (λ o. IfSome o (λ j. (pool : List ℕ) → IsOf pool sessions.now → AllOf pool j.refs)) }
 {
@@ -79,11 +83,16 @@ fn tally_job(
     number: u32,
 ) -> Result<Option<TallyJob>, OutOfMemory>
     requires { All (IsOn own.now.id (copies_of known.now.copies)) known.now.polls }
-    ensures ready { IfOk result (λ o. is_some o ≡ ((peer == own.now.id) && is_poll_ready (poll_at number (polls_of known.now.polls)))) }
-    ensures job { IfOk result (λ o. IfSome o (λ j. IsTallyIn own.now places.now (copies_of known.now.copies) (poll_at number (polls_of known.now.polls)) (Some j))) }
+    ensures ready { IfOk result
+        (λ o. is_some o ≡ ((peer == own.now.id) && is_poll_ready (poll_at number (polls_of known.now.polls)))) }
+    ensures job { IfOk result
+        (λ o. IfSome o
+        (λ j. IsTallyIn own.now places.now (copies_of known.now.copies)
+        (poll_at number (polls_of known.now.polls)) (Some j))) }
     ensures kept { IfOk result (λ o. IfSome o (λ j. Some j.tally.kept ≡ kept_at number (kept_of known.now.polls))) }
     ensures name { IfOk result (λ o. IfSome o (λ j. names.Tally j.peer j.number ≡ names.Tally peer number)) }
-    ensures of { IfOk result (λ o. IfSome o (λ j. (pool : List ℕ) → All (IsCopyOf pool) known.now.copies → AllOf pool j.refs)) }
+    ensures of { IfOk result
+        (λ o. IfSome o (λ j. (pool : List ℕ) → All (IsCopyOf pool) known.now.copies → AllOf pool j.refs)) }
 {
     if peer == own.id {
         known.polls.job(alloc, own, &known.copies, places, number)
@@ -122,7 +131,10 @@ fn tally_left(id: PeerId, polls: &[PollSession], out: &[JobName]) -> Option<JobN
 /// The first work, votes before tallies, for which the peer is ready and whose job is none of these.
 #[tactic(auto, using(crate::proofs::Listing::left_front, crate::proofs::Listing::left_behind))]
 pub fn work_left(id: PeerId, known: &Known, out: &[JobName]) -> Option<JobName>
-    ensures { result ≡ find (is_left out.now) (map (λ p. names.Vote id p.committed.joined.poll) (voter_of known.now.sessions).pinned ++ filter_map (accepting.tally_in id) (polls_of known.now.polls)) }
+    ensures { result
+        ≡ find (is_left out.now)
+        (map (λ p. names.Vote id p.committed.joined.poll) (voter_of known.now.sessions).pinned
+        ++ filter_map (accepting.tally_in id) (polls_of known.now.polls)) }
 {
     match known.sessions.vote_left(id, out) {
         Some(name) => Some(name),
@@ -141,9 +153,11 @@ pub fn job(
     requires on { All (IsOn own.now.id (copies_of known.now.copies)) known.now.polls }
     requires sendable { IsSendable (voter_of known.now.sessions) }
     ensures ready { IfOk result (λ o. is_some o ≡ is_ready_for own.now (state_of known.now) name.now) }
-    ensures job { IfOk result (λ o. IfSome o (IsJobOf own.now (state_of known.now) (kept_of known.now.polls) places.now name.now)) }
+    ensures job { IfOk result
+        (λ o. IfSome o (IsJobOf own.now (state_of known.now) (kept_of known.now.polls) places.now name.now)) }
     ensures name { IfOk result (λ o. IfSome o (λ j. name_of j ≡ name.now)) }
-    ensures of { IfOk result (λ o. IfSome o (λ j. (id : ℕ) (pool : List ℕ) → IsTied id pool known.now → AllOf pool (refs_of j))) }
+    ensures of { IfOk result
+        (λ o. IfSome o (λ j. (id : ℕ) (pool : List ℕ) → IsTied id pool known.now → AllOf pool (refs_of j))) }
 {
     match name {
         JobName::Vote { peer, poll } => {

@@ -1,6 +1,7 @@
 //! What a peer knows, and what each record makes of it.
 
-ghost use Rattle.std.specs.Prelude.{◌≡◌, ◌<◌, ◌≤◌, ◌++◌, ◌∷◌, ℕ, List, [], Option, Some, IfOk, map, option_map, is_some, true, length, OnOk, OnErr, All};
+ghost use Rattle.std.specs.Prelude.{◌≡◌, ◌<◌, ◌≤◌, ◌++◌, ◌∷◌, ℕ, List, [], Option, Some, IfOk, map, option_map};
+ghost use Rattle.std.specs.Prelude.{is_some, true, length, OnOk, OnErr, All};
 ghost use Rattle.lks_base.specs.declared.limits.TheConstants.{MOST_CIRCLE};
 ghost use Rattle.lks_base.specs.declared.names.Outcome.TheVariants as outcome;
 ghost use Rattle.lks_base.specs.declared.records.Record.TheVariants as record_of;
@@ -21,13 +22,13 @@ use lks_base::{
     Record,
 };
 use lks_blocks::{BlockPool, Refs};
-use lks_refs::References;
+use lks_choice::References;
 use lks_sessions::Sessions;
 use std::alloc::Global;
 use std::sync::Wait;
 
-/// What a peer knows: the numbers in force, how many polls it opened, its copies, those of its polls that run, its reference
-/// list, and its part in polls of others.
+/// What a peer knows: the numbers in force, how many polls it opened, its copies, those of its polls that run, its
+/// reference list, and its part in polls of others.
 #[derive(Drop)]
 pub struct Known {
     pub numbers: Numbers,
@@ -47,7 +48,8 @@ pub fn nominate(
     voter: PeerId,
     nominees: &Ids,
 ) -> Result<(), OutOfMemory>
-    ensures state { OnOk result (state_of known.new ≡ after own.now (state_of known.old) (record_of.Nominated number voter nominees.now)) }
+    ensures state { OnOk result
+        (state_of known.new ≡ after own.now (state_of known.old) (record_of.Nominated number voter nominees.now)) }
     ensures tied { StaysTied known.old known.new }
     ensures err { OnErr result (state_of known.new ≡ state_of known.old) }
     ensures kept { OnOk result (kept_of known.new.polls ≡ kept_of known.old.polls) }
@@ -60,7 +62,8 @@ pub fn nominate(
 /// Notes that the outer circle was invited.
 #[tactic(auto, unfolding(lks_law::specs::State::after), using(crate::proofs::Knowing::tied_polls, lks_audit::proofs::Running::on_equal, lks_audit::proofs::Running::on_none))]
 pub fn widen(own: &Station, known: &mut Known, number: u32, outer: &Ids) -> Result<(), OutOfMemory>
-    ensures state { OnOk result (state_of known.new ≡ after own.now (state_of known.old) (record_of.OuterOpened number outer.now)) }
+    ensures state { OnOk result
+        (state_of known.new ≡ after own.now (state_of known.old) (record_of.OuterOpened number outer.now)) }
     ensures tied { StaysTied known.old known.new }
     ensures err { OnErr result (state_of known.new ≡ state_of known.old) }
     ensures kept { OnOk result (kept_of known.new.polls ≡ kept_of known.old.polls) }
@@ -81,10 +84,14 @@ pub fn vote(
 ) -> Result<(), OutOfMemory>
     requires may { MayVote number voter hashes.now known.old.polls }
     requires marks { marks_left (voter_of known.old.sessions) ≡ true }
-    ensures state { OnOk result (state_of known.new ≡ after own.now (state_of known.old) (record_of.VoteIn number voter hashes.now)) }
+    ensures state { OnOk result
+        (state_of known.new ≡ after own.now (state_of known.old) (record_of.VoteIn number voter hashes.now)) }
     ensures tied { StaysTied known.old known.new }
     ensures err { OnErr result (IsSameButMarks (state_of known.old) (state_of known.new)) }
-    ensures kept { OnOk result (kept_of known.new.polls ≡ kept_after (state_of known.old).polls (record_of.VoteIn number voter hashes.now) (kept_of known.old.polls)) }
+    ensures kept { OnOk result
+        (kept_of known.new.polls
+        ≡ kept_after (state_of known.old).polls (record_of.VoteIn number voter hashes.now)
+        (kept_of known.old.polls)) }
 {
     let hashes = hashes.clone()?;
     known.sessions.receive(voter)?;
@@ -112,7 +119,8 @@ pub fn ask(
     voter: PeerId,
 ) -> Result<(), OutOfMemory>
     requires { MayAsk number block known.old.polls }
-    ensures state { OnOk result (state_of known.new ≡ after own.now (state_of known.old) (record_of.Asked number block voter)) }
+    ensures state { OnOk result
+        (state_of known.new ≡ after own.now (state_of known.old) (record_of.Asked number block voter)) }
     ensures tied { StaysTied known.old known.new }
     ensures err { OnErr result (state_of known.new ≡ state_of known.old) }
     ensures kept { OnOk result (kept_of known.new.polls ≡ kept_of known.old.polls) }
@@ -134,9 +142,13 @@ pub fn give_up(own: &Station, known: &mut Known, number: u32, block: u16, voter:
 /// Notes that a poll ended, which isn't agreed.
 #[tactic(auto, unfolding(lks_law::specs::State::after), using(crate::proofs::Knowing::tied_polls, lks_audit::proofs::Running::on_equal, lks_audit::proofs::Running::on_none))]
 pub fn close(own: &Station, known: &mut Known, number: u32)
-    ensures inquorate { (tick : ℕ) → state_of known.new ≡ after own.now (state_of known.old) (record_of.Closed number outcome.Inquorate tick) }
-    ensures split { (tick b : ℕ) → state_of known.new ≡ after own.now (state_of known.old) (record_of.Closed number (outcome.Split b) tick) }
-    ensures none { (tick b : ℕ) → state_of known.new ≡ after own.now (state_of known.old) (record_of.Closed number (outcome.NoSupplier b) tick) }
+    ensures inquorate { (tick : ℕ)
+        → state_of known.new ≡ after own.now (state_of known.old) (record_of.Closed number outcome.Inquorate tick) }
+    ensures split { (tick b : ℕ)
+        → state_of known.new ≡ after own.now (state_of known.old) (record_of.Closed number (outcome.Split b) tick) }
+    ensures none { (tick b : ℕ)
+        → state_of known.new
+        ≡ after own.now (state_of known.old) (record_of.Closed number (outcome.NoSupplier b) tick) }
     ensures tied { StaysTied known.old known.new }
     ensures kept { kept_of known.new.polls ≡ without_kept number (kept_of known.old.polls) }
 {
@@ -156,7 +168,8 @@ pub fn note(own: &Station, known: &mut Known, au: AuId, tick: u32)
 /// Takes the numbers of a tuning.
 #[tactic(auto, unfolding(lks_law::specs::State::after), using(crate::proofs::Knowing::tied_polls, lks_audit::proofs::Running::on_equal, lks_audit::proofs::Running::on_none))]
 pub fn tune(own: &Station, known: &mut Known, numbers: Numbers)
-    ensures state { state_of known.new ≡ after own.now (state_of known.old) (record_of.Tuned numbers.quorum numbers.minority numbers.repairs) }
+    ensures state { state_of known.new
+        ≡ after own.now (state_of known.old) (record_of.Tuned numbers.quorum numbers.minority numbers.repairs) }
     ensures tied { StaysTied known.old known.new }
     ensures kept { known.new.polls ≡ known.old.polls }
 {
@@ -176,7 +189,8 @@ pub fn deposit<R: Wait>(
 ) -> Result<(), OutOfMemory>
     requires counted { IsCounted blocks.now }
     requires first { (state_of known.old).polls ≡ [] }
-    ensures state { OnOk result (state_of known.new ≡ after own.now (state_of known.old) (record_of.Deposit au blocks.now)) }
+    ensures state { OnOk result
+        (state_of known.new ≡ after own.now (state_of known.old) (record_of.Deposit au blocks.now)) }
     ensures tied { (id : ℕ) → IsTied id pool.now known.old → IsTied id pool.now known.new }
     ensures err { OnErr result (state_of known.new ≡ state_of known.old) }
     ensures kept { OnOk result (known.new.polls ≡ known.old.polls) }
@@ -200,10 +214,16 @@ pub fn open(
     requires held { is_some (copy_at opening.now.au (copies_of known.old.copies)) ≡ true }
     requires few { length opening.now.inner ≤ MOST_CIRCLE }
     requires room { known.old.openings < most_numbered }
-    ensures state { OnOk result (state_of known.new ≡ after own.now (state_of known.old) (record_of.PollOpened number opening.now.au opening.now.nonce opening.now.inner tick opening.now.limits opening.now.kind)) }
+    ensures state { OnOk result
+        (state_of known.new
+        ≡ after own.now (state_of known.old)
+        (record_of.PollOpened number opening.now.au opening.now.nonce opening.now.inner tick
+        opening.now.limits opening.now.kind)) }
     ensures tied { (pool : List ℕ) → IsTied own.now.id pool known.old → IsTied own.now.id pool known.new }
     ensures err { OnErr result (state_of known.new ≡ state_of known.old) }
-    ensures kept { OnOk result (kept_of known.new.polls ≡ kept_of known.old.polls ++ record { number = number; au = opening.now.au; count = 0 } ∷ []) }
+    ensures kept { OnOk result
+        (kept_of known.new.polls
+        ≡ kept_of known.old.polls ++ record { number = number; au = opening.now.au; count = 0 } ∷ []) }
 {
     let count = count_held(known.copies.as_slice(), opening.au);
     let poll = begin(alloc, own, number, count, opening)?;
@@ -227,7 +247,8 @@ pub fn replace<R: Wait>(
     bytes: &Bytes,
 ) -> Result<(), OutOfMemory>
     requires { MayReplace au block (copies_of known.old.copies) }
-    ensures state { OnOk result (state_of known.new ≡ after own.now (state_of known.old) (record_of.Replaced number au block bytes.now)) }
+    ensures state { OnOk result
+        (state_of known.new ≡ after own.now (state_of known.old) (record_of.Replaced number au block bytes.now)) }
     ensures tied { (id : ℕ) → IsTied id pool.now known.old → IsTied id pool.now known.new }
     ensures err { OnErr result (state_of known.new ≡ state_of known.old) }
     ensures kept { OnOk result (kept_of known.new.polls ≡ map (kept_before au block) (kept_of known.old.polls)) }
@@ -242,7 +263,8 @@ pub fn replace<R: Wait>(
 
 #[tactic(auto, using(crate::proofs::Knowing::agreed_some, crate::proofs::Knowing::agreed_none, crate::proofs::Knowing::over_agreed, crate::proofs::Knowing::over_same))]
 fn mark(copies: &mut Copies, au: Option<AuId>, tick: u32)
-    ensures seen { (o : Option Poll) → au ≡ option_map (λ p. p.opening.au) o → copies_of copies.new ≡ agreed_on o tick (copies_of copies.old) }
+    ensures seen { (o : Option Poll) → au ≡ option_map (λ p. p.opening.au) o
+        → copies_of copies.new ≡ agreed_on o tick (copies_of copies.old) }
     ensures of { (pool : List ℕ) → All (IsOf pool) copies.old → All (IsOf pool) copies.new }
     ensures on { RunOver copies.old copies.new }
 {
@@ -263,7 +285,8 @@ pub fn agree(
 ) -> Result<(), OutOfMemory>
     requires tied { IsTied own.now.id pool.now known.old }
     requires agreed { AreAgreed own.now number (copies_of known.old.copies) (polls_of known.old.polls) }
-    ensures state { OnOk result (state_of known.new ≡ after own.now (state_of known.old) (record_of.Closed number outcome.Agreed tick)) }
+    ensures state { OnOk result
+        (state_of known.new ≡ after own.now (state_of known.old) (record_of.Closed number outcome.Agreed tick)) }
     ensures tied { IsTied own.now.id pool.now known.new }
     ensures err { OnErr result (state_of known.new ≡ state_of known.old) }
     ensures kept { OnOk result (kept_of known.new.polls ≡ without_kept number (kept_of known.old.polls)) }
@@ -304,7 +327,8 @@ pub fn join(
     low: bool,
     repairs: Option<u16>,
 ) -> Result<(), OutOfMemory>
-    ensures state { OnOk result (state_of known.new ≡ after own.now (state_of known.old) (record_of.Joined poll au tick low repairs)) }
+    ensures state { OnOk result
+        (state_of known.new ≡ after own.now (state_of known.old) (record_of.Joined poll au tick low repairs)) }
     ensures tied { StaysTied known.old known.new }
     ensures err { OnErr result (state_of known.new ≡ state_of known.old) }
     ensures kept { known.new.polls ≡ known.old.polls }
@@ -326,7 +350,9 @@ pub fn commit(
     version: u32,
     kind: HashKind,
 ) -> Result<(), OutOfMemory>
-    ensures state { OnOk result (state_of known.new ≡ after own.now (state_of known.old) (record_of.Committed poll nonce.now version kind)) }
+    ensures state { OnOk result
+        (state_of known.new
+        ≡ after own.now (state_of known.old) (record_of.Committed poll nonce.now version kind)) }
     ensures tied { StaysTied known.old known.new }
     ensures err { OnErr result (state_of known.new ≡ state_of known.old) }
     ensures kept { known.new.polls ≡ known.old.polls }
@@ -347,7 +373,8 @@ pub fn cast(
     hashes: &Hashes,
 ) -> Result<(), OutOfMemory>
     requires { marks_left (voter_of known.old.sessions) ≡ true }
-    ensures state { OnOk result (state_of known.new ≡ after own.now (state_of known.old) (record_of.Voted poll hashes.now)) }
+    ensures state { OnOk result
+        (state_of known.new ≡ after own.now (state_of known.old) (record_of.Voted poll hashes.now)) }
     ensures tied { StaysTied known.old known.new }
     ensures err { OnErr result (state_of known.new ≡ state_of known.old) }
     ensures kept { known.new.polls ≡ known.old.polls }
@@ -366,7 +393,8 @@ pub fn serve(
     block: u16,
 ) -> Result<(), OutOfMemory>
     requires { MayServe poll block (voter_of known.old.sessions).cast }
-    ensures state { OnOk result (state_of known.new ≡ after own.now (state_of known.old) (record_of.Served poll block)) }
+    ensures state { OnOk result
+        (state_of known.new ≡ after own.now (state_of known.old) (record_of.Served poll block)) }
     ensures tied { StaysTied known.old known.new }
     ensures err { OnErr result (state_of known.new ≡ state_of known.old) }
     ensures kept { known.new.polls ≡ known.old.polls }
@@ -400,7 +428,8 @@ fn end(
 ) -> Result<(), OutOfMemory>
     requires tied { IsTied own.now.id pool.now known.old }
     requires fits { Fits own.now (state_of known.old) (record_of.Closed number how tick) }
-    ensures state { OnOk result (state_of known.new ≡ after own.now (state_of known.old) (record_of.Closed number how tick)) }
+    ensures state { OnOk result
+        (state_of known.new ≡ after own.now (state_of known.old) (record_of.Closed number how tick)) }
     ensures tied { IsTied own.now.id pool.now known.new }
     ensures err { OnErr result (state_of known.new ≡ state_of known.old) }
     ensures kept { OnOk result (kept_of known.new.polls ≡ without_kept number (kept_of known.old.polls)) }
@@ -437,7 +466,8 @@ pub fn apply<R: Wait>(
     ensures state { OnOk result (state_of known.new ≡ after own.now (state_of known.old) r.now) }
     ensures tied { IsTied own.now.id pool.now known.new }
     ensures err { OnErr result (IsSameButMarks (state_of known.old) (state_of known.new)) }
-    ensures kept { OnOk result (kept_of known.new.polls ≡ kept_after (state_of known.old).polls r.now (kept_of known.old.polls)) }
+    ensures kept { OnOk result
+        (kept_of known.new.polls ≡ kept_after (state_of known.old).polls r.now (kept_of known.old.polls)) }
 {
     match r {
         Record::Deposit { au, blocks } => deposit(alloc, rt, pool, own, known, *au, blocks),

@@ -13,8 +13,10 @@
 //! Ok(())
 //! ```
 //!
-//! These are the lines of the test `a_peer_that_is_told_things` (`lks_peer_trials`). Its `plan_of` reads a plan by
+//! These are the lines of the test `a_peer_that_is_told_things` (`lks_run_trials`). Its `plan_of` reads a plan by
 //! `read_script` (`lks_script`).
+//!
+//! Its trials: `lks_run_trials`, `peer`.
 #![tactic(auto)]
 
 mod faults;

@@ -91,8 +91,8 @@ fn open_as(
     adding(alloc, item, sends)
 }
 
-/// Opens a poll on a held AU with no running poll on it, while fewer than 8 run, and not within `pace` ticks of the last one
-/// on it.
+/// Opens a poll on a held AU with no running poll on it, while fewer than 8 run, and not within `pace` ticks of the
+/// last one on it.
 #[tactic(auto, unfolding(lks_law::specs::Reacting::open_in))]
 pub fn open(
     alloc: Global,

@@ -1,6 +1,7 @@
 //! A peer as others see it: what it goes by, and the state in which it is.
 
-ghost use Rattle.std.specs.Prelude.{◌≡◌, ◌≤◌, ◌<◌, ◌++◌, ℕ, List, IfOk, IfErr, IfSome, IsSome, is_some, Some, None, OnOk, nat_lt, length, find, option_map, map, slice_get};
+ghost use Rattle.std.specs.Prelude.{◌≡◌, ◌≤◌, ◌<◌, ◌++◌, ℕ, List, IfOk, IfErr, IfSome, IsSome, is_some, Some, None};
+ghost use Rattle.std.specs.Prelude.{OnOk, nat_lt, length, find, option_map, map, slice_get};
 ghost use Rattle.std.specs.List.{list_all, filter_map};
 ghost use Rattle.std.specs.Option.{option_copied};
 ghost use Rattle.lks_audit.specs.Kept.{kept_at, kept_of};
@@ -19,7 +20,8 @@ ghost use Rattle.lks_law.specs.Table.{react_on};
 ghost use Rattle.lks_law.specs.State.{after, after_all, blank, poll_at};
 ghost use Rattle.lks_law.specs.Turning.{ready_in, turn_in, ready_on, turns_on, has_inner_in};
 ghost use Rattle.lks_law.specs.World.{station_of, is_honest_at, honest_peer};
-ghost use Rattle.lks_peer.specs.Accepting.{input_of, is_ready_for, tag_for, works_in, IsJobOf, IsRefused, StaysTold, WhereStale};
+ghost use Rattle.lks_peer.specs.Accepting.{input_of, is_ready_for, tag_for, works_in, IsJobOf, IsRefused, StaysTold};
+ghost use Rattle.lks_peer.specs.Accepting.{WhereStale};
 ghost use Rattle.lks_peer.specs.Keeping.{Keeps, kept_after, kept_after_all};
 ghost use Rattle.lks_peer.specs.Knows.{state_of, IsFit, IsWell, IsMade, knowing_of};
 ghost use Rattle.lks_sessions.specs.Kept.{voter_of};
@@ -37,8 +39,8 @@ use lks_base::{
     has_member,
 };
 use lks_blocks::{BlockPool, PoolMark};
+use lks_choice::References;
 use lks_poller::PollSession;
-use lks_refs::References;
 use lks_sessions::Sessions;
 use lks_versions::{PinTag, Place};
 use lks_work::{Job, JobDone, JobName};
@@ -83,7 +85,8 @@ fn note<R: Wait>(
     requires well { IsWell own.now pool.now known.old }
     requires fits { Fits own.now (state_of known.old) r.now }
     ensures state { OnOk result (state_of known.new ≡ after own.now (state_of known.old) r.now) }
-    ensures kept { OnOk result (kept_of known.new.polls ≡ kept_after (state_of known.old).polls r.now (kept_of known.old.polls)) }
+    ensures kept { OnOk result
+        (kept_of known.new.polls ≡ kept_after (state_of known.old).polls r.now (kept_of known.old.polls)) }
     ensures well { IsWell own.now pool.now known.new }
 {
     apply(alloc, rt, pool, own, known, r)
@@ -101,7 +104,9 @@ fn apply_all<R: Wait>(
     requires well { IsWell own.now pool.now known.old }
     requires fits { AreFitting own.now (state_of known.old) records.now }
     ensures state { OnOk result (state_of known.new ≡ after_all own.now (state_of known.old) records.now) }
-    ensures kept { OnOk result (kept_of known.new.polls ≡ kept_after_all own.now (state_of known.old) records.now (kept_of known.old.polls)) }
+    ensures kept { OnOk result
+        (kept_of known.new.polls
+        ≡ kept_after_all own.now (state_of known.old) records.now (kept_of known.old.polls)) }
     ensures well { IsWell own.now pool.now known.new }
 {
     for r in records {
@@ -116,8 +121,8 @@ fn have_versions_left(copies: &[Held]) -> bool
     copies.iter().all(|held| held.versions.current() < u32::MAX)
 }
 
-/// Whether a poll, a version and a vote more can be numbered in 32 bits. A journal of fewer than 4,294,967,295 records leaves that
-/// room (`every_journal_fits` of `lks_law`).
+/// Whether a poll, a version and a vote more can be numbered in 32 bits. A journal of fewer than 4,294,967,295 records
+/// leaves that room (`every_journal_fits` of `lks_law`).
 #[tactic(auto, using(crate::proofs::Listing::left_seen))]
 fn has_room(known: &Known) -> bool
     ensures { result ≡ fitting.has_room (state_of known.now) }
@@ -179,7 +184,10 @@ fn find_tally(id: PeerId, polls: &[PollSession], k: u32) -> Option<PeerStep>
 
 #[tactic(auto, using(crate::proofs::Listing::ready_first))]
 fn find_ready(id: PeerId, known: &Known, k: u32) -> Option<PeerStep>
-    ensures { result ≡ slice_get (map (λ p. steps.Work id p.committed.joined.poll) (voter_of known.now.sessions).pinned ++ filter_map (ready_in id) (polls_of known.now.polls)) k }
+    ensures { result
+        ≡ slice_get
+        (map (λ p. steps.Work id p.committed.joined.poll) (voter_of known.now.sessions).pinned
+        ++ filter_map (ready_in id) (polls_of known.now.polls)) k }
 {
     let votes = known.sessions.pinned_count();
     if (k as usize) < votes {
@@ -220,7 +228,14 @@ impl Model for Peer {
 
     ghost Value = { Knowing };
 
-    ghost view = { λ a. record { own = a.own; pool = a.mark; state = state_of a.known; kept = kept_of a.known.polls; places = a.places } };
+    ghost view = { λ a.
+        record {
+          own = a.own;
+          pool = a.mark;
+          state = state_of a.known;
+          kept = kept_of a.known.polls;
+          places = a.places;
+        } };
 
     ghost invariant = { λ a. IsWell a.own a.mark a.known };
 }
@@ -259,8 +274,13 @@ impl Peer {
     ) -> Result<Peer, OutOfMemory>
         requires good { plan_fault plan.now ≡ None }
         requires honest { IsSome (honest_peer id plan.now) }
-        requires fits { (p : Planned) → honest_peer id plan.now ≡ Some p → AreFitting (station_of plan.now p) (blank (station_of plan.now p)) list.now }
-        ensures { IfOk result (λ peer. option_map (λ p. knowing_of pool.now (record { own = station_of plan.now p; journal = list.now })) (honest_peer id plan.now) ≡ Some peer) }
+        requires fits { (p : Planned) → honest_peer id plan.now ≡ Some p
+            → AreFitting (station_of plan.now p) (blank (station_of plan.now p)) list.now }
+        ensures { IfOk result
+            (λ peer. option_map
+            (λ p. knowing_of pool.now (record { own = station_of plan.now p; journal = list.now }))
+            (honest_peer id plan.now)
+            ≡ Some peer) }
     {
         let Some(planned) = find_honest(plan.peers.as_slice(), id) else {
             unreachable!()
@@ -269,9 +289,9 @@ impl Peer {
         Peer::begin(alloc, rt, pool, own, list)
     }
 
-    /// What the peer adds to its journal and sends at this tick. It is afterwards in the state that these records make of the
-    /// one before. After a refusal it is to be restored. It is refused, too, where nothing more can be numbered in 32 bits, to which
-    /// no history comes.
+    /// What the peer adds to its journal and sends at this tick. It is afterwards in the state that these records make
+    /// of the one before. After a refusal it is to be restored. It is refused, too, where nothing more can be numbered
+    /// in 32 bits, to which no history comes.
     pub fn step<R: Wait>(
         &mut self,
         rt: &R,
@@ -285,7 +305,8 @@ impl Peer {
         ensures state { IfOk result (λ r. self.new.state ≡ after_all self.old.own self.old.state r.records) }
         ensures fits { IfOk result (λ r. AreFitting self.old.own self.old.state r.records) }
         ensures fit { IsFit self.old.own self.old.state }
-        ensures kept { IfOk result (λ r. Keeps self.old.own self.old.state input.now r.records self.old.kept self.new.kept) }
+        ensures kept { IfOk result
+            (λ r. Keeps self.old.own self.old.state input.now r.records self.old.kept self.new.kept) }
         ensures own { self.new.own ≡ self.old.own }
         ensures pool { self.new.pool ≡ self.old.pool }
         ensures places { self.new.places ≡ self.old.places }
@@ -312,20 +333,22 @@ impl Peer {
         Ok(())
     }
 
-    /// The first work for which the peer is ready and whose job is none of these: the votes of its sessions in order of their
-    /// commitments, and then the tallies in order of its running polls.
+    /// The first work for which the peer is ready and whose job is none of these: the votes of its sessions in order of
+    /// their commitments, and then the tallies in order of its running polls.
     pub fn work_left(&self, out: &[JobName]) -> Option<JobName>
         ensures { result ≡ find (is_left out.now) (works_in self.now.own self.now.state) }
     {
         jobs::work_left(self.own.id, &self.known, out)
     }
 
-    /// The work of this name as a job, to be hashed elsewhere: a vote over the version to which the peer committed, or the
-    /// votes of a poll of its own with the newest version of its copy. `None` exactly where the peer isn't ready for it.
+    /// The work of this name as a job, to be hashed elsewhere: a vote over the version to which the peer committed, or
+    /// the votes of a poll of its own with the newest version of its copy. `None` exactly where the peer isn't ready
+    /// for it.
     pub fn job(&mut self, name: &JobName) -> Result<Option<Job>, OutOfMemory>
         ensures ready { IfOk result (λ o. is_some o ≡ is_ready_for self.old.own self.old.state name.now) }
         ensures name { IfOk result (λ o. IfSome o (λ j. name_of j ≡ name.now)) }
-        ensures job { IfOk result (λ o. IfSome o (IsJobOf self.old.own self.old.state self.old.kept self.new.places name.now)) }
+        ensures job { IfOk result
+            (λ o. IfSome o (IsJobOf self.old.own self.old.state self.old.kept self.new.places name.now)) }
         ensures of { IfOk result (λ o. IfSome o (λ j. AllOf self.old.pool (refs_of j))) }
         ensures same { self.new ≡ record self.old { places = self.new.places } }
         ensures told { StaysTold self.old.places self.new.places }
@@ -363,7 +386,8 @@ impl Peer {
         ensures state { IfOk result (λ r. self.new.state ≡ after_all self.old.own self.old.state r.records) }
         ensures fits { IfOk result (λ r. AreFitting self.old.own self.old.state r.records) }
         ensures fit { IsFit self.old.own self.old.state }
-        ensures kept { IfOk result (λ r. Keeps self.old.own self.old.state (input_of done) r.records self.old.kept self.new.kept) }
+        ensures kept { IfOk result
+            (λ r. Keeps self.old.own self.old.state (input_of done) r.records self.old.kept self.new.kept) }
         ensures own { self.new.own ≡ self.old.own }
         ensures pool { self.new.pool ≡ self.old.pool }
         ensures places { self.new.places ≡ self.old.places }
@@ -377,10 +401,10 @@ impl Peer {
         Ok(reaction)
     }
 
-    /// What the peer adds to its journal and sends at this tick for work that was hashed elsewhere: what `step` does for this
-    /// work. Where the result isn't of the session or poll as it is now, though it is of the same version, the peer hashes for
-    /// itself. `Stale` exactly where it isn't ready for such work, or is so for another version, and nothing changes then.
-    /// After want of memory it is to be restored.
+    /// What the peer adds to its journal and sends at this tick for work that was hashed elsewhere: what `step` does
+    /// for this work. Where the result isn't of the session or poll as it is now, though it is of the same version, the
+    /// peer hashes for itself. `Stale` exactly where it isn't ready for such work, or is so for another version, and
+    /// nothing changes then. After want of memory it is to be restored.
     pub fn accept<R: Wait>(
         &mut self,
         rt: &R,
@@ -394,13 +418,16 @@ impl Peer {
         ensures state { IfOk result (λ r. self.new.state ≡ after_all self.old.own self.old.state r.records) }
         ensures fits { IfOk result (λ r. AreFitting self.old.own self.old.state r.records) }
         ensures fit { IsFit self.old.own self.old.state }
-        ensures kept { IfOk result (λ r. Keeps self.old.own self.old.state (input_of done) r.records self.old.kept self.new.kept) }
+        ensures kept { IfOk result
+            (λ r. Keeps self.old.own self.old.state (input_of done) r.records self.old.kept self.new.kept) }
         ensures own { self.new.own ≡ self.old.own }
         ensures pool { self.new.pool ≡ self.old.pool }
         ensures told { StaysTold self.old.places self.new.places }
         ensures ready { IfOk result (λ _. tag_for self.old.state self.new.places done ≡ Some (tag_done done)) }
-        ensures stale { IfErr result (λ fault. IsRefused (tag_for self.old.state self.new.places done) (tag_done done) fault) }
-        ensures same { IfErr result (λ fault. WhereStale fault (self.new ≡ record self.old { places = self.new.places })) }
+        ensures stale { IfErr result
+            (λ fault. IsRefused (tag_for self.old.state self.new.places done) (tag_done done) fault) }
+        ensures same { IfErr result
+            (λ fault. WhereStale fault (self.new ≡ record self.old { places = self.new.places })) }
     {
         self.tell()?;
         let expected = jobs::tag_for(&self.known, self.places.as_slice(), &done);
@@ -421,8 +448,8 @@ impl Peer {
         find_ready(self.own.id, &self.known, k)
     }
 
-    /// The `k`-th of the steps that the peer takes in its running polls when nothing else is due, counted from 0 in their
-    /// order: a request is given up, else the outer circle is invited, else the poll is shut.
+    /// The `k`-th of the steps that the peer takes in its running polls when nothing else is due, counted from 0 in
+    /// their order: a request is given up, else the outer circle is invited, else the poll is shut.
     #[tactic(auto, unfolding(lks_law::specs::Turning::turns_on), using(crate::proofs::Listing::steps_seen))]
     pub fn turn(&self, k: u32) -> Option<PeerStep>
         ensures { result ≡ slice_get (turns_on self.now.own self.now.state) k }

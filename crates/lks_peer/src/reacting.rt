@@ -4,7 +4,7 @@ ghost use Rattle.std.specs.Prelude.{◌≡◌, ◌<◌, IfOk};
 ghost use Rattle.lks_law.specs.Fitting.{most_numbered};
 ghost use Rattle.lks_law.specs.Table.{react_on, receive_in};
 ghost use Rattle.lks_law.specs.Voting as voting;
-ghost use Rattle.lks_law.specs.Voting.{named, on_tune};
+ghost use Rattle.lks_law.specs.Voting.{poll_named, on_tune};
 ghost use Rattle.lks_audit.specs.Kept.{kept_of};
 ghost use Rattle.lks_blocks.specs.Block.{AllOf};
 ghost use Rattle.lks_peer.specs.Accepting.{input_of};
@@ -91,7 +91,7 @@ fn hear(
 
 /// A poll of this peer.
 fn name(poller: PeerId, number: u32) -> PollName
-    ensures { result ≡ named poller number }
+    ensures { result ≡ poll_named poller number }
 {
     PollName { poller, number }
 }
@@ -142,7 +142,8 @@ pub fn react(
     requires room { known.old.openings < most_numbered }
     ensures reaction { IfOk result (λ r. r ≡ react_on own.now (state_of known.old) tick input.now) }
     ensures seen { state_of known.new ≡ state_of known.old }
-    ensures kept { kept_of known.new.polls ≡ kept_deciding own.now (state_of known.old) input.now (kept_of known.old.polls) }
+    ensures kept { kept_of known.new.polls
+        ≡ kept_deciding own.now (state_of known.old) input.now (kept_of known.old.polls) }
     ensures tied { IsTied own.now.id pool.now known.new }
 {
     let polls = known.polls.as_slice();
@@ -186,7 +187,8 @@ pub fn react_done(
     requires refs { AllOf pool.now (refs_done done) }
     ensures reaction { IfOk result (λ r. r ≡ react_on own.now (state_of known.old) tick (input_of done)) }
     ensures seen { state_of known.new ≡ state_of known.old }
-    ensures kept { kept_of known.new.polls ≡ kept_deciding own.now (state_of known.old) (input_of done) (kept_of known.old.polls) }
+    ensures kept { kept_of known.new.polls
+        ≡ kept_deciding own.now (state_of known.old) (input_of done) (kept_of known.old.polls) }
     ensures tied { IsTied own.now.id pool.now known.new }
 {
     match done {

@@ -2,7 +2,8 @@
 
 ghost use Rattle.std.specs.Prelude.{◌≡◌, ◌≤◌, ℕ, List, All, IfOk, length};
 ghost use Rattle.lks_base.specs.declared.limits.TheConstants.{MOST_PROOF_BYTES};
-ghost use Rattle.lks_law.specs.Reacting.{for_poll, widen_in, shut_in, nudge_in, give_up_in, challenge_in, nominate_in, vote_in_poll};
+ghost use Rattle.lks_law.specs.Reacting.{for_poll, widen_in, shut_in, nudge_in, give_up_in, challenge_in, nominate_in};
+ghost use Rattle.lks_law.specs.Reacting.{vote_in_poll};
 ghost use Rattle.lks_law.specs.State.{Copy, poll_at};
 ghost use Rattle.lks_audit.specs.Seen.{polls_of, IsOn};
 ghost use Rattle.lks_peer.specs.Knows.{AsksSmall};
@@ -110,7 +111,8 @@ pub fn vote(
     judged: Judged,
 ) -> Result<Reaction, OutOfMemory>
     ensures { (id : ℕ) (copies : List Copy) → All (IsOn id copies) polls.now
-        → IfOk result (λ r. r ≡ for_poll (poll_at number (polls_of polls.now)) (vote_in_poll from hashes.now judged copies)) }
+        → IfOk result
+        (λ r. r ≡ for_poll (poll_at number (polls_of polls.now)) (vote_in_poll from hashes.now judged copies)) }
 {
     match find_poll(polls, number) {
         Some(poll) => voting::vote(alloc, poll, from, hashes, judged),

@@ -52,8 +52,9 @@ IsKept (Loss b) kept = b < kept
 IsKept (Split b) kept = Unit {0}
 
 -- what the inner votes say at b of the copy with these bytes there
-abbrev pub said : Polled → ℕ → List ℕ → List (List ℕ) → At
-said s b bytes blocks = verdict_at s.tally.limits.minority s.tally.ballot s.tally.votes (slice_set blocks b bytes) b
+abbrev pub said_on_block : Polled → ℕ → List ℕ → List (List ℕ) → At
+said_on_block s b bytes blocks =
+    verdict_at s.tally.limits.minority s.tally.ballot s.tally.votes (slice_set blocks b bytes) b
 
 -- the answer to a block with which the votes say this of the copy
 abbrev pub judgment : At → Answer
@@ -63,7 +64,8 @@ judgment at.Split = Bad
 
 -- A repair answers the request to its sender for its block. It is taken where the votes are for the copy with it.
 abbrev pub answer_of : Polled → ℕ → ℕ → List ℕ → List (List ℕ) → Answer
-answer_of s from b bytes blocks = if is_request b from (poll_of s).request then judgment (said s b bytes blocks) else NotAsked
+answer_of s from b bytes blocks =
+    if is_request b from (poll_of s).request then judgment (said_on_block s b bytes blocks) else NotAsked
 
 -- the outer voters that are for the copy at its last block
 abbrev pub outer_for : Polled → List (List ℕ) → List ℕ

@@ -1,6 +1,6 @@
 -- The poll that a session runs, over which the rules are said.
 use Rattle.std.specs.Prelude.{ℕ, Some, map, option_map}
-use Rattle.lks_repair.specs.Asking.{awaited}
+use Rattle.lks_choice.specs.Asking.{awaited}
 use Rattle.lks_tally.specs.Running.{Nomination, Poll, Request}
 use Rattle.lks_poller.specs.Polling.{Polled}
 use Rattle.lks_poller.specs.declared.stages.Nomination.{Nomination as Nominated}
@@ -17,7 +17,14 @@ abbrev pub poll_of : Polled → Poll
 poll_of s =
     record {
       number = s.tally.ballot.poll.number;
-      opening = record { au = s.tally.ballot.au; nonce = s.tally.ballot.nonce; inner = s.inner; limits = Some s.tally.limits; kind = s.tally.ballot.kind };
+      opening =
+          record {
+            au = s.tally.ballot.au;
+            nonce = s.tally.ballot.nonce;
+            inner = s.inner;
+            limits = Some s.tally.limits;
+            kind = s.tally.ballot.kind;
+          };
       nominations = map nomination_of s.nominations;
       outer = s.outer;
       inner_votes = s.tally.votes;

@@ -2,7 +2,7 @@
 use Rattle.std.specs.Prelude.{◌≡◌, ◌<◌, ◌≤◌, ℕ, Bool, true, false, ◌||◌, Some, length}
 use Rattle.lks_base.specs.Checking.{has_member}
 use Rattle.lks_base.specs.declared.limits.TheConstants.{MOST_CIRCLE}
-use Rattle.lks_repair.specs.Asking.{awaited}
+use Rattle.lks_choice.specs.Asking.{awaited}
 use Rattle.lks_tally.specs.Distinct.{AreDistinct}
 use Rattle.lks_tally.specs.Keeping as keeping
 use Rattle.lks_tally.specs.Keeping.{IsReserved}
@@ -12,9 +12,9 @@ use Rattle.lks_poller.specs.Polling.{Polled}
 abbrev pub is_voter : Polled → ℕ → Bool
 is_voter s v = keeping.has_voted s.tally.votes v || keeping.has_voted s.outer_votes v
 
--- An inner circle that is no larger than a circle may be, with room for its votes; votes of distinct voters, each counted
--- exactly where its voter is an inner one; voters that are those of the votes. Blocks are asked for once voting ended, and
--- are among those that the AU has.
+-- An inner circle that is no larger than a circle may be, with room for its votes; votes of distinct voters, each
+-- counted exactly where its voter is an inner one; voters that are those of the votes. Blocks are asked for once voting
+-- ended, and are among those that the AU has.
 pub record IsSound (s : Polled) : Type 0 where
   pub few : length s.inner ≤ MOST_CIRCLE
   pub reserved : IsReserved s.tally

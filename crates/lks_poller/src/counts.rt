@@ -4,7 +4,7 @@ ghost use Rattle.std.specs.Prelude.{◌≡◌, ◌<◌, ◌≤◌, ◌++◌, ◌
 ghost use Rattle.lks_base.specs.declared.limits.TheConstants.{MOST_CIRCLE};
 ghost use Rattle.lks_hash.specs.Counting.{Opens};
 ghost use Rattle.lks_tally.specs.Counting.{verdict_at, verdict_on, voters_for};
-ghost use Rattle.lks_tally.specs.Keeping.{IsCacheOf, IsReserved, IsSame, KeepsRooms, has_voted, voted, kept_after};
+ghost use Rattle.lks_tally.specs.Keeping.{IsCacheOf, IsReserved, IsSame, KeepsRooms, has_voted, vote_added, kept_after};
 
 use lks_base::{Contents, Hashes, Ids, OutOfMemory, PeerId};
 use lks_hash::Steps;
@@ -22,7 +22,7 @@ pub fn add_inner(
     requires new { has_voted tally.old.votes voter ≡ false }
     requires whole { length hashes ≡ tally.old.ballot.count }
     requires room { length tally.old.votes < tally.old.vote_room }
-    ensures tally { OnOk result (tally.new ≡ voted tally.old (record { voter = voter; hashes = hashes })) }
+    ensures tally { OnOk result (tally.new ≡ vote_added tally.old (record { voter = voter; hashes = hashes })) }
     ensures voters { OnOk result (voters.new.items ≡ voters.old.items ++ voter ∷ []) }
     ensures err { OnErr result (tally.new ≡ tally.old) }
     ensures err_voters { OnErr result (voters.new.items ≡ voters.old.items) }
@@ -61,7 +61,9 @@ pub fn verdict_counted<C: Contents, L: Ledger>(tally: &mut Tally, c: &C, blank: 
     requires few { length tally.old.votes ≤ MOST_CIRCLE }
     requires count { length (C.blocks c.now) ≡ tally.old.ballot.count }
     requires cache { IsCacheOf tally.old (C.blocks c.now) }
-    ensures verdict { result ≡ verdict_on tally.old.limits.quorum tally.old.limits.minority tally.old.ballot tally.old.votes (C.blocks c.now) }
+    ensures verdict { result
+        ≡ verdict_on tally.old.limits.quorum tally.old.limits.minority tally.old.ballot tally.old.votes
+        (C.blocks c.now) }
     ensures same { IsSame tally.new tally.old }
     ensures rooms { KeepsRooms tally.old tally.new }
     ensures kept { tally.new.kept ≡ kept_after result tally.old.kept tally.old.ballot.count }
@@ -83,7 +85,9 @@ pub fn at_counted<C: Contents, L: Ledger>(
     requires within { b < tally.old.ballot.count }
     requires count { length (C.blocks c.now) ≡ tally.old.ballot.count }
     requires cache { IsCacheOf tally.old (C.blocks c.now) }
-    ensures at { result ≡ verdict_at tally.old.limits.minority tally.old.ballot tally.old.votes (slice_set (C.blocks c.now) b bytes.now) b }
+    ensures at { result
+        ≡ verdict_at tally.old.limits.minority tally.old.ballot tally.old.votes
+        (slice_set (C.blocks c.now) b bytes.now) b }
     ensures same { tally.new ≡ tally.old }
 {
     tally.try_block(c, b, bytes, &mut Steps::<L>::open(blank))

@@ -1,8 +1,8 @@
 //! The state of one poll that its poller runs (Maniatis et al., ACM TOCS 23(1), 2005): whom it invited, who nominated
 //! peers and voted, whether voting ended, and whom it asked for a damaged block.
 //!
-//! Only votes of the inner circle are counted. Those of the outer circle, which the inner peers' nominations make up, tell
-//! the poller whom to take into its reference list.
+//! Only votes of the inner circle are counted. Those of the outer circle, which the inner peers' nominations make up,
+//! tell the poller whom to take into its reference list.
 //!
 //! ```rust
 //! use lks_base::{Contents, OutOfMemory};
@@ -21,6 +21,8 @@
 //!     Ok(Some(session.judge(verdict)?))
 //! }
 //! ```
+//!
+//! Its trials: `lks_rule_trials`, `poller`.
 #![tactic(auto)]
 
 mod counts;

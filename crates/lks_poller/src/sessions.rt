@@ -1,17 +1,20 @@
 //! The state of a poll.
 
-ghost use Rattle.std.specs.Prelude.{◌≡◌, ◌==◌, not, ◌<◌, ◌≤◌, ◌↔◌, IsTrue, ℕ, List, [], true, false, length, unwrap_or, option_copied, if◌then◌else◌, IfOk, OnOk, OnErr, IsNone};
+ghost use Rattle.std.specs.Prelude.{◌≡◌, ◌==◌, not, ◌<◌, ◌≤◌, ◌↔◌, IsTrue, ℕ, List, [], true, false, length};
+ghost use Rattle.std.specs.Prelude.{unwrap_or, option_copied, if◌then◌else◌, IfOk, OnOk, OnErr, IsNone};
 ghost use Rattle.std.specs.List.{list_any};
 ghost use Rattle.lks_base.specs.Checking.{has_member as is_member};
 ghost use Rattle.lks_base.specs.declared.limits.TheConstants.{MOST_CIRCLE};
 ghost use Rattle.lks_base.specs.declared.names.Limits.{Limits as LimitsOf};
-ghost use Rattle.lks_repair.specs.Asking.{awaited};
+ghost use Rattle.lks_choice.specs.Asking.{awaited};
 ghost use Rattle.lks_tally.specs.Counting.{verdict_on, voters_against};
 ghost use Rattle.lks_tally.specs.declared.ballots.Ballot.{Ballot as BallotOf};
-ghost use Rattle.lks_tally.specs.Running.{has_nominated_in, is_invited_to, is_request, may_nominate, may_prove, may_tally, may_vote, may_widen, silent_in, supplied_by};
-ghost use Rattle.lks_tally.specs.Keeping.{IsCacheOf, IsReserved, IsSame, forgotten, kept_after, roomed_as};
+ghost use Rattle.lks_tally.specs.Running.{has_nominated_in, is_invited_to, is_request, may_nominate, may_prove};
+ghost use Rattle.lks_tally.specs.Running.{may_tally, may_vote, may_widen, silent_in, supplied_by};
+ghost use Rattle.lks_tally.specs.Keeping.{IsCacheOf, IsReserved, IsSame, hashes_forgotten, kept_after, roomed_as};
 ghost use Rattle.lks_poller.specs.Polling as polling;
-ghost use Rattle.lks_poller.specs.Polling.{begun, nominated, widened, voted, shut_now, ended, moved, released, replaced, answered};
+ghost use Rattle.lks_poller.specs.Polling.{begun_session, nominees_noted, outer_invited, vote_taken, shut_now};
+ghost use Rattle.lks_poller.specs.Polling.{voting_ended, moved_on, request_released, block_replaced, answer_taken};
 ghost use Rattle.lks_poller.specs.Rules as rules_of;
 ghost use Rattle.lks_poller.specs.Rules.{stage_of, next_of, AsksWithin, IsAt, IsKept, answer_of};
 ghost use Rattle.lks_poller.specs.Running.{poll_of};
@@ -24,7 +27,7 @@ use lks_base::{
     AuId, Contents, HashKind, Hashes, Ids, Limits, OutOfMemory, Outcome, PeerId, PollName, Rules,
     has_member,
 };
-use lks_repair::Suppliers;
+use lks_choice::Suppliers;
 use lks_tally::{At, Ballot, Tally, Verdict, Vote};
 use std::alloc::Global;
 use std::marker::{Brand, Model};
@@ -33,9 +36,9 @@ use std::sync::ledger::Blank;
 /// A poll as its poller runs it.
 ///
 /// [`PollSession::nominate`], [`widen`](PollSession::widen), [`vote`](PollSession::vote), [`shut`](PollSession::shut),
-/// [`judge`](PollSession::judge) and [`answer`](PollSession::answer) hold by the rules: where its rule doesn't hold, a call
-/// says so and changes nothing. Each is made of calls that only read, by which a caller decides, and of calls that only
-/// note what was decided, by which it can also build a session again. Want of memory changes nothing.
+/// [`judge`](PollSession::judge) and [`answer`](PollSession::answer) hold by the rules: where its rule doesn't hold, a
+/// call says so and changes nothing. Each is made of calls that only read, by which a caller decides, and of calls that
+/// only note what was decided, by which it can also build a session again. Want of memory changes nothing.
 #[derive(Drop)]
 pub struct PollSession {
     alloc: Global,
@@ -64,7 +67,8 @@ impl Model for PollSession {
 }
 
 impl PollSession {
-    /// A poll whose inner circle is invited. The rules have the numbers of this poll; `count` is that of the AU's blocks.
+    /// A poll whose inner circle is invited. The rules have the numbers of this poll; `count` is that of the AU's
+    /// blocks.
     pub fn new(
         alloc: Global,
         rules: &Rules,
@@ -79,7 +83,7 @@ impl PollSession {
         requires blocks { 1 ≤ count }
         ensures { let ballot : BallotOf = record { poll = poll; au = au; kind = kind; nonce = nonce; count = count } in
             let limits : LimitsOf = record { quorum = rules.now.quorum; minority = rules.now.minority } in
-            IfOk result (λ s. s ≡ begun ballot limits inner s.tally.room s.tally.vote_room) }
+            IfOk result (λ s. s ≡ begun_session ballot limits inner s.tally.room s.tally.vote_room) }
     {
         let mut tally = Tally::new(alloc, rules, poll, au, kind, nonce, count);
         tally.reserve()?;
@@ -291,7 +295,8 @@ impl PollSession {
         !self.shut && self.is_invited(from) && !self.has_voted(from)
     }
 
-    /// Whether this peer may vote with so many hashes: an invited one, once, while votes are open, with one for each block.
+    /// Whether this peer may vote with so many hashes: an invited one, once, while votes are open, with one for each
+    /// block.
     pub fn may_vote(&self, from: PeerId, hashes: usize) -> bool
         ensures { result ≡ may_vote (poll_of self.now) from hashes self.now.tally.ballot.count }
     {
@@ -318,7 +323,7 @@ impl PollSession {
 
     /// Notes that a peer nominated these.
     pub fn nominated(&mut self, voter: PeerId, nominees: Ids) -> Result<(), OutOfMemory>
-        ensures ok { OnOk result (self.new ≡ nominated self.old voter nominees) }
+        ensures ok { OnOk result (self.new ≡ nominees_noted self.old voter nominees) }
         ensures err { OnErr result (self.new ≡ self.old) }
     {
         self.nominations.push(Nomination { voter, nominees })?;
@@ -327,7 +332,7 @@ impl PollSession {
 
     /// Notes that the outer circle is invited. The one that was invited first stays.
     pub fn widened(&mut self, outer: Ids)
-        ensures { self.new ≡ widened self.old outer }
+        ensures { self.new ≡ outer_invited self.old outer }
     {
         if self.outer.is_none() {
             self.outer = Some(outer);
@@ -338,7 +343,7 @@ impl PollSession {
     pub fn voted(&mut self, voter: PeerId, hashes: Hashes) -> Result<(), OutOfMemory>
         requires new { is_member self.old.voters voter ≡ false }
         requires whole { length hashes ≡ self.old.tally.ballot.count }
-        ensures ok { OnOk result (self.new ≡ voted self.old voter hashes) }
+        ensures ok { OnOk result (self.new ≡ vote_taken self.old voter hashes) }
         ensures err { OnErr result (self.new ≡ self.old) }
     {
         if has_member(self.inner.as_slice(), voter) {
@@ -360,7 +365,7 @@ impl PollSession {
     /// Notes that the poll ended, after voting did.
     pub fn closed(&mut self)
         requires { self.old.shut ≡ true }
-        ensures { self.new ≡ polling.closed self.old }
+        ensures { self.new ≡ polling.session_closed self.old }
     {
         self.closed = true;
     }
@@ -370,7 +375,7 @@ impl PollSession {
         requires ended { self.old.shut ≡ true }
         requires idle { self.old.suppliers.waiting ≡ false }
         requires within { block < self.old.tally.ballot.count }
-        ensures ok { OnOk result (self.new ≡ polling.asked self.old block voter) }
+        ensures ok { OnOk result (self.new ≡ polling.supplier_asked self.old block voter) }
         ensures err { OnErr result (self.new ≡ self.old) }
     {
         self.suppliers.asked(block, voter)
@@ -378,21 +383,21 @@ impl PollSession {
 
     /// Notes that nobody is waited for any more.
     pub fn answered(&mut self)
-        ensures { self.new ≡ released self.old }
+        ensures { self.new ≡ request_released self.old }
     {
         self.suppliers.answered();
     }
 
     /// Forgets the running hashes from block `b` on, as the copy changed there.
     pub fn forget_from(&mut self, b: u16)
-        ensures { self.new ≡ record self.old { tally = forgotten b self.old.tally } }
+        ensures { self.new ≡ record self.old { tally = hashes_forgotten b self.old.tally } }
     {
         self.tally.forget_from(b);
     }
 
     /// Notes that block `b` of the copy was replaced by the one that was waited for.
     pub fn replaced(&mut self, b: u16)
-        ensures { self.new ≡ replaced self.old b }
+        ensures { self.new ≡ block_replaced self.old b }
     {
         self.answered();
         self.forget_from(b);
@@ -401,7 +406,8 @@ impl PollSession {
     /// Takes an inner peer's nomination, its first one.
     pub fn nominate(&mut self, from: PeerId, list: Ids) -> Result<bool, OutOfMemory>
         ensures taken { IfOk result (λ taken. taken ≡ may_nominate (poll_of self.old) from) }
-        ensures after { IfOk result (λ taken. self.new ≡ (if taken then nominated self.old from list else self.old)) }
+        ensures after { IfOk result
+            (λ taken. self.new ≡ (if taken then nominees_noted self.old from list else self.old)) }
         ensures err { OnErr result (self.new ≡ self.old) }
     {
         if !self.may_nominate(from) {
@@ -414,7 +420,7 @@ impl PollSession {
     /// Invites the outer circle.
     pub fn widen(&mut self, outer: Ids) -> bool
         ensures taken { result ≡ may_widen (poll_of self.old) }
-        ensures after { self.new ≡ (if result then widened self.old outer else self.old) }
+        ensures after { self.new ≡ (if result then outer_invited self.old outer else self.old) }
     {
         if !self.may_widen() {
             return false;
@@ -426,8 +432,10 @@ impl PollSession {
     /// Takes the vote of an invited peer, its first one.
     #[tactic(auto, using(crate::proofs::Soundness::vote_new, crate::proofs::Soundness::vote_whole))]
     pub fn vote(&mut self, from: PeerId, hashes: Hashes) -> Result<bool, OutOfMemory>
-        ensures taken { IfOk result (λ taken. taken ≡ may_vote (poll_of self.old) from (length hashes) self.old.tally.ballot.count) }
-        ensures after { IfOk result (λ taken. self.new ≡ (if taken then voted self.old from hashes else self.old)) }
+        ensures taken { IfOk result
+            (λ taken. taken ≡ may_vote (poll_of self.old) from (length hashes) self.old.tally.ballot.count) }
+        ensures after { IfOk result
+            (λ taken. self.new ≡ (if taken then vote_taken self.old from hashes else self.old)) }
         ensures err { OnErr result (self.new ≡ self.old) }
     {
         if !self.may_vote(from, hashes.as_slice().len()) {
@@ -440,7 +448,7 @@ impl PollSession {
     /// Ends voting. A poll with fewer inner votes than its quorum ends with it, as inquorate.
     pub fn shut(&mut self) -> bool
         ensures taken { result ≡ not self.old.shut }
-        ensures after { self.new ≡ (if result then ended self.old else self.old) }
+        ensures after { self.new ≡ (if result then voting_ended self.old else self.old) }
     {
         if self.shut {
             return false;
@@ -454,7 +462,8 @@ impl PollSession {
     pub fn verdict<C: Contents>(&mut self, c: &C) -> Verdict
         requires count { length (C.blocks c.now) ≡ self.old.tally.ballot.count }
         requires cache { IsCacheOf self.old.tally (C.blocks c.now) }
-        ensures verdict { let t = self.old.tally in result ≡ verdict_on t.limits.quorum t.limits.minority t.ballot t.votes (C.blocks c.now) }
+        ensures verdict { let t = self.old.tally in
+            result ≡ verdict_on t.limits.quorum t.limits.minority t.ballot t.votes (C.blocks c.now) }
         ensures rest { self.new ≡ record self.old { tally = self.new.tally } }
         ensures same { IsSame self.new.tally self.old.tally }
         ensures kept { self.new.tally.kept ≡ kept_after result self.old.tally.kept self.old.tally.ballot.count }
@@ -502,7 +511,8 @@ impl PollSession {
         self.tally.copy(self.alloc)
     }
 
-    /// Whether a tally is of the same poll as the session's, with the same AU, kind of hash, nonce, count, numbers and votes.
+    /// Whether a tally is of the same poll as the session's, with the same AU, kind of hash, nonce, count, numbers and
+    /// votes.
     pub fn is_same(&self, t: &Tally) -> bool
         ensures { IsTrue result ↔ IsSame t.now self.now.tally }
     {
@@ -529,8 +539,8 @@ impl PollSession {
         Ok(self.suppliers.next(block, against.as_slice()))
     }
 
-    /// What follows from the last verdict on a copy: the poll ends, or a voter against the block at which the copy lost is
-    /// asked for it.
+    /// What follows from the last verdict on a copy: the poll ends, or a voter against the block at which the copy lost
+    /// is asked for it.
     pub fn next_of(&self, v: Verdict) -> Result<Next, OutOfMemory>
         requires { IsKept v self.now.tally.kept }
         ensures next { (blocks : List (List ℕ)) → IsCacheOf self.now.tally blocks
@@ -555,7 +565,7 @@ impl PollSession {
         requires kept { IsKept v self.old.tally.kept }
         ensures next { (blocks : List (List ℕ)) → IsCacheOf self.old.tally blocks
             → IfOk result (λ next. next ≡ next_of self.old v blocks) }
-        ensures after { IfOk result (λ next. self.new ≡ moved self.old next) }
+        ensures after { IfOk result (λ next. self.new ≡ moved_on self.old next) }
         ensures err { OnErr result (self.new ≡ self.old) }
     {
         let next = self.next_of(v)?;
@@ -598,7 +608,7 @@ impl PollSession {
         requires count { length (C.blocks c.now) ≡ self.old.tally.ballot.count }
         requires cache { IsCacheOf self.old.tally (C.blocks c.now) }
         ensures answer { result ≡ answer_of self.old from b bytes.now (C.blocks c.now) }
-        ensures after { self.new ≡ answered self.old b result }
+        ensures after { self.new ≡ answer_taken self.old b result }
     {
         let answer = self.answer_of(from, b, bytes, c);
         match answer {
@@ -613,7 +623,7 @@ impl PollSession {
     pub fn give_up(&mut self) -> Option<(u16, PeerId)>
         ensures last { result ≡ awaited self.old.suppliers }
         ensures none { IsNone result ↔ (self.old.suppliers.waiting ≡ false) }
-        ensures after { self.new ≡ released self.old }
+        ensures after { self.new ≡ request_released self.old }
     {
         let request = self.unanswered();
         self.answered();

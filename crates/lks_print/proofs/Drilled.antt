@@ -1,5 +1,7 @@
--- The script of a drill is said: its values are in their limits, and each of its steps can stand behind those before it.
-use Rattle.std.proofs.Common.{◌≡◌, ℕ, zero, suc, ◌+◌, ◌-◌, ◌*◌, ◌/◌, ◌≤◌, ◌<◌, ◌^◌, true, false, List, [], ◌∷◌, ◌++◌, length, refl, arith}
+-- The script of a drill is said: its values are in their limits, and each of its steps can stand behind those before
+-- it.
+use Rattle.std.proofs.Common.{◌≡◌, ℕ, zero, suc, ◌+◌, ◌-◌, ◌*◌, ◌/◌, ◌≤◌, ◌<◌, ◌^◌, true, false, List, [], ◌∷◌, ◌++◌}
+use Rattle.std.proofs.Common.{length, refl, arith}
 use Rattle.std.specs.Prelude.{replicate}
 use Rattle.std.specs.Int.{w16, w64, byte_at, bytes_high_first, to_be_bytes}
 use Rattle.std.specs.List.{All, flat_map, range_with_len}
@@ -18,7 +20,9 @@ use Rattle.lks_script.specs.StepLines.{open_in, own_step_in, peer_step_in, finis
 use Rattle.lks_script.specs.StepRules.{is_step_of, fails_power, has_power_for, are_steps_of}
 use Rattle.lks_words.specs.Texts.{AreFew}
 use Rattle.lks_words.proofs.Kept.{bytes_append, bytes_replicate}
-use Rattle.lks_drill.specs.Drill.{peer_numbers, au_numbers, block_of, whole_copy, is_damaged, blocks_of, draw_before, draw_of, holding_of, copies_of, peer_seed, peer_with, peer_of, peers_of, plan_of, audit_of, audits_of, steps_of_drill, drill_of}
+use Rattle.lks_drill.specs.Drill.{peer_numbers, au_numbers, block_of, whole_copy, is_damaged, blocks_of, draw_before}
+use Rattle.lks_drill.specs.Drill.{draw_of, holding_of, copies_of, peer_seed, peer_with, peer_of, peers_of, plan_of}
+use Rattle.lks_drill.specs.Drill.{audit_of, audits_of, steps_of_drill, drill_of}
 use Rattle.lks_drill.proofs.Good.{good_plan, steps_stand}
 use Rattle.lks_drill.proofs.Sizes.{either}
 use Rattle.lks_print.proofs.Kept.{small_plain, small_again}
@@ -31,7 +35,9 @@ use Rattle.lks_print.specs.Said.{IsSaidStep, IsSaidPeer, StepsFollow, IsSaid}
 -- of each number from a on that is below a bound
 all_range : (P : ℕ → Type 0) (end a n : ℕ) → a + n ≤ end → ((k : ℕ) → k < end → P k) → All P (range_with_len a n)
 all_range P end a zero le h = All-nil P
-all_range P end a (suc n) le h = All-cons P a (range_with_len (a + 1) n) (h a (omega (arith, le))) (all_range P end (a + 1) n (omega (arith, le)) h)
+all_range P end a (suc n) le h =
+    All-cons P a (range_with_len (a + 1) n) (h a (omega (arith, le)))
+    (all_range P end (a + 1) n (omega (arith, le)) h)
 
 -- ---- bytes
 
@@ -55,13 +61,18 @@ block_few byte lt =
 
 whole_few : All (AreFew MOST_BLOCK_BYTES) whole_copy
 unfolding whole_copy
-whole_few = All-map (AreFew MOST_BLOCK_BYTES) block_of (range_with_len 0 128) (all_range (λ byte. AreFew MOST_BLOCK_BYTES (block_of byte)) 128 0 128 (omega arith) (λ byte lt. block_few byte (omega (arith, lt))))
+whole_few =
+    All-map (AreFew MOST_BLOCK_BYTES) block_of (range_with_len 0 128)
+    (all_range (λ byte. AreFew MOST_BLOCK_BYTES (block_of byte)) 128 0 128 (omega arith)
+    (λ byte lt. block_few byte (omega (arith, lt))))
 
 -- damaged or not; the draw's type is of a crate that this one doesn't name
 copy_few : (peer : ℕ) (d : _) → peer < 13 → All (AreFew MOST_BLOCK_BYTES) (blocks_of peer d)
 unfolding blocks_of
 copy_few peer d lt =
-    either (All (AreFew MOST_BLOCK_BYTES)) (is_damaged d) _ _ (All-set (AreFew MOST_BLOCK_BYTES) whole_copy _ _ (block_few (200 + peer) (omega (arith, lt))) whole_few) whole_few
+    either (All (AreFew MOST_BLOCK_BYTES)) (is_damaged d) _ _
+    (All-set (AreFew MOST_BLOCK_BYTES) whole_copy _ _ (block_few (200 + peer) (omega (arith, lt))) whole_few)
+    whole_few
 
 abbrev AreShort : Holding → Type 0
 AreShort c = All (AreFew MOST_BLOCK_BYTES) c.blocks
@@ -73,7 +84,8 @@ copy_of seed peer au = holding_of peer au (draw_before (draw_of seed) (2 * (peer
 copies_few : (seed peer : ℕ) → peer < 13 → All AreShort (copies_of seed peer)
 unfolding copies_of
 copies_few seed peer lt =
-    All-map AreShort (copy_of seed peer) au_numbers (all_range (λ au. AreShort (copy_of seed peer au)) 3 1 2 (omega arith) (λ au few. copy_few peer _ lt))
+    All-map AreShort (copy_of seed peer) au_numbers
+    (all_range (λ au. AreShort (copy_of seed peer au)) 3 1 2 (omega arith) (λ au few. copy_few peer _ lt))
 
 -- ---- peers
 
@@ -94,11 +106,19 @@ one_byte = record { bytes = bytes_replicate 1 1 (omega arith); few = omega arith
 peer_said : (seed peer : ℕ) → peer < 13 → IsSaidPeer (peer_of seed peer)
 unfolding peer_with
 peer_said seed peer lt =
-    record { id = omega (arith, lt); seed = seed_bytes seed peer; long = seed_long seed peer; proof = one_byte; copies = copies_few seed peer lt }
+    record {
+      id = omega (arith, lt);
+      seed = seed_bytes seed peer;
+      long = seed_long seed peer;
+      proof = one_byte;
+      copies = copies_few seed peer lt;
+    }
 
 peers_said : (seed : ℕ) → All IsSaidPeer (peers_of seed)
 unfolding peers_of
-peers_said seed = All-map IsSaidPeer (peer_of seed) peer_numbers (all_range (λ peer. IsSaidPeer (peer_of seed peer)) 13 1 12 (omega arith) (λ peer lt. peer_said seed peer lt))
+peers_said seed =
+    All-map IsSaidPeer (peer_of seed) peer_numbers
+    (all_range (λ peer. IsSaidPeer (peer_of seed peer)) 13 1 12 (omega arith) (λ peer lt. peer_said seed peer lt))
 
 -- ---- steps
 
@@ -110,7 +130,13 @@ record IsPlainStep (step : Step) : Type 0 where
 open_plain : (peer au : ℕ) → peer ≤ 65535 → au ≤ 65535 → IsPlainStep (Peer (OpenPoll peer au))
 unfolding open_in own_step_in peer_step_in step_in own_key own_more key_of more_of fails_power
 open_plain peer au p a =
-    record { kept = record { again = rw (small_again peer p, small_again au a) refl; plain = rw (small_plain peer p, small_plain au a) refl }; powered = refl }
+    record {
+      kept = record {
+        again = rw (small_again peer p, small_again au a) refl;
+        plain = rw (small_plain peer p, small_plain au a) refl;
+      };
+      powered = refl;
+    }
 
 finish_plain : IsPlainStep Finish
 unfolding finish_in step_in key_of more_of fails_power
@@ -121,20 +147,27 @@ unfolding has_power_for
 has_power before step never = rw never refl
 
 -- steps of the plan follow one another where none takes power from those behind it
-steps_follow : (plan : Plan) (before steps : List Step) → All IsPlainStep steps → are_steps_of plan steps ≡ true → StepsFollow plan before steps
+steps_follow : (plan : Plan) (before steps : List Step) → All IsPlainStep steps → are_steps_of plan steps ≡ true
+    → StepsFollow plan before steps
 steps_follow plan before [] plain stand = tt
 steps_follow plan before (step ∷ steps) plain stand =
     let parts = and_parts (is_step_of plan step) (are_steps_of plan steps) stand in
     let one = All-head IsPlainStep step steps plain in (
-      record { said = one.kept; stands = and_from (is_step_of plan step) _ parts.0 (has_power before step one.powered) },
+      record {
+        said = one.kept;
+        stands = and_from (is_step_of plan step) _ parts.0 (has_power before step one.powered);
+      },
       steps_follow plan (before ++ step ∷ []) steps (All-tail IsPlainStep step steps plain) parts.1,
     )
 
-audit_before : (peer au : ℕ) → peer ≤ 65535 → au ≤ 65535 → (steps : List Step) → All IsPlainStep steps → All IsPlainStep (audit_of peer au ++ steps)
+audit_before : (peer au : ℕ) → peer ≤ 65535 → au ≤ 65535 → (steps : List Step) → All IsPlainStep steps
+    → All IsPlainStep (audit_of peer au ++ steps)
 audit_before peer au p a steps more =
-    All-cons IsPlainStep (Peer (OpenPoll peer au)) (Finish ∷ steps) (open_plain peer au p a) (All-cons IsPlainStep Finish steps finish_plain more)
+    All-cons IsPlainStep (Peer (OpenPoll peer au)) (Finish ∷ steps) (open_plain peer au p a)
+    (All-cons IsPlainStep Finish steps finish_plain more)
 
-audits_before : (peer : ℕ) → peer ≤ 65535 → (steps : List Step) → All IsPlainStep steps → All IsPlainStep (audits_of peer ++ steps)
+audits_before : (peer : ℕ) → peer ≤ 65535 → (steps : List Step) → All IsPlainStep steps
+    → All IsPlainStep (audits_of peer ++ steps)
 unfolding audits_of
 audits_before peer le steps more =
     audit_before peer 1 le (omega arith) (audit_of peer 2 ++ steps) (audit_before peer 2 le (omega arith) steps more)
@@ -151,4 +184,9 @@ steps_plain = audits_plain 1 12 (omega arith)
 
 pub drill_said : (seed : ℕ) → IsSaid (drill_of seed)
 unfolding drill_of plan_of
-drill_said seed = record { good = good_plan seed; peers = peers_said seed; steps = steps_follow (plan_of seed) [] steps_of_drill steps_plain (steps_stand seed) }
+drill_said seed =
+    record {
+      good = good_plan seed;
+      peers = peers_said seed;
+      steps = steps_follow (plan_of seed) [] steps_of_drill steps_plain (steps_stand seed);
+    }

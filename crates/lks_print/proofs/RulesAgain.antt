@@ -26,7 +26,8 @@ pub record AreSmall (r : Rules) : Type 0 where
   pub debt : r.debt_pct ≤ 255
   pub churn : r.churn ≤ 65535
 
-named_again : (name : List ℕ) (most n : ℕ) (rest : List (List ℕ)) → bytes_eq name name ≡ true → most < 2 ^ 64 → n ≤ most → named name most (name ∷ decimal n ∷ rest) ≡ Some (n, rest)
+named_again : (name : List ℕ) (most n : ℕ) (rest : List (List ℕ)) → bytes_eq name name ≡ true → most < 2 ^ 64
+    → n ≤ most → named name most (name ∷ decimal n ∷ rest) ≡ Some (n, rest)
 unfolding named
 named_again name most n rest is lt le = rw (is, number_again most n (decimal n) lt le refl) refl
 
@@ -71,11 +72,28 @@ ten a b c d e f g h i j all =
     let p3 = and_parts (a && b && c) d p4.0 in
     let p2 = and_parts (a && b) c p3.0 in
     let p1 = and_parts (a) b p2.0 in
-    record { inner = p1.0; quorum = p1.1; outer = p2.1; repairs = p3.1; pace = p4.1; refractory = p5.1; overdue = p6.1; unknown = p7.1; debt = p8.1; churn = p9.1 }
+    record {
+      inner = p1.0;
+      quorum = p1.1;
+      outer = p2.1;
+      repairs = p3.1;
+      pace = p4.1;
+      refractory = p5.1;
+      overdue = p6.1;
+      unknown = p7.1;
+      debt = p8.1;
+      churn = p9.1;
+    }
 
-in_bounds : (r : Rules) → are_bounded r ≡ true → Ten (is_within 1 MOST_CIRCLE r.inner) (leb 1 r.quorum) (leb r.outer MOST_CIRCLE) (leb r.repairs MOST_REPAIRS) (leb r.pace MOST_TICKS) (leb r.refractory MOST_TICKS) (leb r.overdue MOST_TICKS) (leb r.unknown_pct 100) (leb r.debt_pct 100) (leb r.churn MOST_CIRCLE)
+in_bounds : (r : Rules) → are_bounded r ≡ true
+    → Ten (is_within 1 MOST_CIRCLE r.inner) (leb 1 r.quorum) (leb r.outer MOST_CIRCLE) (leb r.repairs MOST_REPAIRS)
+    (leb r.pace MOST_TICKS) (leb r.refractory MOST_TICKS) (leb r.overdue MOST_TICKS) (leb r.unknown_pct 100)
+    (leb r.debt_pct 100) (leb r.churn MOST_CIRCLE)
 unfolding are_bounded
-in_bounds r e = ten (is_within 1 MOST_CIRCLE r.inner) (leb 1 r.quorum) (leb r.outer MOST_CIRCLE) (leb r.repairs MOST_REPAIRS) (leb r.pace MOST_TICKS) (leb r.refractory MOST_TICKS) (leb r.overdue MOST_TICKS) (leb r.unknown_pct 100) (leb r.debt_pct 100) (leb r.churn MOST_CIRCLE) e
+in_bounds r e =
+    ten (is_within 1 MOST_CIRCLE r.inner) (leb 1 r.quorum) (leb r.outer MOST_CIRCLE) (leb r.repairs MOST_REPAIRS)
+    (leb r.pace MOST_TICKS) (leb r.refractory MOST_TICKS) (leb r.overdue MOST_TICKS) (leb r.unknown_pct 100)
+    (leb r.debt_pct 100) (leb r.churn MOST_CIRCLE) e
 
 in_order : (r : Rules) → are_ordered r ≡ true → (2 * r.minority < r.quorum) × (r.quorum ≤ r.inner)
 unfolding are_ordered

@@ -1,4 +1,5 @@
--- Which scripts can be said: values are in their limits, the plan breaks no rule, and each step can stand behind those before it.
+-- Which scripts can be said: values are in their limits, the plan breaks no rule, and each step can stand behind those
+-- before it.
 use Rattle.std.specs.Prelude.{◌≡◌, ◌&&◌, ℕ, ◌≤◌, Bool, true, List, [], ◌∷◌, ◌++◌, length, Some, None}
 use Rattle.std.specs.List.{All, list_all}
 use Rattle.hex.specs.Hex.{IsBytes}

@@ -69,7 +69,8 @@ belongings p =
 -- the lines of a plan
 unfoldable pub plan_text : Plan → List ℕ
 plan_text plan =
-    line_of (codes "lockss") (codes "1" ∷ []) ++ rules_line plan.rules ++ line_of (codes "turns") (decimal plan.turns ∷ [])
+    line_of (codes "lockss") (codes "1" ∷ []) ++ rules_line plan.rules
+    ++ line_of (codes "turns") (decimal plan.turns ∷ [])
     ++ flat_map au_line plan.aus ++ flat_map peer_line plan.peers ++ flat_map belongings plan.peers
 
 -- the lines of a script

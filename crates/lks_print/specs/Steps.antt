@@ -4,7 +4,9 @@ use Rattle.std.specs.Fmt.{decimal}
 use Rattle.lks_script.specs.declared.steps.CutStep.{CutStep}
 use Rattle.lks_script.specs.declared.steps.CutStep.TheVariants as cut
 use Rattle.lks_script.specs.declared.steps.Step.{Step}
-use Rattle.lks_script.specs.declared.steps.Step.TheVariants.{Peer, Tick, Next, Lose, Again, Settle, Finish, Forge, SayPoll, SayProof, SayRequest, SayReceipt, SayChallenge, SayNominate, SayVote, SayRepair, Crash, Cut}
+use Rattle.lks_script.specs.declared.steps.Step.TheVariants.{Peer, Tick, Next, Lose, Again, Settle, Finish, Forge}
+use Rattle.lks_script.specs.declared.steps.Step.TheVariants.{SayPoll, SayProof, SayRequest, SayReceipt, SayChallenge}
+use Rattle.lks_script.specs.declared.steps.Step.TheVariants.{SayNominate, SayVote, SayRepair, Crash, Cut}
 use Rattle.lks_words.specs.Printing.{hex_or_hyphen, blocks_text, answer_text}
 use Rattle.lks_words.specs.Steps.{spaced, own_key, own_more}
 
@@ -68,8 +70,10 @@ more_of (SayRequest from to number block) = said_words from (codes "request") to
 more_of (SayReceipt from to number) = said_words from (codes "receipt") to number []
 more_of (SayChallenge from to number agrees) = said_words from (codes "challenge") to number (answer_text agrees ∷ [])
 more_of (SayNominate from to number nominees) = said_words from (codes "nominate") to number (map decimal nominees)
-more_of (SayVote from to number au blocks) = said_words from (codes "vote") to number (decimal au ∷ codes "of" ∷ blocks_text blocks ∷ [])
-more_of (SayRepair from to number block bytes) = said_words from (codes "repair") to number (decimal block ∷ hex_or_hyphen bytes ∷ [])
+more_of (SayVote from to number au blocks) =
+    said_words from (codes "vote") to number (decimal au ∷ codes "of" ∷ blocks_text blocks ∷ [])
+more_of (SayRepair from to number block bytes) =
+    said_words from (codes "repair") to number (decimal block ∷ hex_or_hyphen bytes ∷ [])
 more_of (Crash peer) = decimal peer ∷ []
 more_of (Cut calls choice step) = decimal calls ∷ decimal choice ∷ cut_key step ∷ cut_more step
 

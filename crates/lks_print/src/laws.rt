@@ -13,8 +13,10 @@ ghost use Rattle.lks_words.specs.Steps.{spaced};
 
 /// Each step that a script can say is printed as words that say it, and the printed line is split into these words.
 pub fn every_step_reads_back()
-    ensures again { (key : List ℕ) (more : List (List ℕ)) (step : Step) → step_in key more ≡ Some step → step_in (key_of step) (more_of step) ≡ Some step }
-    ensures splits { (key : List ℕ) (more : List (List ℕ)) (step : Step) → step_in key more ≡ Some step → parts 32 (key_of step ++ spaced (more_of step)) ≡ key_of step ∷ more_of step }
+    ensures again { (key : List ℕ) (more : List (List ℕ)) (step : Step) → step_in key more ≡ Some step
+        → step_in (key_of step) (more_of step) ≡ Some step }
+    ensures splits { (key : List ℕ) (more : List (List ℕ)) (step : Step) → step_in key more ≡ Some step
+        → parts 32 (key_of step ++ spaced (more_of step)) ≡ key_of step ∷ more_of step }
 {}
 
 /// Each script that some bytes say can be said.

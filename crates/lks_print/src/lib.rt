@@ -1,4 +1,6 @@
 //! Scripts as text: one line a fact of the plan, and one a step.
+//!
+//! Its trials: `lks_format_trials`, `print`.
 #![tactic(auto)]
 
 mod adding;

@@ -5,7 +5,8 @@ ghost use Rattle.std.specs.Fmt.{decimal};
 ghost use Rattle.std.specs.List.{flat_map};
 ghost use Rattle.lks_print.specs.Steps.{line_of};
 ghost use Rattle.lks_words.specs.Steps.{spaced};
-ghost use Rattle.lks_print.specs.Scripts.{named_text, rules_words, rules_line, au_line, peer_line, hash_line, list_line, copy_line, belongings, plan_text};
+ghost use Rattle.lks_print.specs.Scripts.{named_text, rules_words, rules_line, au_line, peer_line, hash_line};
+ghost use Rattle.lks_print.specs.Scripts.{list_line, copy_line, belongings, plan_text};
 
 use crate::adding::{add_block, add_blocks, add_hex, add_ids, add_kind, add_number, add_word};
 use lks_base::{AuPlan, HashKind, Holding, PeerId, PeerPlan, Plan, Rules};

@@ -12,9 +12,9 @@ use lks_script::Script;
 use std::alloc::Global;
 
 /// The lines of a script, each ended by a line feed: first those of its plan, in the order in which a script has them,
-/// then a line for each step. Copies are printed block by block, bytes in lower-case hex, seeds whole, and what is empty
-/// or as it is where nothing is said has no line; only `turns` has one always. What is printed of a script that can be
-/// said, and so of each that was read, says that script again.
+/// then a line for each step. Copies are printed block by block, bytes in lower-case hex, seeds whole, and what is
+/// empty or as it is where nothing is said has no line; only `turns` has one always. What is printed of a script that
+/// can be said, and so of each that was read, says that script again.
 #[tactic(auto, using(crate::proofs::Whole::again_as), unfolding(crate::specs::Scripts::script_text))]
 pub fn print_script(alloc: Global, script: &Script) -> Result<Vec<u8>, OutOfMemory>
     ensures exact { IfOk result (λ text. text.items ≡ script_text script.now) }

@@ -75,7 +75,8 @@ fn add_answered(
     number: u32,
     yes: bool,
 ) -> Result<(), AllocError>
-    ensures { OnOk result (out.new.items ≡ out.old.items ++ spaced (said_words from what.now to number (answer_text yes ∷ []))) }
+    ensures { OnOk result
+        (out.new.items ≡ out.old.items ++ spaced (said_words from what.now to number (answer_text yes ∷ []))) }
 {
     add_said(alloc, out, from, what, to, number)?;
     add_answer(out, yes)
@@ -87,7 +88,8 @@ fn add_content(
     au: AuId,
     blocks: &Blocks,
 ) -> Result<(), AllocError>
-    ensures { OnOk result (out.new.items ≡ out.old.items ++ spaced (decimal au ∷ codes "of" ∷ blocks_text blocks.now ∷ [])) }
+    ensures { OnOk result
+        (out.new.items ≡ out.old.items ++ spaced (decimal au ∷ codes "of" ∷ blocks_text blocks.now ∷ [])) }
 {
     add_number(alloc, out, u64::from(au))?;
     add_word(out, b"of")?;

@@ -17,5 +17,6 @@ pub asked_there : (pool : List ℕ) (j : Job) → AllOf pool (asked_refs (asked_
 asked_there pool j of = subst (AllOf pool) (refs_asked j) of
 
 -- a result that was collected
-pub told_here : (pool : List ℕ) (f : FarmDone) → AllOf pool (asked_refs (entry_done f).job) → AllOf pool (refs_done f.done)
+pub told_here : (pool : List ℕ) (f : FarmDone) → AllOf pool (asked_refs (entry_done f).job)
+    → AllOf pool (refs_done f.done)
 told_here pool f of = subst (AllOf pool) (refs_told f.done) of

@@ -15,7 +15,8 @@ use Rattle.lks_work.specs.Names.{refs_of}
 use Rattle.lks_world.specs.Giving.{IsOver}
 use Rattle.lks_world.specs.Worlds.{HasWatched, HaveServed, Seen, StandsAtFault, Start}
 
--- How a race began, as plain data: the plan, the pool, what the world remembers of its own beginning, the history and its turns.
+-- How a race began, as plain data: the plan, the pool, what the world remembers of its own beginning, the history and
+-- its turns.
 pub record Begin : Type 0 where
   pub plan : Plan
   pub pool : List ℕ
@@ -30,7 +31,20 @@ begin_of w = record { plan = w.plan; pool = w.pool; start = w.start; history = w
 abbrev pub nowhere : Begin
 nowhere = record {
   plan = record {
-    rules = record { inner = 0; quorum = 0; minority = 0; outer = 0; repairs = 0; pace = 0; refractory = 0; overdue = 0; unknown_pct = 0; debt_pct = 0; churn = 0 };
+    rules =
+        record {
+          inner = 0;
+          quorum = 0;
+          minority = 0;
+          outer = 0;
+          repairs = 0;
+          pace = 0;
+          refractory = 0;
+          overdue = 0;
+          unknown_pct = 0;
+          debt_pct = 0;
+          churn = 0;
+        };
     turns = 0;
     aus = [];
     peers = [];
@@ -41,8 +55,8 @@ nowhere = record {
   turns = 0;
 }
 
--- The world remembers the same beginning, and its history goes on from that of the race's beginning by events each of which was
--- due at its place and used a turn.
+-- The world remembers the same beginning, and its history goes on from that of the race's beginning by events each of
+-- which was due at its place and used a turn.
 pub record GoesOn {D J B : Type 0} (b : Begin) (w : Seen D J B) : Type 0 where
   pub plan : w.plan ≡ b.plan
   pub pool : w.pool ≡ b.pool
@@ -52,9 +66,9 @@ pub record GoesOn {D J B : Type 0} (b : Begin) (w : Seen D J B) : Type 0 where
   pub due : AreDue b.plan b.history more
   pub turns : w.turns ≡ b.turns + length more
 
--- What a race leaves of a world as it was: it went on so, and unless a fault stopped it, until nothing is due or no turn or no room
--- is left; then the judge and the bells that are there have watched its history. At a fault what stands is what one may leave. Its
--- disks have served since its beginning.
+-- What a race leaves of a world as it was: it went on so, and unless a fault stopped it, until nothing is due or no
+-- turn or no room is left; then the judge and the bells that are there have watched its history. At a fault what stands
+-- is what one may leave. Its disks have served since its beginning.
 pub record Runs {D J B : Type 0} (f : Face D) (e : Ears J B) (first w : Seen D J B) : Type 0 where
   pub on : GoesOn (begin_of first) w
   pub over : w.stopped ≡ None → IsOver w
@@ -62,8 +76,8 @@ pub record Runs {D J B : Type 0} (f : Face D) (e : Ears J B) (first w : Seen D J
   pub halted : StandsAtFault f e w
   pub served : HaveServed f first.plan.peers first.start.faults w.disks w.stopped
 
--- What a thread meets: the entry of the event that was kept last, a job over blocks of this pool, that all work is out, or the end,
--- where the world was stopped or nothing more is done.
+-- What a thread meets: the entry of the event that was kept last, a job over blocks of this pool, that all work is out,
+-- or the end, where the world was stopped or nothing more is done.
 abbrev pub Meets : {D J B : Type 0} → List ℕ → Seen D J B → Met → Type 0
 Meets pool w (met.On None) = Unit {0}
 Meets pool w (met.On (Some entry)) = slice_get (entries w.plan w.history) (length w.history - 1) ≡ Some entry

@@ -1,4 +1,6 @@
 //! A race: threads take what is due from one world, in whatever order they come, and hash outside its lock.
+//!
+//! Its trials: `lks_run_trials`, `race`.
 #![tactic(auto)]
 
 mod locked;

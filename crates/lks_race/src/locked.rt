@@ -7,9 +7,8 @@ ghost use Rattle.lks_work.specs.Names.{refs_done};
 
 use crate::naming::Naming;
 use crate::turns::{Met, give, meet};
-use lks_alarm::Bell;
 use lks_disk::CrashDisk;
-use lks_effort::EffortJudge;
+use lks_outside::{Bell, EffortJudge};
 use lks_work::JobDone;
 use lks_world::World;
 use std::marker::{Model, PhantomData};

@@ -13,12 +13,11 @@ use crate::locked::Locked;
 use crate::naming::Naming;
 use crate::sessions::{session, tell};
 use crate::turns::{Met, give, meet};
-use lks_alarm::Bell;
 use lks_base::OutOfMemory;
 use lks_blocks::BlockPool;
 use lks_disk::CrashDisk;
-use lks_effort::EffortJudge;
 use lks_farm::{Farm, FarmSet, Seat, hash_job};
+use lks_outside::{Bell, EffortJudge};
 use lks_work::{Gate, Job};
 use lks_world::{World, WorldFault};
 use std::alloc::Global;
@@ -200,9 +199,9 @@ fn end_of<D: CrashDisk + Drop, J: EffortJudge, B: Bell>(
     }
 }
 
-/// Lets the threads of all seats of a new farm take what is due from the world, in whatever order they come, until nothing is due
-/// or no turn or no room for an event is left; jobs and their results go through the farm. What the threads left is done here.
-/// The set comes back with all its seats.
+/// Lets the threads of all seats of a new farm take what is due from the world, in whatever order they come, until
+/// nothing is due or no turn or no room for an event is left; jobs and their results go through the farm. What the
+/// threads left is done here. The set comes back with all its seats.
 pub fn race_on<'a, D: CrashDisk + Drop, J: EffortJudge, B: Bell, G: Gate, R: Threads + Wait + Sync>(
     alloc: Global,
     rt: &R,
@@ -226,8 +225,8 @@ pub fn race_on<'a, D: CrashDisk + Drop, J: EffortJudge, B: Bell, G: Gate, R: Thr
     (world, end, set)
 }
 
-/// Lets so many threads take what is due from the world, as `race_on` does on a farm of its own. Where this finds no memory, the
-/// world is stopped.
+/// Lets so many threads take what is due from the world, as `race_on` does on a farm of its own. Where this finds no
+/// memory, the world is stopped.
 pub fn race<'a, D: CrashDisk + Drop, J: EffortJudge, B: Bell, G: Gate, R: Threads + Wait + Sync>(
     alloc: Global,
     rt: &R,

@@ -10,12 +10,11 @@ ghost use Rattle.lks_work.specs.Names.{refs_done, refs_of};
 use crate::locked::Locked;
 use crate::naming::Naming;
 use crate::turns::Met;
-use lks_alarm::Bell;
 use lks_base::{Entry, OutOfMemory};
 use lks_blocks::BlockPool;
 use lks_disk::CrashDisk;
-use lks_effort::EffortJudge;
 use lks_farm::{Farm, FarmDone, FarmJob, Seat, hash_job};
+use lks_outside::{Bell, EffortJudge};
 use lks_work::{Gate, Job, JobDone};
 use std::alloc::Global;
 use std::sync::{Mutex, Wait};
@@ -137,7 +136,8 @@ fn collect<'a, N: Naming, D: CrashDisk + Drop, J: EffortJudge, B: Bell, G: Gate,
     Some(give_back(rt, locked, gate, done))
 }
 
-/// Hands in the result of the job that the seat holds. While there is no room for it, others are collected and given back.
+/// Hands in the result of the job that the seat holds. While there is no room for it, others are collected and given
+/// back.
 fn hand_in<'a, N: Naming, D: CrashDisk + Drop, J: EffortJudge, B: Bell, G: Gate, R: Wait>(
     rt: &R,
     locked: &Mutex<Locked<'a, N, D, J, B>>,
@@ -194,8 +194,8 @@ fn work<'a, N: Naming, D: CrashDisk + Drop, J: EffortJudge, B: Bell, G: Gate, R:
     }
 }
 
-/// Asks the world for what is due and does it: offers a job, and where all jobs are out, or another thread asks, helps with them.
-/// Whether the race goes on.
+/// Asks the world for what is due and does it: offers a job, and where all jobs are out, or another thread asks, helps
+/// with them. Whether the race goes on.
 fn turn<'a, N: Naming, D: CrashDisk + Drop, J: EffortJudge, B: Bell, G: Gate, R: Wait>(
     rt: &R,
     alloc: Global,

@@ -5,10 +5,9 @@ ghost use Rattle.lks_blocks.specs.Block.{AllOf};
 ghost use Rattle.lks_race.specs.Racing.{GoesOn, Meets, begin_of};
 ghost use Rattle.lks_work.specs.Names.{refs_done};
 
-use lks_alarm::Bell;
 use lks_base::{Entry, OutOfMemory};
 use lks_disk::CrashDisk;
-use lks_effort::EffortJudge;
+use lks_outside::{Bell, EffortJudge};
 use lks_work::{Job, JobDone};
 use lks_world::{Back, Taken, World};
 use std::sync::Wait;
@@ -20,7 +19,8 @@ pub enum Met {
     On(Option<Entry>),
     /// A job to be hashed.
     Work(Job),
-    /// For now there is nothing to do but to hash: all that is due is work whose jobs are out, or another thread is at the world.
+    /// For now there is nothing to do but to hash: all that is due is work whose jobs are out, or another thread is at
+    /// the world.
     Out,
     /// It takes no further step.
     End,

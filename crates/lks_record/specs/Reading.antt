@@ -1,7 +1,9 @@
 -- Reading a batch from left to right, with the first fault that is met.
-use Rattle.std.specs.Prelude.{◌==◌, ℕ, Bool, true, false, not, Option, None, Some, List, Result, Ok, Err, nat_lt, if◌then◌else◌}
+use Rattle.std.specs.Prelude.{◌==◌, ℕ, Bool, true, false, not, Option, None, Some, List, Result, Ok, Err, nat_lt}
+use Rattle.std.specs.Prelude.{if◌then◌else◌}
 use Rattle.std.specs.Int.{w16, w32}
-use Rattle.lks_base.specs.declared.limits.TheConstants.{LAST_BLOCK, MOST_BLOCKS, MOST_BLOCK_BYTES, MOST_CIRCLE, MOST_NOMINEES, MOST_REPAIRS}
+use Rattle.lks_base.specs.declared.limits.TheConstants.{LAST_BLOCK, MOST_BLOCKS, MOST_BLOCK_BYTES, MOST_CIRCLE}
+use Rattle.lks_base.specs.declared.limits.TheConstants.{MOST_NOMINEES, MOST_REPAIRS}
 use Rattle.lks_base.specs.declared.records.Record.{Record}
 use Rattle.lks_base.specs.declared.records.Record.TheVariants as records
 use Rattle.lks_base.specs.Kinds.{is_second}
@@ -12,19 +14,23 @@ use Rattle.lks_base.specs.declared.names.PollName.{PollName}
 use Rattle.lks_base.specs.declared.names.Outcome.{Outcome}
 use Rattle.lks_base.specs.declared.names.Outcome.TheVariants as outcomes
 use Rattle.lks_base.specs.Quorums.{obeys_quorum_rule}
-use Rattle.lks_field.specs.Reading.{◌>>=◌, byte_at, kind_at, hash_at, number_at, upto_at, sized_at, list_at, end_of, tagged, FailsBut, GivesBut, ReadsBut}
+use Rattle.lks_field.specs.Reading.{◌>>=◌, byte_at, kind_at, hash_at, number_at, upto_at, sized_at, list_at, end_of}
+use Rattle.lks_field.specs.Reading.{tagged, FailsBut, GivesBut, ReadsBut}
 use Rattle.lks_record.specs.declared.fault.RecFault.{RecFault}
 use Rattle.lks_record.specs.declared.fault.RecFault.TheVariants.{Form, Tag, Limit}
-use Rattle.lks_record.specs.declared.heading.Opening.{Opening}
-use Rattle.lks_record.specs.declared.heading.Opening.TheVariants.{Plain, Limited, OfKind}
-use Rattle.lks_record.specs.declared.heading.Heading.{Heading}
-use Rattle.lks_record.specs.declared.heading.Heading.TheVariants.{Deposit, PollOpened, Nominated, OuterOpened, VoteIn, Shut, Asked, RepairBad, Replaced, Closed, Overdue, Joined, Committed, Voted, Served, Ended, Tuned}
+use Rattle.lks_record.specs.declared.heading.OpeningForm.{OpeningForm}
+use Rattle.lks_record.specs.declared.heading.OpeningForm.TheVariants.{Plain, Limited, OfKind}
+use Rattle.lks_record.specs.declared.heading.RecordHeading.{RecordHeading}
+use Rattle.lks_record.specs.declared.heading.RecordHeading.TheVariants.{Deposit, PollOpened, Nominated, OuterOpened}
+use Rattle.lks_record.specs.declared.heading.RecordHeading.TheVariants.{VoteIn, Shut, Asked, RepairBad, Replaced}
+use Rattle.lks_record.specs.declared.heading.RecordHeading.TheVariants.{Closed, Overdue, Joined, Committed, Voted}
+use Rattle.lks_record.specs.declared.heading.RecordHeading.TheVariants.{Served, Ended, Tuned}
 use Rattle.lks_record.specs.Faults.{told_as, field, is_memory}
 
 -- ---- form and tag
 
 -- what a tag announces under the first form
-unfoldable pub first_heading : ℕ → Result Heading RecFault
+unfoldable pub first_heading : ℕ → Result RecordHeading RecFault
 first_heading tag =
     if tag == 1 then Ok Deposit
     else if tag == 2 then Ok (PollOpened Plain)
@@ -45,7 +51,7 @@ first_heading tag =
     else Err Tag
 
 -- and under the second, which the records have that tell more than at first
-unfoldable pub second_heading : ℕ → Result Heading RecFault
+unfoldable pub second_heading : ℕ → Result RecordHeading RecFault
 second_heading tag =
     if tag == 2 then Ok (PollOpened Limited)
     else if tag == 12 then Ok (Joined true)
@@ -54,11 +60,11 @@ second_heading tag =
     else Err Tag
 
 -- and under the third, of openings with the second kind of hash
-unfoldable pub third_heading : ℕ → Result Heading RecFault
+unfoldable pub third_heading : ℕ → Result RecordHeading RecFault
 third_heading tag = if tag == 2 then Ok (PollOpened OfKind) else Err Tag
 
 -- form and tag: the form is judged before the tag is read
-unfoldable pub heading_at : List ℕ → Result (Heading × List ℕ) RecFault
+unfoldable pub heading_at : List ℕ → Result (RecordHeading × List ℕ) RecFault
 heading_at bytes = do
   form ← field (byte_at bytes)
   if form.0 == 1 then tagged told_as first_heading form.1
@@ -137,7 +143,8 @@ unfoldable pub repairs_at : List ℕ → Result (ℕ × List ℕ) RecFault
 repairs_at bytes = field (upto_at MOST_REPAIRS (number_at w16) bytes)
 
 -- what is read only where it is spelled
-unfoldable pub optional_at : {X : Type 0} → (List ℕ → Result (X × List ℕ) RecFault) → Bool → List ℕ → Result (Option X × List ℕ) RecFault
+unfoldable pub optional_at : {X : Type 0} → (List ℕ → Result (X × List ℕ) RecFault) → Bool → List ℕ
+    → Result (Option X × List ℕ) RecFault
 optional_at reader false bytes = Ok (None, bytes)
 optional_at reader true bytes = do
   x ← reader bytes
@@ -171,13 +178,13 @@ outcome_at bytes = do
 -- ---- records, behind their heading
 
 -- whether an opening has limits
-abbrev pub is_limited : Opening → Bool
+abbrev pub is_limited : OpeningForm → Bool
 is_limited Plain = false
 is_limited Limited = true
 is_limited OfKind = true
 
 -- the kind of its hashes
-abbrev pub kind_in : Opening → HashKind
+abbrev pub kind_in : OpeningForm → HashKind
 kind_in Plain = Sha256
 kind_in Limited = Sha256
 kind_in OfKind = Sha512_256
@@ -190,7 +197,7 @@ deposit_at bytes = do
   Ok (records.Deposit au.0 blocks.0, blocks.1)
 
 -- a poll that opened, with what its form tells
-unfoldable pub opened_at : Opening → List ℕ → Result (Record × List ℕ) RecFault
+unfoldable pub opened_at : OpeningForm → List ℕ → Result (Record × List ℕ) RecFault
 opened_at opening bytes = do
   number ← long_at bytes
   au ← id_at number.1
@@ -317,7 +324,7 @@ tuned_at bytes = do
   Ok (records.Tuned limits.0.quorum limits.0.minority repairs.0, repairs.1)
 
 -- the record that the heading announces
-abbrev pub body_at : Heading → List ℕ → Result (Record × List ℕ) RecFault
+abbrev pub body_at : RecordHeading → List ℕ → Result (Record × List ℕ) RecFault
 body_at Deposit bytes = deposit_at bytes
 body_at (PollOpened opening) bytes = opened_at opening bytes
 body_at Nominated bytes = nominated_at bytes

@@ -2,9 +2,12 @@
 use Rattle.std.specs.Prelude.{ℕ, ◌+◌, ◌*◌, List, sum_by}
 use Rattle.lks_base.specs.declared.limits.TheConstants.{MOST_BLOCKS, MOST_BLOCK_BYTES, MOST_CIRCLE, MOST_NOMINEES}
 use Rattle.lks_base.specs.declared.records.Record.{Record}
-use Rattle.lks_base.specs.declared.records.Record.TheVariants.{Deposit, PollOpened, Nominated, OuterOpened, VoteIn, Shut, Asked, RepairBad, Replaced, Closed, Overdue, Joined, Committed, Voted, Served, Ended, Tuned}
+use Rattle.lks_base.specs.declared.records.Record.TheVariants.{Deposit, PollOpened, Nominated, OuterOpened, VoteIn}
+use Rattle.lks_base.specs.declared.records.Record.TheVariants.{Shut, Asked, RepairBad, Replaced, Closed, Overdue}
+use Rattle.lks_base.specs.declared.records.Record.TheVariants.{Joined, Committed, Voted, Served, Ended, Tuned}
 
--- a record in its limits has at most so many bytes: a block of a deposit has a length before it, a hash 32 bytes, a peer 2
+-- a record in its limits has at most so many bytes: a block of a deposit has a length before it, a hash 32 bytes, a
+-- peer 2
 abbrev pub most_bytes : Record → ℕ
 most_bytes (Deposit au blocks) = 6 + MOST_BLOCKS * (2 + MOST_BLOCK_BYTES)
 most_bytes (PollOpened number au nonce inner tick limits kind) = 50 + MOST_CIRCLE * 2

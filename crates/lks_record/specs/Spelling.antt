@@ -1,11 +1,15 @@
 -- The one spelling of each record and each batch.
-use Rattle.std.specs.Prelude.{◌≡◌, ℕ, ◌<◌, ◌≤◌, ◌^◌, Bool, true, Option, None, Some, IfSome, List, [], ◌∷◌, ◌++◌, length, All}
+use Rattle.std.specs.Prelude.{◌≡◌, ℕ, ◌<◌, ◌≤◌, ◌^◌, Bool, true, Option, None, Some, IfSome, List, [], ◌∷◌, ◌++◌}
+use Rattle.std.specs.Prelude.{length, All}
 use Rattle.std.specs.List.{flat_map}
 use Rattle.std.specs.Int.{w16, w32, to_be_bytes}
 use Rattle.lks_base.specs.Kinds.{is_second}
-use Rattle.lks_base.specs.declared.limits.TheConstants.{LAST_BLOCK, MOST_BLOCKS, MOST_BLOCK_BYTES, MOST_CIRCLE, MOST_NOMINEES, MOST_REPAIRS}
+use Rattle.lks_base.specs.declared.limits.TheConstants.{LAST_BLOCK, MOST_BLOCKS, MOST_BLOCK_BYTES, MOST_CIRCLE}
+use Rattle.lks_base.specs.declared.limits.TheConstants.{MOST_NOMINEES, MOST_REPAIRS}
 use Rattle.lks_base.specs.declared.records.Record.{Record}
-use Rattle.lks_base.specs.declared.records.Record.TheVariants.{Deposit, PollOpened, Nominated, OuterOpened, VoteIn, Shut, Asked, RepairBad, Replaced, Closed, Overdue, Joined, Committed, Voted, Served, Ended, Tuned}
+use Rattle.lks_base.specs.declared.records.Record.TheVariants.{Deposit, PollOpened, Nominated, OuterOpened, VoteIn}
+use Rattle.lks_base.specs.declared.records.Record.TheVariants.{Shut, Asked, RepairBad, Replaced, Closed, Overdue}
+use Rattle.lks_base.specs.declared.records.Record.TheVariants.{Joined, Committed, Voted, Served, Ended, Tuned}
 use Rattle.lks_base.specs.declared.names.HashKind.{HashKind}
 use Rattle.lks_base.specs.declared.names.HashKind.TheVariants.{Sha256, Sha512_256}
 use Rattle.lks_base.specs.declared.names.Limits.{Limits}
@@ -14,7 +18,8 @@ use Rattle.lks_base.specs.declared.names.Outcome.{Outcome}
 use Rattle.lks_base.specs.declared.names.Outcome.TheVariants.{Agreed, Inquorate, Split, NoSupplier}
 use Rattle.lks_base.specs.Quorums.{obeys_quorum_rule}
 use Rattle.lks_field.specs.Spelling.{flag}
-pub use Rattle.lks_field.specs.Spelling.{kind_bytes, number_bytes as peer_bytes, hash_bytes, sized_bytes as content_bytes}
+pub use Rattle.lks_field.specs.Spelling.{kind_bytes, number_bytes as peer_bytes, hash_bytes}
+pub use Rattle.lks_field.specs.Spelling.{sized_bytes as content_bytes}
 
 -- what each record begins with: its form and its tag
 abbrev pub start : ℕ → ℕ → List ℕ
@@ -70,28 +75,41 @@ outcome_bytes (NoSupplier block) = 3 ∷ to_be_bytes w16 block
 unfoldable pub spelling : Record → List ℕ
 spelling (Deposit au blocks) = start 1 1 ++ to_be_bytes w16 au ++ block_bytes blocks
 spelling (PollOpened number au nonce inner tick limits kind) =
-    start (opening_form limits kind) 2 ++ to_be_bytes w32 number ++ to_be_bytes w16 au ++ nonce ++ peer_bytes inner ++ to_be_bytes w32 tick ++ optional limit_bytes limits ++ kind_bytes (is_second kind)
-spelling (Nominated number voter nominees) = start 1 3 ++ to_be_bytes w32 number ++ to_be_bytes w16 voter ++ peer_bytes nominees
+    start (opening_form limits kind) 2 ++ to_be_bytes w32 number ++ to_be_bytes w16 au ++ nonce ++ peer_bytes inner
+    ++ to_be_bytes w32 tick ++ optional limit_bytes limits ++ kind_bytes (is_second kind)
+spelling (Nominated number voter nominees) =
+    start 1 3 ++ to_be_bytes w32 number ++ to_be_bytes w16 voter ++ peer_bytes nominees
 spelling (OuterOpened number outer) = start 1 4 ++ to_be_bytes w32 number ++ peer_bytes outer
-spelling (VoteIn number voter hashes) = start 1 5 ++ to_be_bytes w32 number ++ to_be_bytes w16 voter ++ hash_bytes hashes
+spelling (VoteIn number voter hashes) =
+    start 1 5 ++ to_be_bytes w32 number ++ to_be_bytes w16 voter ++ hash_bytes hashes
 spelling (Shut number) = start 1 6 ++ to_be_bytes w32 number
-spelling (Asked number block voter) = start 1 7 ++ to_be_bytes w32 number ++ to_be_bytes w16 block ++ to_be_bytes w16 voter
-spelling (RepairBad number block voter) = start 1 8 ++ to_be_bytes w32 number ++ to_be_bytes w16 block ++ to_be_bytes w16 voter
-spelling (Replaced number au block bytes) = start 1 9 ++ to_be_bytes w32 number ++ to_be_bytes w16 au ++ to_be_bytes w16 block ++ content_bytes bytes
-spelling (Closed number outcome tick) = start 1 10 ++ to_be_bytes w32 number ++ outcome_bytes outcome ++ to_be_bytes w32 tick
+spelling (Asked number block voter) =
+    start 1 7 ++ to_be_bytes w32 number ++ to_be_bytes w16 block ++ to_be_bytes w16 voter
+spelling (RepairBad number block voter) =
+    start 1 8 ++ to_be_bytes w32 number ++ to_be_bytes w16 block ++ to_be_bytes w16 voter
+spelling (Replaced number au block bytes) =
+    start 1 9 ++ to_be_bytes w32 number ++ to_be_bytes w16 au ++ to_be_bytes w16 block ++ content_bytes bytes
+spelling (Closed number outcome tick) =
+    start 1 10 ++ to_be_bytes w32 number ++ outcome_bytes outcome ++ to_be_bytes w32 tick
 spelling (Overdue au tick) = start 1 11 ++ to_be_bytes w16 au ++ to_be_bytes w32 tick
-spelling (Joined poll au tick low repairs) = start (joined_form repairs) 12 ++ poll_bytes poll ++ to_be_bytes w16 au ++ to_be_bytes w32 tick ++ flag_bytes low ++ optional (to_be_bytes w16) repairs
-spelling (Committed poll nonce version kind) = start (committed_form kind) 13 ++ poll_bytes poll ++ nonce ++ to_be_bytes w32 version ++ kind_bytes (is_second kind)
+spelling (Joined poll au tick low repairs) =
+    start (joined_form repairs) 12 ++ poll_bytes poll ++ to_be_bytes w16 au ++ to_be_bytes w32 tick
+    ++ flag_bytes low ++ optional (to_be_bytes w16) repairs
+spelling (Committed poll nonce version kind) =
+    start (committed_form kind) 13 ++ poll_bytes poll ++ nonce ++ to_be_bytes w32 version
+    ++ kind_bytes (is_second kind)
 spelling (Voted poll hashes) = start 1 14 ++ poll_bytes poll ++ hash_bytes hashes
 spelling (Served poll block) = start 1 15 ++ poll_bytes poll ++ to_be_bytes w16 block
 spelling (Ended poll) = start 1 16 ++ poll_bytes poll
-spelling (Tuned quorum minority repairs) = start 2 17 ++ limit_bytes (record { quorum = quorum; minority = minority }) ++ to_be_bytes w16 repairs
+spelling (Tuned quorum minority repairs) =
+    start 2 17 ++ limit_bytes (record { quorum = quorum; minority = minority }) ++ to_be_bytes w16 repairs
 
 -- ---- limits
 
 -- a quorum that a circle can have, and a minority that obeys its rule
 abbrev pub AreLimits : Limits → Type 0
-AreLimits limits = (1 ≤ limits.quorum) × (limits.quorum ≤ MOST_CIRCLE) × (obeys_quorum_rule limits.quorum limits.minority ≡ true)
+AreLimits limits =
+    (1 ≤ limits.quorum) × (limits.quorum ≤ MOST_CIRCLE) × (obeys_quorum_rule limits.quorum limits.minority ≡ true)
 
 -- an opening of the second kind has limits
 abbrev pub HasLimits : Option Limits → HashKind → Type 0
@@ -107,7 +125,8 @@ HasBlock (NoSupplier block) = block ≤ LAST_BLOCK
 
 -- nothing is above its limit
 abbrev pub IsWithin : Record → Type 0
-IsWithin (Deposit au blocks) = (1 ≤ length blocks) × (length blocks ≤ MOST_BLOCKS) × All (λ b. length b ≤ MOST_BLOCK_BYTES) blocks
+IsWithin (Deposit au blocks) =
+    (1 ≤ length blocks) × (length blocks ≤ MOST_BLOCKS) × All (λ b. length b ≤ MOST_BLOCK_BYTES) blocks
 IsWithin (PollOpened number au nonce inner tick limits kind) = (length inner ≤ MOST_CIRCLE) × HasLimits limits kind
 IsWithin (Nominated number voter nominees) = length nominees ≤ MOST_NOMINEES
 IsWithin (OuterOpened number outer) = length outer ≤ MOST_CIRCLE
@@ -123,7 +142,8 @@ IsWithin (Committed poll nonce version kind) = Unit {0}
 IsWithin (Voted poll hashes) = length hashes ≤ MOST_BLOCKS
 IsWithin (Served poll block) = block ≤ LAST_BLOCK
 IsWithin (Ended poll) = Unit {0}
-IsWithin (Tuned quorum minority repairs) = AreLimits (record { quorum = quorum; minority = minority }) × (repairs ≤ MOST_REPAIRS)
+IsWithin (Tuned quorum minority repairs) =
+    AreLimits (record { quorum = quorum; minority = minority }) × (repairs ≤ MOST_REPAIRS)
 
 -- the name of a poll has numbers of the size of their types
 abbrev pub IsPoll : PollName → Type 0
@@ -140,7 +160,8 @@ ArePeers peers = All (λ p. p < 2 ^ 16) peers
 -- numbers, nonces and hashes have the sizes of their types
 abbrev pub IsSized : Record → Type 0
 IsSized (Deposit au blocks) = au < 2 ^ 16
-IsSized (PollOpened number au nonce inner tick limits kind) = (number < 2 ^ 32) × (au < 2 ^ 16) × (length nonce ≡ 32) × ArePeers inner × (tick < 2 ^ 32)
+IsSized (PollOpened number au nonce inner tick limits kind) =
+    (number < 2 ^ 32) × (au < 2 ^ 16) × (length nonce ≡ 32) × ArePeers inner × (tick < 2 ^ 32)
 IsSized (Nominated number voter nominees) = (number < 2 ^ 32) × (voter < 2 ^ 16) × ArePeers nominees
 IsSized (OuterOpened number outer) = (number < 2 ^ 32) × ArePeers outer
 IsSized (VoteIn number voter hashes) = (number < 2 ^ 32) × (voter < 2 ^ 16) × AreHashes hashes

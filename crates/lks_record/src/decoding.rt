@@ -3,10 +3,13 @@
 ghost use Rattle.std.specs.Prelude.{◌≡◌, List, IfOk};
 ghost use Rattle.lks_field.specs.Reading.{many_at};
 ghost use Rattle.lks_record.specs.Spelling.{batch_spelling, IsBatch};
-ghost use Rattle.lks_record.specs.Reading.{Reads, ReadsBy, Gives, deposit_at, opened_at, nominated_at, outer_at, vote_in_at, shut_at, asked_at, repair_bad_at, replaced_at, closed_at, overdue_at, joined_at, committed_at, voted_at, served_at, ended_at, tuned_at, body_at, record_at, batch_at, decode_of};
+ghost use Rattle.lks_record.specs.Reading.{Reads, ReadsBy, Gives, deposit_at, opened_at, nominated_at, outer_at};
+ghost use Rattle.lks_record.specs.Reading.{vote_in_at, shut_at, asked_at, repair_bad_at, replaced_at, closed_at};
+ghost use Rattle.lks_record.specs.Reading.{overdue_at, joined_at, committed_at, voted_at, served_at, ended_at};
+ghost use Rattle.lks_record.specs.Reading.{tuned_at, body_at, record_at, batch_at, decode_of};
 
 use crate::fault::RecFault;
-use crate::heading::{Heading, Opening, heading_of};
+use crate::heading::{OpeningForm, RecordHeading, heading_of};
 use crate::reading::{
     block_of, blocks_of, content_of, flag_of, from_one_of, hashes_of, id_of, kind_of, limits_of,
     long_of, nonce_of, optional_limits, optional_repairs, outcome_of, peers_of, poll_of,
@@ -28,7 +31,11 @@ fn deposit_of(alloc: Global, fields: &mut Fields<'_>) -> Result<Record, RecFault
 }
 
 #[tactic(auto, unfolding(crate::specs::Reading::opened_at))]
-fn opened_of(alloc: Global, opening: Opening, fields: &mut Fields<'_>) -> Result<Record, RecFault>
+fn opened_of(
+    alloc: Global,
+    opening: OpeningForm,
+    fields: &mut Fields<'_>,
+) -> Result<Record, RecFault>
     ensures { Reads result fields.new (opened_at opening fields.old) }
 {
     let number = long_of(fields)?;
@@ -234,27 +241,31 @@ fn tuned_of(fields: &mut Fields<'_>) -> Result<Record, RecFault>
     })
 }
 
-fn body_of(alloc: Global, heading: Heading, fields: &mut Fields<'_>) -> Result<Record, RecFault>
+fn body_of(
+    alloc: Global,
+    heading: RecordHeading,
+    fields: &mut Fields<'_>,
+) -> Result<Record, RecFault>
     ensures { Reads result fields.new (body_at heading fields.old) }
 {
     match heading {
-        Heading::Deposit => deposit_of(alloc, fields),
-        Heading::PollOpened(opening) => opened_of(alloc, opening, fields),
-        Heading::Nominated => nominated_of(alloc, fields),
-        Heading::OuterOpened => outer_of(alloc, fields),
-        Heading::VoteIn => vote_in_of(alloc, fields),
-        Heading::Shut => shut_of(fields),
-        Heading::Asked => asked_of(fields),
-        Heading::RepairBad => repair_bad_of(fields),
-        Heading::Replaced => replaced_of(alloc, fields),
-        Heading::Closed => closed_of(fields),
-        Heading::Overdue => overdue_of(fields),
-        Heading::Joined(told) => joined_of(told, fields),
-        Heading::Committed(kind) => committed_of(kind, fields),
-        Heading::Voted => voted_of(alloc, fields),
-        Heading::Served => served_of(fields),
-        Heading::Ended => ended_of(fields),
-        Heading::Tuned => tuned_of(fields),
+        RecordHeading::Deposit => deposit_of(alloc, fields),
+        RecordHeading::PollOpened(opening) => opened_of(alloc, opening, fields),
+        RecordHeading::Nominated => nominated_of(alloc, fields),
+        RecordHeading::OuterOpened => outer_of(alloc, fields),
+        RecordHeading::VoteIn => vote_in_of(alloc, fields),
+        RecordHeading::Shut => shut_of(fields),
+        RecordHeading::Asked => asked_of(fields),
+        RecordHeading::RepairBad => repair_bad_of(fields),
+        RecordHeading::Replaced => replaced_of(alloc, fields),
+        RecordHeading::Closed => closed_of(fields),
+        RecordHeading::Overdue => overdue_of(fields),
+        RecordHeading::Joined(told) => joined_of(told, fields),
+        RecordHeading::Committed(kind) => committed_of(kind, fields),
+        RecordHeading::Voted => voted_of(alloc, fields),
+        RecordHeading::Served => served_of(fields),
+        RecordHeading::Ended => ended_of(fields),
+        RecordHeading::Tuned => tuned_of(fields),
     }
 }
 
@@ -302,7 +313,8 @@ pub fn decode_batch(alloc: Global, bytes: &[u8]) -> Result<Vec<Record>, RecFault
     // What is read is spelled so.
     ensures found { IfOk result (λ v. IsBatch v.items × (bytes.now ≡ batch_spelling v.items)) }
     // What is spelled so is read, unless memory runs out.
-    ensures only { (list : List Record) → IsBatch list → bytes.now ≡ batch_spelling list → Gives (λ v. v.items) result (Ok list) }
+    ensures only { (list : List Record) → IsBatch list → bytes.now ≡ batch_spelling list
+        → Gives (λ v. v.items) result (Ok list) }
 {
     whole(alloc, bytes)
 }

@@ -2,8 +2,10 @@
 
 ghost use Rattle.std.specs.Prelude.{◌≡◌, ◌≤◌, ◌++◌, length, OnOk, IfOk, All};
 ghost use Rattle.std.specs.List.{flat_map};
-ghost use Rattle.lks_base.specs.declared.limits.TheConstants.{MOST_BLOCKS, MOST_BLOCK_BYTES, MOST_CIRCLE, MOST_NOMINEES};
-ghost use Rattle.lks_record.specs.Spelling.{opening_form, joined_form, committed_form, spelling, batch_spelling, content_bytes, IsWithin, IsSized, IsCounted};
+ghost use Rattle.lks_base.specs.declared.limits.TheConstants.{MOST_BLOCKS, MOST_BLOCK_BYTES, MOST_CIRCLE};
+ghost use Rattle.lks_base.specs.declared.limits.TheConstants.{MOST_NOMINEES};
+ghost use Rattle.lks_record.specs.Spelling.{opening_form, joined_form, committed_form, spelling, batch_spelling};
+ghost use Rattle.lks_record.specs.Spelling.{content_bytes, IsWithin, IsSized, IsCounted};
 ghost use Rattle.lks_record.specs.Reading.{decode_of};
 ghost use Rattle.lks_record.specs.Sizes.{most_batch_bytes};
 
@@ -67,7 +69,9 @@ fn put_opened(
     kind: HashKind,
 ) -> Written
     requires { length inner.now ≤ MOST_CIRCLE }
-    ensures spelled { OnOk result (out.new.items ≡ out.old.items ++ spelling (Record.PollOpened number au nonce.now inner.now tick limits kind)) }
+    ensures spelled { OnOk result
+        (out.new.items
+        ≡ out.old.items ++ spelling (Record.PollOpened number au nonce.now inner.now tick limits kind)) }
     ensures sized { IsSized (Record.PollOpened number au nonce.now inner.now tick limits kind) }
 {
     put_start(out, form_of_opening(limits, kind), 2)?;
@@ -83,7 +87,8 @@ fn put_opened(
 #[tactic(auto, unfolding(crate::specs::Spelling::spelling))]
 fn put_nominated(out: &mut Vec<u8>, number: u32, voter: u16, nominees: &[u16]) -> Written
     requires { length nominees.now ≤ MOST_NOMINEES }
-    ensures spelled { OnOk result (out.new.items ≡ out.old.items ++ spelling (Record.Nominated number voter nominees.now)) }
+    ensures spelled { OnOk result
+        (out.new.items ≡ out.old.items ++ spelling (Record.Nominated number voter nominees.now)) }
     ensures sized { IsSized (Record.Nominated number voter nominees.now) }
 {
     put_start(out, 1, 3)?;
@@ -149,7 +154,8 @@ fn put_repair_bad(out: &mut Vec<u8>, number: u32, block: u16, voter: u16) -> Wri
 #[tactic(auto, unfolding(crate::specs::Spelling::spelling))]
 fn put_replaced(out: &mut Vec<u8>, number: u32, au: u16, block: u16, bytes: &[u8]) -> Written
     requires { length bytes.now ≤ MOST_BLOCK_BYTES }
-    ensures spelled { OnOk result (out.new.items ≡ out.old.items ++ spelling (Record.Replaced number au block bytes.now)) }
+    ensures spelled { OnOk result
+        (out.new.items ≡ out.old.items ++ spelling (Record.Replaced number au block bytes.now)) }
     ensures sized { IsSized (Record.Replaced number au block bytes.now) }
 {
     put_start(out, 1, 9)?;
@@ -208,7 +214,8 @@ fn put_committed(
     version: u32,
     kind: HashKind,
 ) -> Written
-    ensures spelled { OnOk result (out.new.items ≡ out.old.items ++ spelling (Record.Committed poll nonce.now version kind)) }
+    ensures spelled { OnOk result
+        (out.new.items ≡ out.old.items ++ spelling (Record.Committed poll nonce.now version kind)) }
     ensures sized { IsSized (Record.Committed poll nonce.now version kind) }
 {
     put_start(out, form_of_committed(kind), 13)?;

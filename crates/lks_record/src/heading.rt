@@ -1,7 +1,8 @@
 //! Form and tag.
 
 ghost use Rattle.std.specs.Prelude.{◌≡◌};
-ghost use Rattle.lks_record.specs.Reading.{Reads, is_limited, kind_in, first_heading, second_heading, third_heading, heading_at};
+ghost use Rattle.lks_record.specs.Reading.{Reads, is_limited, kind_in, first_heading, second_heading, third_heading};
+ghost use Rattle.lks_record.specs.Reading.{heading_at};
 
 use crate::fault::RecFault;
 use lks_base::HashKind;
@@ -9,7 +10,7 @@ use lks_field::Fields;
 
 /// What is spelled of a poll's opening.
 #[derive(Clone, Copy)]
-pub enum Opening {
+pub enum OpeningForm {
     /// No limits; the kind is SHA-256.
     Plain,
     /// Limits; the kind is SHA-256.
@@ -18,15 +19,15 @@ pub enum Opening {
     OfKind,
 }
 
-impl Opening {
+impl OpeningForm {
     /// Whether it has limits.
     pub fn limited(self) -> bool
         ensures { result ≡ is_limited self }
     {
         match self {
-            Opening::Plain => false,
-            Opening::Limited => true,
-            Opening::OfKind => true,
+            OpeningForm::Plain => false,
+            OpeningForm::Limited => true,
+            OpeningForm::OfKind => true,
         }
     }
 
@@ -35,18 +36,18 @@ impl Opening {
         ensures { result ≡ kind_in self }
     {
         match self {
-            Opening::Plain => HashKind::Sha256,
-            Opening::Limited => HashKind::Sha256,
-            Opening::OfKind => HashKind::Sha512_256,
+            OpeningForm::Plain => HashKind::Sha256,
+            OpeningForm::Limited => HashKind::Sha256,
+            OpeningForm::OfKind => HashKind::Sha512_256,
         }
     }
 }
 
 /// What a form and a tag announce.
 #[derive(Clone, Copy)]
-pub enum Heading {
+pub enum RecordHeading {
     Deposit,
-    PollOpened(Opening),
+    PollOpened(OpeningForm),
     Nominated,
     OuterOpened,
     VoteIn,
@@ -66,56 +67,56 @@ pub enum Heading {
 }
 
 #[tactic(auto, unfolding(crate::specs::Reading::first_heading))]
-fn first_heading_of(tag: u8) -> Result<Heading, RecFault>
+fn first_heading_of(tag: u8) -> Result<RecordHeading, RecFault>
     ensures { result ≡ first_heading tag }
 {
     match tag {
-        1 => Ok(Heading::Deposit),
-        2 => Ok(Heading::PollOpened(Opening::Plain)),
-        3 => Ok(Heading::Nominated),
-        4 => Ok(Heading::OuterOpened),
-        5 => Ok(Heading::VoteIn),
-        6 => Ok(Heading::Shut),
-        7 => Ok(Heading::Asked),
-        8 => Ok(Heading::RepairBad),
-        9 => Ok(Heading::Replaced),
-        10 => Ok(Heading::Closed),
-        11 => Ok(Heading::Overdue),
-        12 => Ok(Heading::Joined(false)),
-        13 => Ok(Heading::Committed(HashKind::Sha256)),
-        14 => Ok(Heading::Voted),
-        15 => Ok(Heading::Served),
-        16 => Ok(Heading::Ended),
+        1 => Ok(RecordHeading::Deposit),
+        2 => Ok(RecordHeading::PollOpened(OpeningForm::Plain)),
+        3 => Ok(RecordHeading::Nominated),
+        4 => Ok(RecordHeading::OuterOpened),
+        5 => Ok(RecordHeading::VoteIn),
+        6 => Ok(RecordHeading::Shut),
+        7 => Ok(RecordHeading::Asked),
+        8 => Ok(RecordHeading::RepairBad),
+        9 => Ok(RecordHeading::Replaced),
+        10 => Ok(RecordHeading::Closed),
+        11 => Ok(RecordHeading::Overdue),
+        12 => Ok(RecordHeading::Joined(false)),
+        13 => Ok(RecordHeading::Committed(HashKind::Sha256)),
+        14 => Ok(RecordHeading::Voted),
+        15 => Ok(RecordHeading::Served),
+        16 => Ok(RecordHeading::Ended),
         _ => Err(RecFault::Tag),
     }
 }
 
 #[tactic(auto, unfolding(crate::specs::Reading::second_heading))]
-fn second_heading_of(tag: u8) -> Result<Heading, RecFault>
+fn second_heading_of(tag: u8) -> Result<RecordHeading, RecFault>
     ensures { result ≡ second_heading tag }
 {
     match tag {
-        2 => Ok(Heading::PollOpened(Opening::Limited)),
-        12 => Ok(Heading::Joined(true)),
-        13 => Ok(Heading::Committed(HashKind::Sha512_256)),
-        17 => Ok(Heading::Tuned),
+        2 => Ok(RecordHeading::PollOpened(OpeningForm::Limited)),
+        12 => Ok(RecordHeading::Joined(true)),
+        13 => Ok(RecordHeading::Committed(HashKind::Sha512_256)),
+        17 => Ok(RecordHeading::Tuned),
         _ => Err(RecFault::Tag),
     }
 }
 
 #[tactic(auto, unfolding(crate::specs::Reading::third_heading))]
-fn third_heading_of(tag: u8) -> Result<Heading, RecFault>
+fn third_heading_of(tag: u8) -> Result<RecordHeading, RecFault>
     ensures { result ≡ third_heading tag }
 {
     match tag {
-        2 => Ok(Heading::PollOpened(Opening::OfKind)),
+        2 => Ok(RecordHeading::PollOpened(OpeningForm::OfKind)),
         _ => Err(RecFault::Tag),
     }
 }
 
 /// The heading at the front. The form is judged before the tag is read.
 #[tactic(auto, unfolding(crate::specs::Reading::heading_at))]
-pub fn heading_of(fields: &mut Fields<'_>) -> Result<Heading, RecFault>
+pub fn heading_of(fields: &mut Fields<'_>) -> Result<RecordHeading, RecFault>
     ensures { Reads result fields.new (heading_at fields.old) }
 {
     match fields.get_u8()? {

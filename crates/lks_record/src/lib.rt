@@ -1,4 +1,6 @@
 //! Batches of journal records as bytes, both ways. A batch is the records that one event adds.
+//!
+//! Its trials: `lks_format_trials`, `record`.
 #![tactic(auto)]
 
 mod decoding;

@@ -2,7 +2,9 @@
 
 ghost use Rattle.std.specs.Prelude.{◌≡◌};
 ghost use Rattle.lks_field.specs.Reading.{many_at};
-ghost use Rattle.lks_record.specs.Reading.{Reads, id_at, long_at, nonce_at, flag_at, from_one_at, peers_at, hashes_at, block_at, content_at, blocks_at, poll_at, minority_at, limits_at, repairs_at, optional_at, said_kind_at, outcome_at};
+ghost use Rattle.lks_record.specs.Reading.{Reads, id_at, long_at, nonce_at, flag_at, from_one_at, peers_at, hashes_at};
+ghost use Rattle.lks_record.specs.Reading.{block_at, content_at, blocks_at, poll_at, minority_at, limits_at};
+ghost use Rattle.lks_record.specs.Reading.{repairs_at, optional_at, said_kind_at, outcome_at};
 
 use crate::fault::RecFault;
 use lks_base::{

@@ -3,7 +3,8 @@
 ghost use Rattle.std.specs.Prelude.{◌≡◌, ◌≤◌, ◌++◌, ◌∷◌, length, OnOk, All};
 ghost use Rattle.std.specs.Int.{w16, to_be_bytes};
 ghost use Rattle.lks_base.specs.declared.limits.TheConstants.{MOST_BLOCKS, MOST_BLOCK_BYTES};
-ghost use Rattle.lks_record.specs.Spelling.{start, block_bytes, flag_bytes, poll_bytes, limit_bytes, optional, outcome_bytes};
+ghost use Rattle.lks_record.specs.Spelling.{start, block_bytes, flag_bytes, poll_bytes, limit_bytes, optional};
+ghost use Rattle.lks_record.specs.Spelling.{outcome_bytes};
 
 use lks_base::{Bytes, Limits, Outcome, PollName};
 use lks_field::{put_be16, put_be32, put_sized, put_u8};

@@ -15,7 +15,8 @@ pub length-summary_text : (seed : ℕ) (entries : List Entry) → 0 < length (su
 unfolding summary_text
 length-summary_text seed entries = omega arith
 
-pub nothing_added : (bytes piece : List ℕ) (after : Option (List ℕ)) → 0 < length piece → after ≡ Some bytes → AddsFront bytes piece after
+pub nothing_added : (bytes piece : List ℕ) (after : Option (List ℕ)) → 0 < length piece → after ≡ Some bytes
+    → AddsFront bytes piece after
 nothing_added bytes piece after some same = record {
   count = 0;
   within = some;

@@ -16,7 +16,8 @@ pub written_more : {X : Type 0} (text : ℕ → X → List ℕ) (front old new :
 written_more text front old new a i n xs x within is number so_far now =
     let inside : i < length (enumerate_from a xs) = rw (length-enumerate_from a xs) within in
     let more = take_more (enumerate_from a xs) i (a, x) inside in
-    let item : get_or (enumerate_from a xs) i (a, x) ≡ (n, x) = rw (get_or-enumerate_from a xs i (a, x) within, number, ← is) in
+    let item : get_or (enumerate_from a xs) i (a, x)
+    ≡ (n, x) = rw (get_or-enumerate_from a xs i (a, x) within, number, ← is) in
     rw (now, so_far, more, item) (flat_map_more (λ m. text m.0 m.1) front (take i (enumerate_from a xs)) (n, x))
 
 -- at the end

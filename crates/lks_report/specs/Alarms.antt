@@ -1,7 +1,7 @@
 -- Which notes are alarms, and which entries and histories have one.
 use Rattle.std.specs.Prelude.{ℕ, Bool, true, false, Option, Some, None, List, [], ◌∷◌}
 use Rattle.std.specs.List.{list_any}
-use Rattle.lks_alarm.specs.declared.alarms.Alarm.{Alarm}
+use Rattle.lks_outside.specs.declared.alarms.Alarm.{Alarm}
 use Rattle.lks_base.specs.Notes.{Ending, noted}
 use Rattle.lks_base.specs.declared.entries.Entry.{Entry}
 use Rattle.lks_base.specs.declared.entries.Note.{Note}

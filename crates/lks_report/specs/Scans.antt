@@ -1,5 +1,6 @@
 -- What the lines below the entries count and look up.
-use Rattle.std.specs.Prelude.{ℕ, Bool, false, not, ◌&&◌, ◌==◌, if◌then◌else◌, Option, Some, None, List, [], take, slice_get, sum_by, count_by}
+use Rattle.std.specs.Prelude.{ℕ, Bool, false, not, ◌&&◌, ◌==◌, if◌then◌else◌, Option, Some, None, List, [], take}
+use Rattle.std.specs.Prelude.{slice_get, sum_by, count_by}
 use Rattle.std.specs.List.{flat_map, filter_map}
 use Rattle.std.specs.Option.{option_map_or}
 use Rattle.lks_base.specs.Notes.{Ending, noted}

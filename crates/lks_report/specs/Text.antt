@@ -2,9 +2,9 @@
 use Rattle.std.specs.Prelude.{ℕ, if◌then◌else◌, Option, Some, None, List, [], ◌∷◌, ◌++◌, length, codes, decimal}
 use Rattle.std.specs.List.{flat_map, enumerate_from}
 use Rattle.std.specs.Option.{option_map_or}
-use Rattle.lks_alarm.specs.declared.alarms.Alarm.{Alarm}
-use Rattle.lks_alarm.specs.declared.alarms.AlarmKind.{AlarmKind}
-use Rattle.lks_alarm.specs.declared.alarms.AlarmKind.TheVariants as raised
+use Rattle.lks_outside.specs.declared.alarms.Alarm.{Alarm}
+use Rattle.lks_outside.specs.declared.alarms.AlarmKind.{AlarmKind}
+use Rattle.lks_outside.specs.declared.alarms.AlarmKind.TheVariants as raised
 use Rattle.lks_base.specs.Notes.{noted}
 use Rattle.lks_base.specs.declared.entries.Entry.{Entry}
 use Rattle.lks_base.specs.declared.entries.Note.{Note}
@@ -56,7 +56,8 @@ status_words (Some outcome) = outcome_words outcome
 unfoldable pub poll_line : ℕ → List Note → ℕ → ℕ → List ℕ
 poll_line peer notes number au =
     line (spaced (codes "poll" ∷ decimal peer ∷ decimal number ∷ decimal au
-    ∷ decimal (inner_votes number notes) ∷ decimal (outer_votes number notes) ∷ status_words (outcome_of number notes) ∷ []))
+    ∷ decimal (inner_votes number notes) ∷ decimal (outer_votes number notes)
+    ∷ status_words (outcome_of number notes) ∷ []))
 
 -- the line of the poll that a note opens
 unfoldable pub opened_line : ℕ → List Note → Note → List ℕ

@@ -13,7 +13,10 @@ ghost use Rattle.lks_report.specs.Text.{alarm_text, alarm_lines};
 /// The entries of a history have an alarm exactly where it raises one, they have as many alarms among their notes as it
 /// raises, and the alarm lines of its report are those of its alarms, one each, in order.
 pub fn every_alarm_is_told()
-    ensures tells { (plan : Plan) (history : List Event) → is_alarmed (entries plan history) ≡ has_any (alarms plan history) }
-    ensures counts { (plan : Plan) (history : List Event) → count_by is_alarm (all_notes (entries plan history)) ≡ length (alarms plan history) }
-    ensures lines { (plan : Plan) (history : List Event) → alarm_lines (entries plan history) ≡ flat_map alarm_text (alarms plan history) }
+    ensures tells { (plan : Plan) (history : List Event)
+        → is_alarmed (entries plan history) ≡ has_any (alarms plan history) }
+    ensures counts { (plan : Plan) (history : List Event)
+        → count_by is_alarm (all_notes (entries plan history)) ≡ length (alarms plan history) }
+    ensures lines { (plan : Plan) (history : List Event)
+        → alarm_lines (entries plan history) ≡ flat_map alarm_text (alarms plan history) }
 {}

@@ -1,5 +1,7 @@
 //! The report of a run: bytes that are a function of its plan and its entries. It tells of each alarm of a history, and
 //! of no other: `every_alarm_is_told`. Beside it the one line of a drill, which counts: `summary`.
+//!
+//! Its trials: `lks_format_trials`, `report`.
 #![tactic(auto)]
 
 mod drills;

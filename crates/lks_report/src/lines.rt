@@ -2,7 +2,9 @@
 ghost use Rattle.std.specs.Prelude.{◌≡◌, ◌++◌, [], OnOk, string_bytes};
 ghost use Rattle.std.specs.Option.{option_map_or};
 ghost use Rattle.lks_law.specs.Alarms.{closing_alarm};
-ghost use Rattle.lks_report.specs.Text.{entry_line, entry_lines, copy_line, peer_copies, copy_lines, status_words, poll_line, opened_line, peer_polls, poll_lines, alarm_text, alarm_line, entry_alarms, alarm_lines, end_line};
+ghost use Rattle.lks_report.specs.Text.{entry_line, entry_lines, copy_line, peer_copies, copy_lines, status_words};
+ghost use Rattle.lks_report.specs.Text.{poll_line, opened_line, peer_polls, poll_lines, alarm_text, alarm_line};
+ghost use Rattle.lks_report.specs.Text.{entry_alarms, alarm_lines, end_line};
 
 use crate::scans::{actor, inner_votes, notes_of, outcome_of, outer_votes, ticks_in, version};
 use crate::words::{put_event, put_notes, put_outcome};
@@ -186,7 +188,8 @@ fn put_closing_alarm(
     outcome: Outcome,
 ) -> Result<(), AllocError>
     ensures { OnOk result
-        (string_bytes out.new ≡ string_bytes out.old ++ option_map_or alarm_text (closing_alarm peer tick number outcome) []) }
+        (string_bytes out.new
+        ≡ string_bytes out.old ++ option_map_or alarm_text (closing_alarm peer tick number outcome) []) }
 {
     match outcome {
         Outcome::Agreed | Outcome::Inquorate => Ok(()),

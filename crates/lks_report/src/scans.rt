@@ -1,6 +1,7 @@
 //! What the lines below the entries count and look up.
 ghost use Rattle.std.specs.Prelude.{◌≡◌, ◌++◌, IfOk, OnOk};
-ghost use Rattle.lks_report.specs.Scans.{step_actor, actor, own_notes, notes_of, replaces, version, is_inner_vote, is_outer_vote, inner_votes, outer_votes, outcome_in, outcome_of, ticks_in};
+ghost use Rattle.lks_report.specs.Scans.{step_actor, actor, own_notes, notes_of, replaces, version, is_inner_vote};
+ghost use Rattle.lks_report.specs.Scans.{is_outer_vote, inner_votes, outer_votes, outcome_in, outcome_of, ticks_in};
 ghost use Rattle.lks_report.specs.Alarms.{is_alarming_end, is_alarm, is_alarming, is_alarmed};
 
 use lks_base::{AuId, Entry, Event, Note, Outcome, PeerId, PeerStep};

@@ -1,6 +1,7 @@
 //! The words of events and notes.
 ghost use Rattle.std.specs.Prelude.{◌≡◌, ◌++◌, OnOk, string_bytes};
-ghost use Rattle.lks_report.specs.Words.{judged_words, delivery_words, step_words, event_words, outcome_words, grade_word, note_words, notes_words};
+ghost use Rattle.lks_report.specs.Words.{judged_words, delivery_words, step_words, event_words, outcome_words};
+ghost use Rattle.lks_report.specs.Words.{grade_word, note_words, notes_words};
 
 use lks_base::{AuId, Entry, Event, Judged, Note, Outcome, PeerStep, PollName};
 use std::alloc::AllocError;

@@ -1,23 +1,31 @@
-//! Trials of what a peer's rules stand on: keys and hashes, draws, lists of peers, grades, requests, judges, bells and
-//! a voter's part.
+//! Trials of what a peer's rules stand on, a module for each crate: keys and hashes (`lks_hash`), draws (`lks_draw`),
+//! whom a peer samples, admits and asks (`lks_choice`), a voter's part (`lks_voter`), tallies and polls (`lks_tally`,
+//! `lks_poller`), versions of copies (`lks_versions`), and the hashing of votes as jobs, also on threads (`lks_work`,
+//! `lks_farm`).
 #![tactic(auto)]
 
 #[cfg(test)]
-mod alarm;
+mod choice;
 #[cfg(test)]
 mod draw;
 #[cfg(test)]
-mod effort;
-#[cfg(test)]
-mod grade;
+mod farm;
 #[cfg(test)]
 mod hash;
 #[cfg(test)]
-mod refs;
+mod poller;
 #[cfg(test)]
-mod repair;
+mod same;
+#[cfg(test)]
+mod samples;
+#[cfg(test)]
+mod tally;
+#[cfg(test)]
+mod versions;
 #[cfg(test)]
 mod voter;
+#[cfg(test)]
+mod work;
 
 /// The byte 1 and 31 zero bytes.
 #[cfg(test)]

@@ -1,5 +1,6 @@
 -- What is made of bytes: lists, numbers with the high byte first, and hashes.
-use Rattle.std.proofs.Common.{◌≡◌, ◌<◌, ◌^◌, ◌/◌, ◌%◌, sym, subst, ℕ, zero, suc, Bool, true, false, List, [], ◌∷◌, ◌++◌, length, take, arith}
+use Rattle.std.proofs.Common.{◌≡◌, ◌<◌, ◌^◌, ◌/◌, ◌%◌, sym, subst, ℕ, zero, suc, Bool, true, false, List, [], ◌∷◌}
+use Rattle.std.proofs.Common.{◌++◌, length, take, arith}
 use Rattle.std.specs.Prelude.{slice_index}
 use Rattle.std.specs.Int.{Width, w32, w64, byte_len, byte_at, bytes_high_first, to_be_bytes}
 use Rattle.std.specs.List.{flat_map, AllByRecursion}
@@ -26,7 +27,9 @@ append_bytes (x ∷ xs) ys first then = cons_bytes x (xs ++ ys) (first 0) (appen
 
 pub joined_bytes : (lists : List (List ℕ)) → AllByRecursion AreBytes lists → AreBytes (flat_map (λ bytes. bytes) lists)
 joined_bytes [] are = no_bytes
-joined_bytes (x ∷ xs) are = subst AreBytes (sym (flat_map-cons (λ (y : List ℕ). y) x xs)) (append_bytes x (flat_map (λ (y : List ℕ). y) xs) are.0 (joined_bytes xs are.1))
+joined_bytes (x ∷ xs) are =
+    subst AreBytes (sym (flat_map-cons (λ (y : List ℕ). y) x xs))
+    (append_bytes x (flat_map (λ (y : List ℕ). y) xs) are.0 (joined_bytes xs are.1))
 
 taken_bytes : (n : ℕ) (bytes : List ℕ) → AreBytes bytes → AreBytes (take n bytes)
 taken_bytes zero bytes are = no_bytes
@@ -59,12 +62,16 @@ pub record IsHash (hash : List ℕ) : Type 0 where
 words_256 : (words : List ℕ) (n : ℕ) → AreBytes (digest_256 words n)
 unfolding digest_256
 words_256 words zero = no_bytes
-words_256 words (suc n) = append_bytes (digest_256 words n) (to_be_bytes w32 (slice_index words n)) (words_256 words n) (number_bytes w32 (slice_index words n))
+words_256 words (suc n) =
+    append_bytes (digest_256 words n) (to_be_bytes w32 (slice_index words n)) (words_256 words n)
+    (number_bytes w32 (slice_index words n))
 
 words_512 : (words : List ℕ) (n : ℕ) → AreBytes (digest_512 words n)
 unfolding digest_512
 words_512 words zero = no_bytes
-words_512 words (suc n) = append_bytes (digest_512 words n) (to_be_bytes w64 (slice_index words n)) (words_512 words n) (number_bytes w64 (slice_index words n))
+words_512 words (suc n) =
+    append_bytes (digest_512 words n) (to_be_bytes w64 (slice_index words n)) (words_512 words n)
+    (number_bytes w64 (slice_index words n))
 
 bytes_256 : (bytes : List ℕ) → AreBytes (sha256 bytes)
 unfolding sha256

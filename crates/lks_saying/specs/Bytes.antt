@@ -3,7 +3,9 @@ use Rattle.std.specs.Prelude.{◌<◌, ℕ, List, get_or, All}
 use Rattle.lks_base.specs.declared.plans.PeerPlan.{PeerPlan}
 use Rattle.lks_base.specs.declared.plans.Plan.{Plan}
 use Rattle.lks_script.specs.declared.steps.Step.{Step}
-use Rattle.lks_script.specs.declared.steps.Step.TheVariants.{Peer, Tick, Next, Lose, Again, Settle, Finish, Forge, SayPoll, SayProof, SayRequest, SayReceipt, SayChallenge, SayNominate, SayVote, SayRepair, Crash, Cut}
+use Rattle.lks_script.specs.declared.steps.Step.TheVariants.{Peer, Tick, Next, Lose, Again, Settle, Finish, Forge}
+use Rattle.lks_script.specs.declared.steps.Step.TheVariants.{SayPoll, SayProof, SayRequest, SayReceipt, SayChallenge}
+use Rattle.lks_script.specs.declared.steps.Step.TheVariants.{SayNominate, SayVote, SayRepair, Crash, Cut}
 
 -- each of these numbers is a byte
 abbrev pub AreBytes : List ℕ → Type 0

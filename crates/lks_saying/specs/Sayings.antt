@@ -27,7 +27,8 @@ planned plan id = find (λ p. p.id == id) plan.peers
 -- a proof names the nonce and the hash of the sender's own poll
 abbrev pub proof_by : ℕ → ℕ → ℕ → Option PeerPlan → Option Saying
 proof_by from to number None = None
-proof_by from to number (Some p) = Some (saying from to (message.PollProof number (nonce_from p.seed number) p.hash p.proof))
+proof_by from to number (Some p) =
+    Some (saying from to (message.PollProof number (nonce_from p.seed number) p.hash p.proof))
 
 -- a vote is that of a peer which holds these blocks, in the poll of this number of the receiver
 
@@ -37,10 +38,13 @@ count_for plan au = unwrap_or (option_map (λ a. a.count) (find (λ a. a.id == a
 abbrev pub vote_over : ℕ → PeerPlan → PeerPlan → ℕ → ℕ → List (List ℕ) → Message
 vote_over count voter poller number au blocks =
     let second = is_second poller.hash in
-    message.Vote number (hashes_of second (key_of second poller.id number (nonce_from poller.seed number) voter.id au count) blocks) voter.proof
+    message.Vote number
+    (hashes_of second (key_of second poller.id number (nonce_from poller.seed number) voter.id au count) blocks)
+    voter.proof
 
 abbrev pub vote_by : Plan → ℕ → ℕ → Option PeerPlan → Option PeerPlan → ℕ → ℕ → List (List ℕ) → Option Saying
-vote_by plan from to (Some voter) (Some poller) number au blocks = Some (saying from to (vote_over (count_for plan au) voter poller number au blocks))
+vote_by plan from to (Some voter) (Some poller) number au blocks =
+    Some (saying from to (vote_over (count_for plan au) voter poller number au blocks))
 vote_by plan from to _ _ number au blocks = None
 
 -- what is said in a step, in a poll of the sender's or in one of the receiver's
@@ -59,7 +63,8 @@ said_by plan (step.SayRequest from to number block) = Some (saying from to (mess
 said_by plan (step.SayReceipt from to number) = Some (saying from to (message.Receipt number))
 said_by plan (step.SayChallenge from to number agrees) = Some (saying from to (message.PollChallenge number agrees))
 said_by plan (step.SayNominate from to number nominees) = Some (saying from to (message.Nominate number nominees))
-said_by plan (step.SayVote from to number au blocks) = vote_by plan from to (planned plan from) (planned plan to) number au blocks
+said_by plan (step.SayVote from to number au blocks) =
+    vote_by plan from to (planned plan from) (planned plan to) number au blocks
 said_by plan (step.SayRepair from to number block bytes) = Some (saying from to (message.Repair number block bytes))
 said_by plan (step.Crash peer) = None
 said_by plan (step.Cut calls choice s) = None

@@ -7,7 +7,8 @@ ghost use Rattle.lks_base.specs.declared.messages.Message.TheVariants as message
 ghost use Rattle.lks_hash.specs.Counting.{Opens};
 ghost use Rattle.lks_hash.specs.Running.{hashes_of};
 ghost use Rattle.lks_message.specs.Spelling.{IsWithin};
-ghost use Rattle.lks_base.specs.declared.limits.TheConstants.{LAST_BLOCK, MOST_BLOCKS, MOST_BLOCK_BYTES, MOST_NOMINEES, MOST_PROOF_BYTES};
+ghost use Rattle.lks_base.specs.declared.limits.TheConstants.{LAST_BLOCK, MOST_BLOCKS, MOST_BLOCK_BYTES};
+ghost use Rattle.lks_base.specs.declared.limits.TheConstants.{MOST_NOMINEES, MOST_PROOF_BYTES};
 ghost use Rattle.lks_script.specs.StepRules.{is_step_of};
 ghost use Rattle.lks_saying.specs.Sayings.{saying, planned, proof_by, count_for, vote_over, vote_by, said_by};
 
@@ -151,7 +152,8 @@ fn say_vote(
 ) -> Result<Option<Saying>, OutOfMemory>
     requires good { plan_fault plan.now ≡ None }
     requires few { length blocks.now ≤ MOST_BLOCKS }
-    ensures said { IfOk result (λ s. s ≡ vote_by plan.now from to (planned plan.now from) (planned plan.now to) number au blocks.now) }
+    ensures said { IfOk result
+        (λ s. s ≡ vote_by plan.now from to (planned plan.now from) (planned plan.now to) number au blocks.now) }
     ensures within { IfOk result (λ s. IfSome s (λ x. IsWithin x.message)) }
 {
     let (Some(voter), Some(poller)) = (find_planned(plan, from), find_planned(plan, to)) else {

@@ -17,7 +17,8 @@ use Rattle.lks_script.specs.StepRules.{is_step_of, are_steps_of, has_power_for}
 use Rattle.lks_lines.specs.PlanLines.{numbers_in, rules_in, are_good, begun}
 use Rattle.lks_words.proofs.Decimals.{number_most}
 use Rattle.lks_words.proofs.Steps.{bind_some, if_some, same_some}
-use Rattle.lks_lines.proofs.Passing.{Peopled, AreAus, passes, begun_ready, aus_good, peer_good, list_good, hash_good, copy_good, damage_good}
+use Rattle.lks_lines.proofs.Passing.{Peopled, AreAus, passes, begun_ready, aus_good, peer_good, list_good, hash_good}
+use Rattle.lks_lines.proofs.Passing.{copy_good, damage_good}
 use Rattle.lks_script.specs.Grammar.{script_of, Answers}
 use Rattle.lks_script.proofs.Which.{IsKept, script_kept}
 
@@ -51,7 +52,9 @@ sound_kept = record {
   rules = λ words rules e. record { good = good_rules words rules e; few = refl; are = (refl, refl) };
   turns = λ rules word n h e. record { good = h.good; few = le-leb n 4096 (number_most 4096 word n e); are = h.are };
   au = λ rules turns aus now words h e. record { good = h.good; few = h.few; are = aus_good aus now words h.are e };
-  first_peer = λ rules turns aus now words h. peer_good (begun rules turns aus) now words (begun_ready rules turns aus h.good h.few h.are);
+  first_peer =
+      λ rules turns aus now words h. peer_good (begun rules turns aus) now words
+      (begun_ready rules turns aus h.good h.few h.are);
   peer = λ at plan now words h. peer_good plan now words h.ready;
   list = λ kind at. list_good kind;
   hash = λ at. hash_good;
@@ -60,13 +63,18 @@ sound_kept = record {
   no_steps = λ at plan h. record { good = passes plan h; steps_of = refl };
   step = λ plan steps step key more h e stands.
       let legal = (and_parts (is_step_of plan step) (has_power_for steps step) stands).0 in
-      record { good = h.good; steps_of = list_all-append (is_step_of plan) steps (step ∷ []) ∙ rw (h.steps_of, legal) refl };
+      record {
+        good = h.good;
+        steps_of = list_all-append (is_step_of plan) steps (step ∷ []) ∙ rw (h.steps_of, legal) refl;
+      };
 }
 
-pub plan_is_good : (r : Result Script ScriptFault) (bytes : List ℕ) → Answers r (script_of bytes) → IfOk r (λ s. plan_fault s.plan ≡ None)
+pub plan_is_good : (r : Result Script ScriptFault) (bytes : List ℕ) → Answers r (script_of bytes)
+    → IfOk r (λ s. plan_fault s.plan ≡ None)
 plan_is_good (Ok script) bytes e = (script_kept Sound sound_kept bytes script tt e).good
 plan_is_good (Err fault) bytes e = tt
 
-pub steps_are_good : (r : Result Script ScriptFault) (bytes : List ℕ) → Answers r (script_of bytes) → IfOk r (λ s. are_steps_of s.plan s.steps ≡ true)
+pub steps_are_good : (r : Result Script ScriptFault) (bytes : List ℕ) → Answers r (script_of bytes)
+    → IfOk r (λ s. are_steps_of s.plan s.steps ≡ true)
 steps_are_good (Ok script) bytes e = (script_kept Sound sound_kept bytes script tt e).steps_of
 steps_are_good (Err fault) bytes e = tt

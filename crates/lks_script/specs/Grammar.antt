@@ -1,5 +1,6 @@
 -- What bytes say as a script, or the number of their first bad line.
-use Rattle.std.specs.Prelude.{◌≡◌, ℕ, ◌+◌, ◌==◌, Bool, true, false, ◌&&◌, min, nat_lt, if◌then◌else◌, List, [], ◌∷◌, length, codes, Option, Some, None, Result, Ok, Err}
+use Rattle.std.specs.Prelude.{◌≡◌, ℕ, ◌+◌, ◌==◌, Bool, true, false, ◌&&◌, min, nat_lt, if◌then◌else◌, List, [], ◌∷◌}
+use Rattle.std.specs.Prelude.{length, codes, Option, Some, None, Result, Ok, Err}
 use Rattle.std.specs.List.{list_all}
 use Rattle.std.specs.Option.{option_map}
 use Rattle.std.specs.Str.{bytes_eq}
@@ -9,8 +10,8 @@ use Rattle.lks_base.specs.declared.plans.Plan.{Plan}
 use Rattle.lks_base.specs.declared.plans.Rules.{Rules}
 use Rattle.lks_script.specs.declared.drafts.Draft.{Draft}
 use Rattle.lks_script.specs.declared.drafts.Draft.TheVariants.{Blank, Titled, Ruled, Planned, Stepped}
-use Rattle.lks_script.specs.declared.drafts.Part.{Part}
-use Rattle.lks_script.specs.declared.drafts.Part.TheVariants as part
+use Rattle.lks_script.specs.declared.drafts.PlanPart.{PlanPart}
+use Rattle.lks_script.specs.declared.drafts.PlanPart.TheVariants as part
 use Rattle.lks_script.specs.declared.faults.ScriptFault.{ScriptFault}
 use Rattle.lks_script.specs.declared.faults.ScriptFault.TheVariants.{BadLine, Memory}
 use Rattle.lks_lines.specs.declared.list_lines.ListKind.TheVariants.{Refs, Friends}
@@ -26,12 +27,14 @@ use Rattle.lks_script.specs.StepLines.{steps_with}
 
 -- lockss 1
 unfoldable pub title_line : List (List ℕ) → Option Draft
-title_line (key ∷ version ∷ []) = if bytes_eq key (codes "lockss") && bytes_eq version (codes "1") then Some Titled else None
+title_line (key ∷ version ∷ []) =
+    if bytes_eq key (codes "lockss") && bytes_eq version (codes "1") then Some Titled else None
 title_line _ = None
 
 -- the word rules, and what they are
 unfoldable pub rules_line : List (List ℕ) → Option Draft
-rules_line (key ∷ more) = if bytes_eq key (codes "rules") then option_map (λ rules. Ruled rules None []) (rules_in more) else None
+rules_line (key ∷ more) =
+    if bytes_eq key (codes "rules") then option_map (λ rules. Ruled rules None []) (rules_in more) else None
 rules_line _ = None
 
 -- turns N: once, before the AUs
@@ -59,7 +62,7 @@ ruled_line rules turns aus (key ∷ more) =
 ruled_line rules turns aus _ = None
 
 -- the lines here declare peers
-abbrev pub in_peers : Part → Bool
+abbrev pub in_peers : PlanPart → Bool
 in_peers part.Peers = true
 in_peers _ = false
 
@@ -71,18 +74,19 @@ step_line plan steps key more = option_map (λ longer. Stepped plan longer) (ste
 unfoldable pub later_line : PlanDraft → List ℕ → List (List ℕ) → Option Draft
 later_line plan key more =
     if bytes_eq key (codes "refs") then option_map (λ p. Planned part.Lists p) (draft_with_list Refs plan more)
-    else if bytes_eq key (codes "friends") then option_map (λ p. Planned part.Lists p) (draft_with_list Friends plan more)
+    else if bytes_eq key (codes "friends")
+    then option_map (λ p. Planned part.Lists p) (draft_with_list Friends plan more)
     else if bytes_eq key (codes "hash") then option_map (λ p. Planned part.Lists p) (draft_with_hash plan more)
     else if bytes_eq key (codes "copy") then option_map (λ p. Planned part.Lists p) (draft_with_copy plan more)
     else if bytes_eq key (codes "damage") then option_map (λ p. Planned part.Lists p) (draft_with_damage plan more)
     else step_line plan.plan [] key more
 
 -- a peer may be declared here, and is
-unfoldable pub declares_peer : Part → List ℕ → Bool
+unfoldable pub declares_peer : PlanPart → List ℕ → Bool
 declares_peer at key = in_peers at && bytes_eq key (codes "peer")
 
 -- behind the first peer: one more, or what comes behind the peers
-unfoldable pub planned_line : Part → PlanDraft → List (List ℕ) → Option Draft
+unfoldable pub planned_line : PlanPart → PlanDraft → List (List ℕ) → Option Draft
 planned_line at plan (key ∷ more) = if declares_peer at key then peer_line plan more else later_line plan key more
 planned_line at plan _ = None
 
@@ -124,13 +128,18 @@ line_number k = min k 4294967295
 
 -- behind the last line end: nothing, and the script is ended
 unfoldable pub end_in : ℕ → Draft → List ℕ → Result Script ℕ
-end_in k draft last = elim (if length last == 0 then ended draft else None) [ Some script ↦ Ok script | None ↦ Err (line_number k) ]
+end_in k draft last =
+    elim (if length last == 0 then ended draft else None) [ Some script ↦ Ok script | None ↦ Err (line_number k) ]
 
 -- the lines from the k-th on, and what stands behind the last line end
 unfoldable pub lines_in : ℕ → Draft → List (List ℕ) → Result Script ℕ
 lines_in k draft [] = Err (line_number k)
 lines_in k draft (last ∷ []) = end_in k draft last
-lines_in k draft (line ∷ next ∷ lines) = elim (with_line draft line) [ Some longer ↦ lines_in (k + 1) longer (next ∷ lines) | None ↦ Err (line_number k) ]
+lines_in k draft (line ∷ next ∷ lines) =
+    elim (with_line draft line) [
+      | Some longer ↦ lines_in (k + 1) longer (next ∷ lines)
+      | None ↦ Err (line_number k)
+    ]
 
 -- the script that the bytes say, or its first bad line
 unfoldable pub script_of : List ℕ → Result Script ℕ

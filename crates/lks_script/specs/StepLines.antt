@@ -8,7 +8,9 @@ use Rattle.lks_base.specs.declared.plans.Plan.{Plan}
 use Rattle.lks_script.specs.declared.steps.CutStep.{CutStep}
 use Rattle.lks_script.specs.declared.steps.CutStep.TheVariants as cut
 use Rattle.lks_script.specs.declared.steps.Step.{Step}
-use Rattle.lks_script.specs.declared.steps.Step.TheVariants.{Peer, Tick, Next, Lose, Again, Settle, Finish, Forge, SayPoll, SayProof, SayRequest, SayReceipt, SayChallenge, SayNominate, SayVote, SayRepair, Crash, Cut}
+use Rattle.lks_script.specs.declared.steps.Step.TheVariants.{Peer, Tick, Next, Lose, Again, Settle, Finish, Forge}
+use Rattle.lks_script.specs.declared.steps.Step.TheVariants.{SayPoll, SayProof, SayRequest, SayReceipt, SayChallenge}
+use Rattle.lks_script.specs.declared.steps.Step.TheVariants.{SayNominate, SayVote, SayRepair, Crash, Cut}
 use Rattle.lks_words.specs.Numbers.{◌>>=◌, number_in}
 use Rattle.lks_words.specs.Words.{each_in, id_in, poll_in, index_in, answer_in, block_in, blocks_in, bytes_in}
 use Rattle.lks_script.specs.StepRules.{is_step_of, has_power_for}

@@ -1,7 +1,8 @@
 -- Which steps a script with a plan can have.
 use Rattle.std.specs.Prelude.{ℕ, Bool, true, false, not, ◌&&◌, ◌||◌, nat_le, nat_lt, List, length, filter}
 use Rattle.std.specs.List.{list_all}
-use Rattle.lks_base.specs.declared.limits.TheConstants.{LAST_BLOCK, MOST_BLOCKS, MOST_BLOCK_BYTES, MOST_EVENTS, MOST_FORGED_BYTES, MOST_NOMINEES, MOST_REPAIRS, MOST_TICKS}
+use Rattle.lks_base.specs.declared.limits.TheConstants.{LAST_BLOCK, MOST_BLOCKS, MOST_BLOCK_BYTES, MOST_EVENTS}
+use Rattle.lks_base.specs.declared.limits.TheConstants.{MOST_FORGED_BYTES, MOST_NOMINEES, MOST_REPAIRS, MOST_TICKS}
 use Rattle.lks_base.specs.declared.events.PeerStep.{PeerStep}
 use Rattle.lks_base.specs.declared.events.PeerStep.TheVariants as peers
 use Rattle.lks_base.specs.declared.names.PollName.{PollName}
@@ -12,7 +13,9 @@ use Rattle.lks_script.specs.declared.steps.CutStep.{CutStep}
 use Rattle.lks_script.specs.declared.steps.CutStep.TheVariants as cut
 use Rattle.lks_script.specs.declared.steps.TheConstants.{MOST_CUT_CALLS, MOST_POWER_FAILURES}
 use Rattle.lks_script.specs.declared.steps.Step.{Step}
-use Rattle.lks_script.specs.declared.steps.Step.TheVariants.{Peer, Tick, Next, Lose, Again, Settle, Finish, Forge, SayPoll, SayProof, SayRequest, SayReceipt, SayChallenge, SayNominate, SayVote, SayRepair, Crash, Cut}
+use Rattle.lks_script.specs.declared.steps.Step.TheVariants.{Peer, Tick, Next, Lose, Again, Settle, Finish, Forge}
+use Rattle.lks_script.specs.declared.steps.Step.TheVariants.{SayPoll, SayProof, SayRequest, SayReceipt, SayChallenge}
+use Rattle.lks_script.specs.declared.steps.Step.TheVariants.{SayNominate, SayVote, SayRepair, Crash, Cut}
 
 -- an honest peer's part in a poll of a declared one
 unfoldable pub is_session : Plan → ℕ → PollName → Bool
@@ -21,7 +24,8 @@ is_session plan voter poll = has_honest plan.peers voter && has_peer plan.peers 
 -- the numbers to which an honest peer can be tuned, in the bounds of the plan's rules
 unfoldable pub is_tuning : Plan → ℕ → ℕ → ℕ → ℕ → Bool
 is_tuning plan peer quorum minority repairs =
-    has_honest plan.peers peer && is_within 1 plan.rules.inner quorum && obeys_quorum_rule quorum minority && nat_le repairs MOST_REPAIRS
+    has_honest plan.peers peer && is_within 1 plan.rules.inner quorum && obeys_quorum_rule quorum minority
+    && nat_le repairs MOST_REPAIRS
 
 -- a step of a peer's own that a script can name
 unfoldable pub is_own_step : Plan → PeerStep → Bool
@@ -60,7 +64,8 @@ is_request plan from to block = is_said plan from to && nat_le block LAST_BLOCK
 
 -- who sends whom which block, as which bytes
 unfoldable pub is_repair : Plan → ℕ → ℕ → ℕ → List ℕ → Bool
-is_repair plan from to block bytes = is_said plan from to && nat_le block LAST_BLOCK && nat_le (length bytes) MOST_BLOCK_BYTES
+is_repair plan from to block bytes =
+    is_said plan from to && nat_le block LAST_BLOCK && nat_le (length bytes) MOST_BLOCK_BYTES
 
 -- who nominates which peers to whom
 unfoldable pub is_nomination : Plan → ℕ → ℕ → List ℕ → Bool

@@ -3,8 +3,10 @@
 ghost use Rattle.std.specs.Prelude.{◌≡◌, map};
 ghost use Rattle.lks_words.specs.Words.{Gives};
 ghost use Rattle.lks_script.specs.declared.drafts.Draft.TheVariants as drafts;
-ghost use Rattle.lks_script.specs.declared.drafts.Part.TheVariants as parts;
-ghost use Rattle.lks_script.specs.Grammar.{title_line, rules_line, turns_line, au_line, peer_line, ruled_line, in_peers, step_line, later_line, declares_peer, planned_line, stepped_line, line_in, ended};
+ghost use Rattle.lks_script.specs.declared.drafts.PlanPart.TheVariants as parts;
+ghost use Rattle.lks_script.specs.Grammar.{title_line, rules_line, turns_line, au_line, peer_line, ruled_line};
+ghost use Rattle.lks_script.specs.Grammar.{in_peers, step_line, later_line, declares_peer, planned_line, stepped_line};
+ghost use Rattle.lks_script.specs.Grammar.{line_in, ended};
 
 use crate::step_lines::add_step;
 use crate::steps::{Script, Step};
@@ -17,7 +19,7 @@ use std::alloc::Global;
 
 /// What the lines of a plan have come to.
 #[derive(Clone, Copy)]
-pub enum Part {
+pub enum PlanPart {
     /// Peers are declared.
     Peers,
     /// Lists and copies are given.
@@ -39,7 +41,7 @@ pub enum Draft {
     },
     /// A plan with a peer or more.
     Planned {
-        part: Part,
+        part: PlanPart,
         plan: PlanDraft,
     },
     /// A plan, and steps on it.
@@ -122,7 +124,7 @@ fn read_peer(alloc: Global, plan: PlanDraft, more: &[&[u8]]) -> Result<Draft, St
     ensures { Gives result (peer_line plan (map (λ w. w.now) more.now)) }
 {
     let plan = add_peer(alloc, plan, more)?;
-    let part = Part::Peers;
+    let part = PlanPart::Peers;
     Ok(Draft::Planned { part, plan })
 }
 
@@ -151,11 +153,11 @@ fn read_ruled(
     }
 }
 
-impl Part {
+impl PlanPart {
     fn peers(&self) -> bool
         ensures { result ≡ in_peers self.now }
     {
-        matches!(self, Part::Peers)
+        matches!(self, PlanPart::Peers)
     }
 
     #[tactic(auto, unfolding(crate::specs::Grammar::declares_peer))]
@@ -183,7 +185,7 @@ fn read_next(
 fn listed(plan: PlanDraft) -> Draft
     ensures { result ≡ drafts.Planned parts.Lists plan }
 {
-    let part = Part::Lists;
+    let part = PlanPart::Lists;
     Draft::Planned { part, plan }
 }
 
@@ -208,7 +210,12 @@ fn read_later(alloc: Global, plan: PlanDraft, key: &[u8], more: &[&[u8]]) -> Res
 }
 
 #[tactic(auto, unfolding(crate::specs::Grammar::planned_line))]
-fn read_planned(alloc: Global, part: Part, plan: PlanDraft, words: &[&[u8]]) -> Result<Draft, Stop>
+fn read_planned(
+    alloc: Global,
+    part: PlanPart,
+    plan: PlanDraft,
+    words: &[&[u8]],
+) -> Result<Draft, Stop>
     ensures { Gives result (planned_line part plan (map (λ w. w.now) words.now)) }
 {
     let [key, more @ ..] = words else {

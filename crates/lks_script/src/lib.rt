@@ -1,4 +1,6 @@
 //! Scripts: what a run begins with, and what is done in it.
+//!
+//! Its trials: `lks_format_trials`, `script`.
 #![tactic(auto)]
 
 mod drafts;

@@ -5,7 +5,8 @@ ghost use Rattle.std.specs.List.{position};
 ghost use Rattle.lks_base.specs.Checking.{plan_fault};
 ghost use Rattle.lks_script.specs.StepRules.{are_steps_of};
 ghost use Rattle.lks_words.specs.Words.{Gives, parts};
-ghost use Rattle.lks_script.specs.Grammar.{are_ascii, means_nothing, with_line, line_number, end_in, script_of, Answers};
+ghost use Rattle.lks_script.specs.Grammar.{are_ascii, means_nothing, with_line, line_number, end_in, script_of};
+ghost use Rattle.lks_script.specs.Grammar.{Answers};
 
 use crate::drafts::{Draft, into_script, read_line};
 use crate::faults::ScriptFault;

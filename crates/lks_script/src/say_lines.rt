@@ -2,7 +2,8 @@
 
 ghost use Rattle.std.specs.Prelude.{◌≡◌, map};
 ghost use Rattle.lks_words.specs.Words.{Gives};
-ghost use Rattle.lks_script.specs.StepLines.{invitation_said, proof_said, request_said, receipt_said, challenge_said, nominees_said, vote_said, repair_said, said_in, say_in};
+ghost use Rattle.lks_script.specs.StepLines.{invitation_said, proof_said, request_said, receipt_said, challenge_said};
+ghost use Rattle.lks_script.specs.StepLines.{nominees_said, vote_said, repair_said, said_in, say_in};
 
 use crate::steps::Step;
 use lks_base::PeerId;

@@ -2,7 +2,11 @@
 
 ghost use Rattle.std.specs.Prelude.{◌≡◌, map, IfOk};
 ghost use Rattle.lks_words.specs.Words.{Gives, parts};
-ghost use Rattle.lks_script.specs.StepLines.{open_in, own_poll_in, poll_step_in, in_own_poll, check_in, session_in, work_in, expire_in, tune_in, own_step_in, peer_step_in, tick_in, next_in, lose_in, again_in, settle_in, finish_in, forge_in, crash_in, cut_next_in, cut_again_in, cut_own_in, cut_step_in, cut_in, step_in, steps_with, step_under};
+ghost use Rattle.lks_script.specs.StepLines.{open_in, own_poll_in, poll_step_in, in_own_poll, check_in, session_in};
+ghost use Rattle.lks_script.specs.StepLines.{work_in, expire_in, tune_in, own_step_in, peer_step_in, tick_in, next_in};
+ghost use Rattle.lks_script.specs.StepLines.{lose_in, again_in, settle_in, finish_in, forge_in, crash_in, cut_next_in};
+ghost use Rattle.lks_script.specs.StepLines.{cut_again_in, cut_own_in, cut_step_in, cut_in, step_in, steps_with};
+ghost use Rattle.lks_script.specs.StepLines.{step_under};
 
 use crate::say_lines::say;
 use crate::step_rules::{power_for, step_of};
@@ -367,7 +371,8 @@ fn single_step(alloc: Global, plan: &Plan, words: &[&[u8]]) -> Result<Step, Stop
     Ok(step)
 }
 
-/// The step that a line says by itself, without its line feed. There is none exactly where it isn't a step line under the plan.
+/// The step that a line says by itself, without its line feed. There is none exactly where it isn't a step line under
+/// the plan.
 pub fn read_step(alloc: Global, plan: &Plan, line: &[u8]) -> Result<Option<Step>, OutOfMemory>
     ensures { IfOk result (λ step. step ≡ step_under plan.now (parts 32 line.now)) }
 {

@@ -1,7 +1,9 @@
 //! Which steps a script with a plan can have.
 
 ghost use Rattle.std.specs.Prelude.{◌≡◌, filter, length};
-ghost use Rattle.lks_script.specs.StepRules.{is_session, is_tuning, is_own_step, is_said_vote, is_said, is_forgery, is_invitation, is_request, is_repair, is_nomination, is_cut_step, is_cut, is_step_of, fails_power, has_power_for};
+ghost use Rattle.lks_script.specs.StepRules.{is_session, is_tuning, is_own_step, is_said_vote, is_said, is_forgery};
+ghost use Rattle.lks_script.specs.StepRules.{is_invitation, is_request, is_repair, is_nomination, is_cut_step, is_cut};
+ghost use Rattle.lks_script.specs.StepRules.{is_step_of, fails_power, has_power_for};
 
 use crate::steps::{CutStep, MOST_CUT_CALLS, MOST_POWER_FAILURES, Step};
 use lks_base::{

@@ -7,10 +7,11 @@ use Rattle.lks_base.specs.declared.names.PollName.{PollName}
 use Rattle.lks_law.specs.Fitting.{Where, IsPinnedWell, IsCastWell}
 use Rattle.lks_law.specs.Firsts.{changed_first, without_first}
 use Rattle.lks_law.proofs.Lists.{without_any, changed_any, any_where}
-use Rattle.lks_law.specs.Taking.{Pinned, is_pinned_of, is_cast_of, pinned_at, cast_as, casting, serving}
+use Rattle.lks_law.specs.Taking.{Pinned, is_pinned_of, is_cast_of, pinned_at, cast_as, casts_of, serving_block}
 use Rattle.lks_sessions.specs.Kept.{Kept, pinned_of, cast_of, StaysSendable}
 
-casting_sends : (hashes : List (List ℕ)) (o : Option Pinned) → length hashes ≤ MOST_BLOCKS → Where o IsPinnedWell → All IsCastWell (casting hashes o)
+casting_sends : (hashes : List (List ℕ)) (o : Option Pinned) → length hashes ≤ MOST_BLOCKS → Where o IsPinnedWell
+    → All IsCastWell (casts_of hashes o)
 casting_sends hashes None few can = All-nil IsCastWell
 casting_sends hashes (Some p) few can =
     All-cons IsCastWell (cast_as hashes [] p) [] (can, few) (All-nil IsCastWell)
@@ -23,35 +24,49 @@ module _ (old new : Kept) where
     cast = subst (λ cs. All IsCastWell (map cast_of cs)) (sym cast) can.cast;
   }
 
-  pub sends_pinned : (All IsPinnedWell (map pinned_of old.pinned) → All IsPinnedWell (map pinned_of new.pinned)) → new.cast ≡ old.cast → StaysSendable old new
+  pub sends_pinned : (All IsPinnedWell (map pinned_of old.pinned) → All IsPinnedWell (map pinned_of new.pinned))
+      → new.cast ≡ old.cast → StaysSendable old new
   unfolding StaysSendable
-  sends_pinned pins cast = λ can. record { pinned = pins can.pinned; cast = subst (λ cs. All IsCastWell (map cast_of cs)) (sym cast) can.cast }
+  sends_pinned pins cast =
+      λ can.
+      record {
+        pinned = pins can.pinned;
+        cast = subst (λ cs. All IsCastWell (map cast_of cs)) (sym cast) can.cast;
+      }
 
   pub sends_cast : (q : PollName) (hashes : List (List ℕ)) → length hashes ≤ MOST_BLOCKS
       → map pinned_of new.pinned ≡ without_first (is_pinned_of q) (map pinned_of old.pinned)
-      → map cast_of new.cast ≡ map cast_of old.cast ++ casting hashes (pinned_at q (map pinned_of old.pinned))
+      → map cast_of new.cast ≡ map cast_of old.cast ++ casts_of hashes (pinned_at q (map pinned_of old.pinned))
       → StaysSendable old new
   unfolding StaysSendable
   sends_cast q hashes few pinned cast = λ can. record {
-    pinned = subst (All IsPinnedWell) (sym pinned) (without_any IsPinnedWell (is_pinned_of q) (map pinned_of old.pinned) can.pinned);
+    pinned =
+        subst (All IsPinnedWell) (sym pinned)
+        (without_any IsPinnedWell (is_pinned_of q) (map pinned_of old.pinned) can.pinned);
     cast = subst (All IsCastWell) (sym cast)
-        (All-append IsCastWell (map cast_of old.cast) (casting hashes (pinned_at q (map pinned_of old.pinned))) can.cast
-        (casting_sends hashes (pinned_at q (map pinned_of old.pinned)) few (any_where IsPinnedWell (is_pinned_of q) (map pinned_of old.pinned) can.pinned)));
+        (All-append IsCastWell (map cast_of old.cast) (casts_of hashes (pinned_at q (map pinned_of old.pinned)))
+        can.cast
+        (casting_sends hashes (pinned_at q (map pinned_of old.pinned)) few
+        (any_where IsPinnedWell (is_pinned_of q) (map pinned_of old.pinned) can.pinned)));
   }
 
   pub sends_served : (q : PollName) (block : ℕ) → new.pinned ≡ old.pinned
-      → map cast_of new.cast ≡ changed_first (is_cast_of q) (serving block) (map cast_of old.cast) → StaysSendable old new
+      → map cast_of new.cast ≡ changed_first (is_cast_of q) (serving_block block) (map cast_of old.cast)
+      → StaysSendable old new
   unfolding StaysSendable
   sends_served q block pinned cast = λ can. record {
     pinned = subst (λ ps. All IsPinnedWell (map pinned_of ps)) (sym pinned) can.pinned;
     cast = subst (All IsCastWell) (sym cast)
-        (changed_any IsCastWell (is_cast_of q) (serving block) (map cast_of old.cast) (λ c well. well) can.cast);
+        (changed_any IsCastWell (is_cast_of q) (serving_block block) (map cast_of old.cast) (λ c well. well) can.cast);
   }
 
-  pub sends_ended : (q : PollName) → map pinned_of new.pinned ≡ without_first (is_pinned_of q) (map pinned_of old.pinned)
+  pub sends_ended : (q : PollName)
+      → map pinned_of new.pinned ≡ without_first (is_pinned_of q) (map pinned_of old.pinned)
       → map cast_of new.cast ≡ without_first (is_cast_of q) (map cast_of old.cast) → StaysSendable old new
   unfolding StaysSendable
   sends_ended q pinned cast = λ can. record {
-    pinned = subst (All IsPinnedWell) (sym pinned) (without_any IsPinnedWell (is_pinned_of q) (map pinned_of old.pinned) can.pinned);
+    pinned =
+        subst (All IsPinnedWell) (sym pinned)
+        (without_any IsPinnedWell (is_pinned_of q) (map pinned_of old.pinned) can.pinned);
     cast = subst (All IsCastWell) (sym cast) (without_any IsCastWell (is_cast_of q) (map cast_of old.cast) can.cast);
   }

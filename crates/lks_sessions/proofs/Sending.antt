@@ -1,5 +1,6 @@
 -- What a peer sends as a voter.
-use Rattle.std.proofs.Common.{◌≡◌, ◌≤◌, ◌∙◌, ap, sym, subst, ℕ, zero, suc, Bool, true, false, cond, List, [], ◌∷◌, length, arith}
+use Rattle.std.proofs.Common.{◌≡◌, ◌≤◌, ◌∙◌, ap, sym, subst, ℕ, zero, suc, Bool, true, false, cond, List, [], ◌∷◌}
+use Rattle.std.proofs.Common.{length, arith}
 use Rattle.std.specs.Prelude.{Some, find, map, slice_get, All}
 use Rattle.std.proofs.lemmas.List.Elements.{All-head, All-tail}
 use Rattle.lks_base.specs.Kinds.{is_second}
@@ -43,41 +44,67 @@ module _ {E : Type 0} (P : E → Type 0) (t : E → Bool) where
       here true is rest = let same : x ≡ e = cc in subst P same (All-head P x es all)
       here false is rest = rest is
 
-pub can_vote : (q : PollName) (k : Kept) (p : PinnedSession) → Some p ≡ find (λ (p : PinnedSession). is_poll p.committed.joined.poll q) k.pinned → IsSendable (voter_of k) → IsPinnedWell (pinned_of p)
-can_vote q k p is all = found_is pinned_of IsPinnedWell (λ (p : PinnedSession). is_poll p.committed.joined.poll q) k.pinned p is all.pinned
+pub can_vote : (q : PollName) (k : Kept) (p : PinnedSession)
+    → Some p ≡ find (λ (p : PinnedSession). is_poll p.committed.joined.poll q) k.pinned → IsSendable (voter_of k)
+    → IsPinnedWell (pinned_of p)
+can_vote q k p is all =
+    found_is pinned_of IsPinnedWell (λ (p : PinnedSession). is_poll p.committed.joined.poll q) k.pinned p is
+    all.pinned
 
-pub can_send : (q : PollName) (k : Kept) (c : CastSession) → Some c ≡ find (λ (c : CastSession). is_poll c.voted.committed.joined.poll q) k.cast → IsSendable (voter_of k) → IsCastWell (cast_of c)
-can_send q k c is all = found_is cast_of IsCastWell (λ (c : CastSession). is_poll c.voted.committed.joined.poll q) k.cast c is all.cast
+pub can_send : (q : PollName) (k : Kept) (c : CastSession)
+    → Some c ≡ find (λ (c : CastSession). is_poll c.voted.committed.joined.poll q) k.cast → IsSendable (voter_of k)
+    → IsCastWell (cast_of c)
+can_send q k c is all =
+    found_is cast_of IsCastWell (λ (c : CastSession). is_poll c.voted.committed.joined.poll q) k.cast c is all.cast
 
-pub pinned_from : (pool : List ℕ) (q : PollName) (k : Kept) (p : PinnedSession) → Some p ≡ find (λ (p : PinnedSession). is_poll p.committed.joined.poll q) k.pinned → IsOf pool k → AllOf pool p.refs
-pinned_from pool q k p is of = found_so (IsPinnedOf pool) (λ (p : PinnedSession). is_poll p.committed.joined.poll q) k.pinned p is of.pinned
+pub pinned_from : (pool : List ℕ) (q : PollName) (k : Kept) (p : PinnedSession)
+    → Some p ≡ find (λ (p : PinnedSession). is_poll p.committed.joined.poll q) k.pinned → IsOf pool k
+    → AllOf pool p.refs
+pinned_from pool q k p is of =
+    found_so (IsPinnedOf pool) (λ (p : PinnedSession). is_poll p.committed.joined.poll q) k.pinned p is of.pinned
 
-pub cast_from : (pool : List ℕ) (q : PollName) (k : Kept) (c : CastSession) → Some c ≡ find (λ (c : CastSession). is_poll c.voted.committed.joined.poll q) k.cast → IsOf pool k → AllOf pool c.refs
-cast_from pool q k c is of = found_so (IsCastOf pool) (λ (c : CastSession). is_poll c.voted.committed.joined.poll q) k.cast c is of.cast
+pub cast_from : (pool : List ℕ) (q : PollName) (k : Kept) (c : CastSession)
+    → Some c ≡ find (λ (c : CastSession). is_poll c.voted.committed.joined.poll q) k.cast → IsOf pool k
+    → AllOf pool c.refs
+cast_from pool q k c is of =
+    found_so (IsCastOf pool) (λ (c : CastSession). is_poll c.voted.committed.joined.poll q) k.cast c is of.cast
 
 -- The vote.
 
 -- a vote that is of the session, over its blocks
-pub vote_seen : (own : Station) (p : PinnedSession) (j : VoteJob) (hashes : List (List ℕ)) → IsJobOf own p p.refs j → hashes ≡ vote_of j → hashes ≡ hashes_for own (pinned_of p)
+pub vote_seen : (own : Station) (p : PinnedSession) (j : VoteJob) (hashes : List (List ℕ)) → IsJobOf own p p.refs j
+    → hashes ≡ vote_of j → hashes ≡ hashes_for own (pinned_of p)
 unfolding hashes_for vote_hashes
 vote_seen own p j hashes job is =
     is
-    ∙ (λ i. hashes_of (is_second (job.kind i)) (key_of (is_second (job.kind i)) (job.poll i).poller (job.poll i).number (job.nonce i) (job.peer i) (job.au i) (length (job.refs i))) (bytes_of (job.refs i)))
-    ∙ ap (λ n. hashes_of (is_second p.committed.commitment.kind) (key_of (is_second p.committed.commitment.kind) p.committed.joined.poll.poller p.committed.joined.poll.number p.committed.commitment.nonce own.id p.committed.joined.au n) (bytes_of p.refs))
+    ∙ (λ i. hashes_of (is_second (job.kind i))
+    (key_of (is_second (job.kind i)) (job.poll i).poller (job.poll i).number (job.nonce i) (job.peer i)
+    (job.au i) (length (job.refs i))) (bytes_of (job.refs i)))
+    ∙ ap
+    (λ n. hashes_of (is_second p.committed.commitment.kind)
+    (key_of (is_second p.committed.commitment.kind) p.committed.joined.poll.poller
+    p.committed.joined.poll.number p.committed.commitment.nonce own.id p.committed.joined.au n)
+    (bytes_of p.refs))
     (sym (bytes_count p.refs))
 
 -- has a hash for each of them
-pub vote_count : (own : Station) (p : PinnedSession) (hashes : List (List ℕ)) → hashes ≡ hashes_for own (pinned_of p) → IsPinnedWell (pinned_of p) → length hashes ≤ MOST_BLOCKS
+pub vote_count : (own : Station) (p : PinnedSession) (hashes : List (List ℕ))
+    → hashes ≡ hashes_for own (pinned_of p) → IsPinnedWell (pinned_of p) → length hashes ≤ MOST_BLOCKS
 unfolding hashes_for vote_hashes
 vote_count own p hashes is well =
-    let same : length hashes ≡ length (bytes_of p.refs) = ap length is ∙ hashes_length (is_second p.committed.commitment.kind) _ (bytes_of p.refs) in
+    let same : length hashes
+    ≡ length (bytes_of p.refs) = ap length is
+    ∙ hashes_length (is_second p.committed.commitment.kind) _ (bytes_of p.refs) in
     let counted = well.0 in
     let few = counted.1 in
     omega (arith, same, few)
 
 -- A repair.
 
-pub short_at : (bs : List (List ℕ)) (b : ℕ) (bytes : List ℕ) → slice_get bs b ≡ Some bytes → AreSmall bs → length bytes ≤ MOST_BLOCK_BYTES
+pub short_at : (bs : List (List ℕ)) (b : ℕ) (bytes : List ℕ) → slice_get bs b ≡ Some bytes → AreSmall bs
+    → length bytes ≤ MOST_BLOCK_BYTES
 short_at [] b bytes is all = absurd cc
-short_at (x ∷ bs) zero bytes is all = let same : x ≡ bytes = cc in subst (λ b. length b ≤ MOST_BLOCK_BYTES) same (All-head (λ b. length b ≤ MOST_BLOCK_BYTES) x bs all)
+short_at (x ∷ bs) zero bytes is all =
+    let same : x ≡ bytes = cc in
+    subst (λ b. length b ≤ MOST_BLOCK_BYTES) same (All-head (λ b. length b ≤ MOST_BLOCK_BYTES) x bs all)
 short_at (x ∷ bs) (suc b) bytes is all = short_at bs b bytes is (All-tail (λ b. length b ≤ MOST_BLOCK_BYTES) x bs all)

@@ -3,8 +3,8 @@
 ghost use Rattle.std.specs.Prelude.{◌≡◌, ◌≤◌, IfOk, IfSome};
 ghost use Rattle.lks_base.specs.declared.plans.Rules.{Rules};
 ghost use Rattle.lks_draw.specs.Words.{Drawn};
-ghost use Rattle.lks_grade.specs.Grading as grading;
-ghost use Rattle.lks_grade.specs.declared.grades.Grade.{Grade as GradeOf};
+ghost use Rattle.lks_choice.specs.Grading as grading;
+ghost use Rattle.lks_choice.specs.declared.grades.Grade.{Grade as GradeOf};
 ghost use Rattle.lks_law.specs.Answering as answering;
 ghost use Rattle.lks_law.specs.Answering.{invitation_in, may_join_in, joined_now};
 ghost use Rattle.lks_law.specs.Voting.{answers, challenge};
@@ -19,7 +19,7 @@ use lks_audit::{Held, Station, find_copy};
 use lks_base::{
     AuId, Message, OutOfMemory, Outgoing, PeerId, PollName, Reaction, Record, Seq, has_member,
 };
-use lks_grade::{Grade, admits, grade_of, is_low};
+use lks_choice::{Grade, admits, grade_of, is_low};
 use std::alloc::Global;
 
 /// The grade of a peer, from the votes each way.
@@ -39,7 +39,8 @@ fn grade(own: &Station, sessions: &Sessions, peer: PeerId) -> Grade
 #[tactic(auto, using(crate::proofs::Admitting::cut_admits))]
 fn cut_off(last_low: Option<u32>, tick: u32) -> Option<u32>
     ensures past { IfSome result (λ last. last ≤ tick) }
-    ensures same { (g : GradeOf) (rules : Rules) (d : Drawn) → grading.is_admitted g rules result tick d ≡ grading.is_admitted g rules last_low tick d }
+    ensures same { (g : GradeOf) (rules : Rules) (d : Drawn)
+        → grading.is_admitted g rules result tick d ≡ grading.is_admitted g rules last_low tick d }
 {
     match last_low {
         Some(last) => Some(last.min(tick)),
@@ -126,7 +127,8 @@ pub fn answer_invitation(
     poll: PollName,
     au: AuId,
 ) -> Result<Reaction, OutOfMemory>
-    ensures { IfOk result (λ r. r ≡ invitation_in own.now (voter_of sessions.now) (copies_of copies.now) repairs tick poll au) }
+    ensures { IfOk result
+        (λ r. r ≡ invitation_in own.now (voter_of sessions.now) (copies_of copies.now) repairs tick poll au) }
 {
     if sessions.is_open(poll) {
         return answer(alloc, poll, true);

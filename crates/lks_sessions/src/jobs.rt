@@ -127,8 +127,8 @@ fn vote_done(
     }
 }
 
-/// Votes in the committed session of the poll in which this vote was hashed elsewhere. Where it isn't the vote of this session,
-/// the blocks are hashed here.
+/// Votes in the committed session of the poll in which this vote was hashed elsewhere. Where it isn't the vote of this
+/// session, the blocks are hashed here.
 #[tactic(auto, unfolding(lks_law::specs::Answering::work_in))]
 pub fn accept(
     alloc: Global,

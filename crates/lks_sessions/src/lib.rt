@@ -1,9 +1,11 @@
-//! The polls of others in which a peer takes part (Maniatis et al., ACM TOCS 23(1), 2005), and whom it lets in (Giuli et al.,
-//! USENIX Annual Technical Conference 2005).
+//! The polls of others in which a peer takes part (Maniatis et al., ACM TOCS 23(1), 2005), and whom it lets in (Giuli
+//! et al., USENIX Annual Technical Conference 2005).
 //!
 //! A row, as [`answer_invitation`], says what the rules add and send, and changes nothing. A call of [`Sessions`], as
-//! [`Sessions::join`], notes what one record says. Both are stated over a voter (`Voter` in `lks_law`), whose sessions these
-//! are. A session that is committed keeps the references to the blocks of its version.
+//! [`Sessions::join`], notes what one record says. Both are stated over a voter (`Voter` in `lks_law`), whose sessions
+//! these are. A session that is committed keeps the references to the blocks of its version.
+//!
+//! Its trials: `lks_run_trials`, `sessions`.
 #![tactic(auto)]
 
 mod draws;

@@ -4,7 +4,8 @@ ghost use Rattle.std.specs.Prelude.{◌≡◌, ◌<◌, ◌↔◌, ◌++◌, IsT
 ghost use Rattle.lks_blocks.specs.Block.{AllOf, bytes_of};
 ghost use Rattle.lks_law.specs.Firsts.{changed_first, without_first};
 ghost use Rattle.lks_law.specs.Fitting.{AreWell, MayHave, IsPinnedWell};
-ghost use Rattle.lks_law.specs.Taking.{is_session_of, is_pinned_of, is_cast_of, session_at, pinned_at, pinning, casting, serving};
+ghost use Rattle.lks_law.specs.Taking.{is_session_of, is_pinned_of, is_cast_of, session_at, pinned_at, pins_of};
+ghost use Rattle.lks_law.specs.Taking.{casts_of, serving_block};
 ghost use Rattle.lks_sessions.specs.Kept.{session_of, pinned_of, cast_of, IsPinnedOf, IsCastOf};
 ghost use Rattle.lks_sessions.specs.Sendable.{PinsBlocks, MayServe};
 
@@ -62,10 +63,18 @@ pub fn pin(
     kind: HashKind,
     refs: Refs,
 ) -> Result<(), OutOfMemory>
-    ensures left { OnOk result (map session_of joined.new.items ≡ without_first (is_session_of poll) (map session_of joined.old.items)) }
-    ensures pinned { OnOk result ((blocks : ℕ → List (List ℕ)) → PinsBlocks blocks poll (bytes_of refs) (map session_of joined.old.items) → map pinned_of pinned.new.items ≡ map pinned_of pinned.old.items ++ pinning blocks (record { nonce = nonce; version = version; kind = kind }) (session_at poll (map session_of joined.old.items))) }
-    ensures sendable { AreWell (bytes_of refs) → All IsPinnedWell (map pinned_of pinned.old.items) → All IsPinnedWell (map pinned_of pinned.new.items) }
-    ensures of { (pool : List ℕ) → AllOf pool refs → All (IsPinnedOf pool) pinned.old.items → All (IsPinnedOf pool) pinned.new.items }
+    ensures left { OnOk result
+        (map session_of joined.new.items ≡ without_first (is_session_of poll) (map session_of joined.old.items)) }
+    ensures pinned { OnOk result
+        ((blocks : ℕ → List (List ℕ)) → PinsBlocks blocks poll (bytes_of refs) (map session_of joined.old.items)
+        → map pinned_of pinned.new.items
+        ≡ map pinned_of pinned.old.items
+        ++ pins_of blocks (record { nonce = nonce; version = version; kind = kind })
+        (session_at poll (map session_of joined.old.items))) }
+    ensures sendable { AreWell (bytes_of refs) → All IsPinnedWell (map pinned_of pinned.old.items)
+        → All IsPinnedWell (map pinned_of pinned.new.items) }
+    ensures of { (pool : List ℕ) → AllOf pool refs → All (IsPinnedOf pool) pinned.old.items
+        → All (IsPinnedOf pool) pinned.new.items }
     ensures err { OnErr result ((joined.new.items ≡ joined.old.items) × (pinned.new.items ≡ pinned.old.items)) }
 {
     match place_of_joined(joined.as_slice(), poll) {
@@ -94,8 +103,10 @@ pub fn cast(
 )
     requires room { vec_len cast.old < vec_capacity cast.old }
     ensures left { map pinned_of pinned.new.items ≡ without_first (is_pinned_of poll) (map pinned_of pinned.old.items) }
-    ensures cast { map cast_of cast.new.items ≡ map cast_of cast.old.items ++ casting hashes (pinned_at poll (map pinned_of pinned.old.items)) }
-    ensures of { (pool : List ℕ) → All (IsPinnedOf pool) pinned.old.items → All (IsCastOf pool) cast.old.items → All (IsPinnedOf pool) pinned.new.items × All (IsCastOf pool) cast.new.items }
+    ensures cast { map cast_of cast.new.items
+        ≡ map cast_of cast.old.items ++ casts_of hashes (pinned_at poll (map pinned_of pinned.old.items)) }
+    ensures of { (pool : List ℕ) → All (IsPinnedOf pool) pinned.old.items → All (IsCastOf pool) cast.old.items
+        → All (IsPinnedOf pool) pinned.new.items × All (IsCastOf pool) cast.new.items }
 {
     match place_of_pinned(pinned.as_slice(), poll) {
         Some(i) => {
@@ -121,7 +132,7 @@ impl CastSession {
     /// Notes that it gave a block.
     pub fn serve(&mut self, block: u16) -> Result<(), OutOfMemory>
         requires { MayHave block (cast_of self.old) }
-        ensures ok { OnOk result (cast_of self.new ≡ serving block (cast_of self.old)) }
+        ensures ok { OnOk result (cast_of self.new ≡ serving_block block (cast_of self.old)) }
         ensures refs { self.new.refs ≡ self.old.refs }
         ensures err { OnErr result (self.new ≡ self.old) }
     {
@@ -134,7 +145,9 @@ impl CastSession {
 #[tactic(auto, using(crate::proofs::Keyed::cast_serves))]
 pub fn serve(cast: &mut Vec<CastSession>, poll: PollName, block: u16) -> Result<(), OutOfMemory>
     requires { MayServe poll block (map cast_of cast.old.items) }
-    ensures served { OnOk result (map cast_of cast.new.items ≡ changed_first (is_cast_of poll) (serving block) (map cast_of cast.old.items)) }
+    ensures served { OnOk result
+        (map cast_of cast.new.items
+        ≡ changed_first (is_cast_of poll) (serving_block block) (map cast_of cast.old.items)) }
     ensures of { (pool : List ℕ) → All (IsCastOf pool) cast.old.items → All (IsCastOf pool) cast.new.items }
     ensures err { OnErr result (cast.new.items ≡ cast.old.items) }
 {

@@ -1,6 +1,7 @@
 //! All sessions of a peer in polls of others.
 
-ghost use Rattle.std.specs.Prelude.{◌≡◌, ◌≤◌, ◌↔◌, ◌+◌, ℕ, IsTrue, List, true, find, map, option_map, slice_get, length, nat_lt, OnOk, OnErr, if◌then◌else◌};
+ghost use Rattle.std.specs.Prelude.{◌≡◌, ◌≤◌, ◌↔◌, ◌+◌, ℕ, IsTrue, List, true, find, map, option_map, slice_get};
+ghost use Rattle.std.specs.Prelude.{length, nat_lt, OnOk, OnErr, if◌then◌else◌};
 ghost use Rattle.std.specs.List.{list_any};
 ghost use Rattle.std.specs.Option.{option_copied};
 ghost use Rattle.lks_base.specs.declared.limits.TheConstants.{MOST_BLOCKS};
@@ -30,8 +31,8 @@ use lks_work::JobName;
 use std::alloc::Global;
 use std::marker::Model;
 
-/// The sessions of a peer in polls of others, those that are over, the votes of each peer, and when a peer of low grade was
-/// last let in. Contracts see of them what `lks_law` calls a voter.
+/// The sessions of a peer in polls of others, those that are over, the votes of each peer, and when a peer of low grade
+/// was last let in. Contracts see of them what `lks_law` calls a voter.
 #[derive(Drop)]
 pub struct Sessions {
     joined: Vec<JoinedSession>,
@@ -47,7 +48,15 @@ impl Model for Sessions {
 
     ghost Value = { Kept };
 
-    ghost view = { λ s. record { joined = s.joined.items; pinned = s.pinned.items; cast = s.cast.items; ended = s.ended.items; marks = s.marks.items; last_low = s.last_low } };
+    ghost view = { λ s.
+        record {
+          joined = s.joined.items;
+          pinned = s.pinned.items;
+          cast = s.cast.items;
+          ended = s.ended.items;
+          marks = s.marks.items;
+          last_low = s.last_low;
+        } };
 }
 
 fn later(before: Option<u32>, tick: u32) -> Option<u32>
@@ -91,7 +100,8 @@ fn ready_among(pinned: &[PinnedSession], id: PeerId, k: u32) -> Option<PeerStep>
 }
 
 fn vote_left(pinned: &[PinnedSession], id: PeerId, out: &[JobName]) -> Option<JobName>
-    ensures { result ≡ find (is_left out.now) (map (λ p. names.Vote id p.committed.joined.poll) (map pinned_of pinned.now)) }
+    ensures { result
+        ≡ find (is_left out.now) (map (λ p. names.Vote id p.committed.joined.poll) (map pinned_of pinned.now)) }
 {
     for session in pinned {
         let name = JobName::Vote {
@@ -122,8 +132,8 @@ impl Sessions {
         }
     }
 
-    /// Joins a poll on an AU at this tick, at which the poller has a low grade or hasn't. It may have so many blocks, or as
-    /// many as the rules say.
+    /// Joins a poll on an AU at this tick, at which the poller has a low grade or hasn't. It may have so many blocks,
+    /// or as many as the rules say.
     #[tactic(auto, using(crate::proofs::Pools::of_same, crate::proofs::Lasting::sends_same))]
     pub fn join(
         &mut self,
@@ -134,7 +144,10 @@ impl Sessions {
         low: bool,
         repairs: Option<u16>,
     ) -> Result<(), OutOfMemory>
-        ensures state { OnOk result ((blocks : ℕ → List (List ℕ)) → voter_of self.new ≡ voter_after rules.now blocks (record_of.Joined poll au tick low repairs) (voter_of self.old)) }
+        ensures state { OnOk result
+            ((blocks : ℕ → List (List ℕ))
+            → voter_of self.new
+            ≡ voter_after rules.now blocks (record_of.Joined poll au tick low repairs) (voter_of self.old)) }
         ensures of { StaysOf self.old self.new }
         ensures sendable { StaysSendable self.old self.new }
         ensures err { OnErr result (self.new ≡ self.old) }
@@ -148,7 +161,8 @@ impl Sessions {
         Ok(())
     }
 
-    /// Commits the joined session of a poll, if there is one, to the version of its AU that has these blocks. It keeps them.
+    /// Commits the joined session of a poll, if there is one, to the version of its AU that has these blocks. It keeps
+    /// them.
     pub fn commit(
         &mut self,
         poll: PollName,
@@ -157,7 +171,11 @@ impl Sessions {
         kind: HashKind,
         refs: Refs,
     ) -> Result<(), OutOfMemory>
-        ensures state { OnOk result ((rules : RulesOf) (blocks : ℕ → List (List ℕ)) → PinsBlocks blocks poll (bytes_of refs) (voter_of self.old).sessions → voter_of self.new ≡ voter_after rules blocks (record_of.Committed poll nonce version kind) (voter_of self.old)) }
+        ensures state { OnOk result
+            ((rules : RulesOf) (blocks : ℕ → List (List ℕ))
+            → PinsBlocks blocks poll (bytes_of refs) (voter_of self.old).sessions
+            → voter_of self.new
+            ≡ voter_after rules blocks (record_of.Committed poll nonce version kind) (voter_of self.old)) }
         ensures of { (pool : List ℕ) → AllOf pool refs → IsOf pool self.old → IsOf pool self.new }
         ensures sendable { AreWell (bytes_of refs) → StaysSendable self.old self.new }
         ensures err { OnErr result (self.new ≡ self.old) }
@@ -177,7 +195,9 @@ impl Sessions {
     #[tactic(auto, using(crate::proofs::Pools::of_same, crate::proofs::Pools::of_cast, crate::proofs::Lasting::sends_same, crate::proofs::Lasting::sends_cast))]
     pub fn cast(&mut self, alloc: Global, poll: PollName, hashes: Hashes) -> Result<(), OutOfMemory>
         requires { marks_left (voter_of self.old) ≡ true }
-        ensures state { OnOk result ((rules : RulesOf) (blocks : ℕ → List (List ℕ)) → voter_of self.new ≡ voter_after rules blocks (record_of.Voted poll hashes) (voter_of self.old)) }
+        ensures state { OnOk result
+            ((rules : RulesOf) (blocks : ℕ → List (List ℕ))
+            → voter_of self.new ≡ voter_after rules blocks (record_of.Voted poll hashes) (voter_of self.old)) }
         ensures of { StaysOf self.old self.new }
         ensures sendable { length hashes ≤ MOST_BLOCKS → StaysSendable self.old self.new }
         ensures err { OnErr result (self.new ≡ self.old) }
@@ -192,7 +212,9 @@ impl Sessions {
     #[tactic(auto, using(crate::proofs::Pools::of_same, crate::proofs::Pools::of_served, crate::proofs::Lasting::sends_same, crate::proofs::Lasting::sends_served))]
     pub fn serve(&mut self, poll: PollName, block: u16) -> Result<(), OutOfMemory>
         requires { MayServe poll block (voter_of self.old).cast }
-        ensures state { OnOk result ((rules : RulesOf) (blocks : ℕ → List (List ℕ)) → voter_of self.new ≡ voter_after rules blocks (record_of.Served poll block) (voter_of self.old)) }
+        ensures state { OnOk result
+            ((rules : RulesOf) (blocks : ℕ → List (List ℕ))
+            → voter_of self.new ≡ voter_after rules blocks (record_of.Served poll block) (voter_of self.old)) }
         ensures of { StaysOf self.old self.new }
         ensures sendable { StaysSendable self.old self.new }
         ensures err { OnErr result (self.new ≡ self.old) }
@@ -200,8 +222,8 @@ impl Sessions {
         moves::serve(&mut self.cast, poll, block)
     }
 
-    /// Whether a block of the voted session of a poll may be noted, as one that is new to the poller and that it may have. Where
-    /// there is no such session, nothing is noted.
+    /// Whether a block of the voted session of a poll may be noted, as one that is new to the poller and that it may
+    /// have. Where there is no such session, nothing is noted.
     #[tactic(auto, unfolding(crate::specs::Sendable::MayServe))]
     pub fn may_serve(&self, poll: PollName, block: u16) -> bool
         ensures { IsTrue result ↔ MayServe poll block (voter_of self.now).cast }
@@ -215,7 +237,9 @@ impl Sessions {
     /// Ends the session of a poll, which then stays over.
     #[tactic(auto, using(crate::proofs::Pools::of_same, crate::proofs::Pools::of_moved, crate::proofs::Lasting::sends_same, crate::proofs::Lasting::sends_ended))]
     pub fn end(&mut self, poll: PollName) -> Result<(), OutOfMemory>
-        ensures state { OnOk result ((rules : RulesOf) (blocks : ℕ → List (List ℕ)) → voter_of self.new ≡ voter_after rules blocks (record_of.Ended poll) (voter_of self.old)) }
+        ensures state { OnOk result
+            ((rules : RulesOf) (blocks : ℕ → List (List ℕ))
+            → voter_of self.new ≡ voter_after rules blocks (record_of.Ended poll) (voter_of self.old)) }
         ensures of { StaysOf self.old self.new }
         ensures sendable { StaysSendable self.old self.new }
         ensures err { OnErr result (self.new ≡ self.old) }
@@ -231,7 +255,10 @@ impl Sessions {
     #[tactic(auto, using(crate::proofs::Pools::of_same, crate::proofs::Lasting::sends_same))]
     pub fn receive(&mut self, voter: PeerId) -> Result<(), OutOfMemory>
         requires { marks_left (voter_of self.old) ≡ true }
-        ensures state { OnOk result ((rules : RulesOf) (blocks : ℕ → List (List ℕ)) (number : ℕ) (hashes : List (List ℕ)) → voter_of self.new ≡ voter_after rules blocks (record_of.VoteIn number voter hashes) (voter_of self.old)) }
+        ensures state { OnOk result
+            ((rules : RulesOf) (blocks : ℕ → List (List ℕ)) (number : ℕ) (hashes : List (List ℕ))
+            → voter_of self.new
+            ≡ voter_after rules blocks (record_of.VoteIn number voter hashes) (voter_of self.old)) }
         ensures of { StaysOf self.old self.new }
         ensures sendable { StaysSendable self.old self.new }
         ensures err { OnErr result (self.new ≡ self.old) }
@@ -334,7 +361,8 @@ impl Sessions {
 
     /// The first vote, in order of the commitments, for which this peer is ready and whose job is none of these.
     pub fn vote_left(&self, id: PeerId, out: &[JobName]) -> Option<JobName>
-        ensures { result ≡ find (is_left out.now) (map (λ p. names.Vote id p.committed.joined.poll) (voter_of self.now).pinned) }
+        ensures { result
+            ≡ find (is_left out.now) (map (λ p. names.Vote id p.committed.joined.poll) (voter_of self.now).pinned) }
     {
         vote_left(&self.pinned, id, out)
     }

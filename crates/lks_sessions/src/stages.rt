@@ -4,7 +4,7 @@ ghost use Rattle.std.specs.Prelude.{◌≡◌, find, option_map, map};
 ghost use Rattle.std.specs.List.{position};
 ghost use Rattle.std.specs.Option.{option_copied};
 ghost use Rattle.lks_law.specs.Sessions.{is_poll};
-ghost use Rattle.lks_law.specs.Taking.{session_at, pinned_at, cast_at, serving};
+ghost use Rattle.lks_law.specs.Taking.{session_at, pinned_at, cast_at, serving_block};
 ghost use Rattle.lks_sessions.specs.Kept.{session_of, pinned_of, cast_of};
 
 use lks_base::PollName;

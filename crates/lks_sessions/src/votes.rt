@@ -131,7 +131,10 @@ fn vote_again(
 ) -> Result<Reaction, OutOfMemory>
     requires sendable { IsCastWell (cast_of session.now) }
     requires proof { length own.now.proof ≤ MOST_PROOF_BYTES }
-    ensures { IfOk result (λ r. r ≡ commits_again own.now refs.now poll session.now.voted.committed.commitment nonce.now kind (Some session.now.voted.hashes)) }
+    ensures { IfOk result
+        (λ r. r
+        ≡ commits_again own.now refs.now poll session.now.voted.committed.commitment nonce.now kind
+        (Some session.now.voted.hashes)) }
 {
     if !session.voted.committed().repeats(nonce, kind) {
         return Ok(no_reaction(alloc));
@@ -142,8 +145,9 @@ fn vote_again(
     Ok(telling(alloc, Seq::from_vec(sends)))
 }
 
-/// Takes the poller's proof of effort. One that is accepted commits a joined session to the newest version, and one that is
-/// refused ends it. One that repeats the commitment of a session is answered again, with the vote if there is one.
+/// Takes the poller's proof of effort. One that is accepted commits a joined session to the newest version, and one
+/// that is refused ends it. One that repeats the commitment of a session is answered again, with the vote if there is
+/// one.
 #[tactic(auto, unfolding(lks_law::specs::Answering::proof_in))]
 pub fn answer_proof(
     alloc: Global,
@@ -158,7 +162,9 @@ pub fn answer_proof(
 ) -> Result<Reaction, OutOfMemory>
     requires proof { length own.now.proof ≤ MOST_PROOF_BYTES }
     requires sendable { IsSendable (voter_of sessions.now) }
-    ensures { IfOk result (λ r. r ≡ proof_in own.now (voter_of sessions.now) (copies_of copies.now) refs.now poll nonce.now kind judged) }
+    ensures { IfOk result
+        (λ r. r
+        ≡ proof_in own.now (voter_of sessions.now) (copies_of copies.now) refs.now poll nonce.now kind judged) }
 {
     if let Some(session) = sessions.find_joined(poll) {
         let version = version_of(copies, session.joined.au());

@@ -18,7 +18,8 @@ pub record IsOpened {D : Type 0} (f : Face D) (tells : Type 0) (content : List �
   pub faults : f.faults store ≡ count
   pub idle : IsIdle f store
 
--- `Failed` is answered only where the count of faults rose in the call. It never falls, and it rises with no other answer.
+-- `Failed` is answered only where the count of faults rose in the call. It never falls, and it rises with no other
+-- answer.
 pub record HasCause {T : Type 0} (before now : ℕ) (result : Result T OpenStop) : Type 0 where
   pub later : before ≤ now
   pub failed : IsErrOf result Failed → Rose before now

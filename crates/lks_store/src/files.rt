@@ -125,8 +125,8 @@ impl<R: Files<File = File> + Drop> Opener for FileOpener<R> {
 
     ghost store_faults = { λ _. 0 };
 
-    /// The file at this path, which is made where there is none, and never cut. It is locked until it is dropped, so that a second
-    /// opening fails.
+    /// The file at this path, which is made where there is none, and never cut. It is locked until it is dropped, so
+    /// that a second opening fails.
     fn open_store(&mut self, path: &str) -> Result<FileDisk, OpenStop> {
         match open_locked(&self.rt, path) {
             Ok(file) => Ok(FileDisk { file, faults: 0 }),
@@ -138,8 +138,8 @@ impl<R: Files<File = File> + Drop> Opener for FileOpener<R> {
     }
 }
 
-/// Opens a file that no other opener holds, or makes it. An empty one may just have been made, here or by a call that was killed,
-/// so its folder's entry for it is synced.
+/// Opens a file that no other opener holds, or makes it. An empty one may just have been made, here or by a call that
+/// was killed, so its folder's entry for it is synced.
 fn open_locked<R: Files<File = File>>(rt: &R, path: &str) -> io::Result<File> {
     let file = OpenOptions::new()
         .read(true)

@@ -1,7 +1,7 @@
 //! Where a journal is kept: disks over files, and what opens them by name.
 //!
-//! An opener that tells what its next store holds has exact contracts. One over the file system tells nothing, and is trusted:
-//! so are its files.
+//! An opener that tells what its next store holds has exact contracts. One over the file system tells nothing, and is
+//! trusted: so are its files.
 //!
 //! ```rust
 //! use lks_disk::MemDisk;

@@ -49,9 +49,13 @@ impl<D: Disk> Opener for MemOpener<D> {
     ghost store_faults = { λ o. faults_of D.face o };
 
     fn open_store(&mut self, _path: &str) -> Result<D, OpenStop>
-        ensures opened { IfOk result (λ store. IsOpened D.face (tells_of D.face self.old) (content_of D.face self.old) (faults_of D.face self.old) store) }
+        ensures opened { IfOk result
+            (λ store. IsOpened D.face (tells_of D.face self.old) (content_of D.face self.old)
+            (faults_of D.face self.old) store) }
         ensures cause { HasCause self.old.faults self.new.faults result }
-        ensures same { OnErr result (TellsTheSame (tells_of D.face self.old) (tells_of D.face self.new) (content_of D.face self.old) (content_of D.face self.new) (faults_of D.face self.old) (faults_of D.face self.new)) }
+        ensures same { OnErr result
+            (TellsTheSame (tells_of D.face self.old) (tells_of D.face self.new) (content_of D.face self.old)
+            (content_of D.face self.new) (faults_of D.face self.old) (faults_of D.face self.new)) }
 
         ensures answer { result ≡ given_by self.old }
         ensures after { self.new ≡ after_open self.old }

@@ -28,9 +28,13 @@ pub trait Opener {
     /// How often that store has failed.
     ghost store_faults: { Self → ℕ };
 
-    /// A store as it was told: nothing is pending on it, and no fuse is set. After a refusal the same is told of the next one.
+    /// A store as it was told: nothing is pending on it, and no fuse is set. After a refusal the same is told of the
+    /// next one.
     fn open_store(&mut self, path: &str) -> Result<Self::Store, OpenStop>
-        ensures opened { IfOk result (λ store. IsOpened Self.Store.face (tells self.old) (content self.old) (store_faults self.old) store) }
+        ensures opened { IfOk result
+            (λ store. IsOpened Self.Store.face (tells self.old) (content self.old) (store_faults self.old) store) }
         ensures cause { HasCause (faults self.old) (faults self.new) result }
-        ensures same { OnErr result (TellsTheSame (tells self.old) (tells self.new) (content self.old) (content self.new) (store_faults self.old) (store_faults self.new)) };
+        ensures same { OnErr result
+            (TellsTheSame (tells self.old) (tells self.new) (content self.old) (content self.new)
+            (store_faults self.old) (store_faults self.new)) };
 }

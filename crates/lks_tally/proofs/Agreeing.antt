@@ -23,13 +23,15 @@ pub agrees_hash : (q : Ballot) (blocks : List (List ℕ)) (b : ℕ) (v : Vote) �
     → slice_get v.hashes b ≡ Some (hash_at q blocks b v.voter)
 agrees_hash q blocks b v same = is_hash_some (slice_get v.hashes b) (hash_at q blocks b v.voter) same
 
-pub hash_agrees : (q : Ballot) (blocks : List (List ℕ)) (b : ℕ) (v : Vote) → slice_get v.hashes b ≡ Some (hash_at q blocks b v.voter)
+pub hash_agrees : (q : Ballot) (blocks : List (List ℕ)) (b : ℕ) (v : Vote)
+    → slice_get v.hashes b ≡ Some (hash_at q blocks b v.voter)
     → agrees q blocks b v ≡ true
 hash_agrees q blocks b v found =
     ap (λ h. is_hash h (hash_at q blocks b v.voter)) found ∙ is_hash_own (hash_at q blocks b v.voter)
 
 -- a vote over a copy is for each copy with the same blocks up to b
-pub agrees_same : (q : Ballot) (own blocks : List (List ℕ)) (b : ℕ) (v : Vote) → v.hashes ≡ hashes_of (is_second q.kind) (key_for q v.voter) own
+pub agrees_same : (q : Ballot) (own blocks : List (List ℕ)) (b : ℕ) (v : Vote)
+    → v.hashes ≡ hashes_of (is_second q.kind) (key_for q v.voter) own
     → b < length own → take (b + 1) own ≡ take (b + 1) blocks → agrees q blocks b v ≡ true
 agrees_same q own blocks b v hashes within same =
     hash_agrees q blocks b v

@@ -1,5 +1,6 @@
 -- What a verdict says of the blocks.
-use Rattle.std.proofs.Common.{◌≡◌, ℕ, zero, suc, ◌+◌, ◌<◌, ◌≤◌, Bool, true, false, cond, ltb, leb, List, length, inl, inr, refl, ap, subst, sym, ◌∙◌, arith}
+use Rattle.std.proofs.Common.{◌≡◌, ℕ, zero, suc, ◌+◌, ◌<◌, ◌≤◌, Bool, true, false, cond, ltb, leb, List, length, inl}
+use Rattle.std.proofs.Common.{inr, refl, ap, subst, sym, ◌∙◌, arith}
 use Rattle.std.proofs.lemmas.Bool.{leb-true, leb-false, ltb-true, ltb-false, cases_lt}
 use Rattle.lks_tally.specs.declared.ballots.Ballot.{Ballot}
 use Rattle.lks_tally.specs.declared.ballots.Vote.{Vote}
@@ -7,7 +8,8 @@ use Rattle.lks_tally.specs.declared.ballots.At.{At}
 use Rattle.lks_tally.specs.declared.ballots.At.TheVariants as at
 use Rattle.lks_tally.specs.declared.ballots.Verdict.{Verdict}
 use Rattle.lks_tally.specs.declared.ballots.Verdict.TheVariants.{Inquorate, Agreed, Loss, Split}
-use Rattle.lks_tally.specs.Counting.{for_at, against_at, landslide, verdict_at, decided, first_from, verdict_on, IsFirst}
+use Rattle.lks_tally.specs.Counting.{for_at, against_at, landslide, verdict_at, decided_at, first_from, verdict_on}
+use Rattle.lks_tally.specs.Counting.{IsFirst}
 
 -- what so many votes for and against say
 record Says (minority votes_for votes_against : ℕ) (said : At) : Type 0 where
@@ -15,10 +17,12 @@ record Says (minority votes_for votes_against : ℕ) (said : At) : Type 0 where
   loss : said ≡ at.Loss → (votes_for ≤ minority) × (minority < votes_against)
   split : said ≡ at.Split → (minority < votes_for) × (minority < votes_against)
 
-says : (minority votes_for votes_against : ℕ) → Says minority votes_for votes_against (landslide minority votes_for votes_against)
+says : (minority votes_for votes_against : ℕ)
+    → Says minority votes_for votes_against (landslide minority votes_for votes_against)
 says minority votes_for votes_against = by_against (leb votes_against minority) refl
   where
-    by_for : (t : Bool) → leb votes_for minority ≡ t → leb votes_against minority ≡ false → Says minority votes_for votes_against (cond t at.Loss at.Split)
+    by_for : (t : Bool) → leb votes_for minority ≡ t → leb votes_against minority ≡ false
+        → Says minority votes_for votes_against (cond t at.Loss at.Split)
     by_for true low high = record {
       win = λ e. absurd cc;
       loss = λ e. (leb-true votes_for minority low, leb-false votes_against minority high);
@@ -32,7 +36,8 @@ says minority votes_for votes_against = by_against (leb votes_against minority) 
 
     by_against : (t : Bool) → leb votes_against minority ≡ t
         → Says minority votes_for votes_against (cond t at.Win (cond (leb votes_for minority) at.Loss at.Split))
-    by_against true few = record { win = λ e. leb-true votes_against minority few; loss = λ e. absurd cc; split = λ e. absurd cc }
+    by_against true few =
+        record { win = λ e. leb-true votes_against minority few; loss = λ e. absurd cc; split = λ e. absurd cc }
     by_against false many = by_for (leb votes_for minority) refl many
 
 module _ (minority : ℕ) (q : Ballot) (votes : List Vote) (blocks : List (List ℕ)) where
@@ -68,7 +73,8 @@ module _ (minority : ℕ) (q : Ballot) (votes : List Vote) (blocks : List (List 
     | inr below ↦ let same : k ≡ start = omega arith in ap (verdict_at minority q votes blocks) same ∙ first
   ]
 
-  first_more : (said : At) (start n b : ℕ) → verdict_at minority q votes blocks start ≡ at.Win → First said (start + 1) n b → First said start (suc n) b
+  first_more : (said : At) (start n b : ℕ) → verdict_at minority q votes blocks start ≡ at.Win
+      → First said (start + 1) n b → First said start (suc n) b
   first_more said start n b first f = record {
     low = omega arith;
     high = omega arith;
@@ -76,22 +82,27 @@ module _ (minority : ℕ) (q : Ballot) (votes : List Vote) (blocks : List (List 
     before = λ k low high. win_more start k first low (λ above. f.before k above high);
   }
 
-  found_more : (v : Verdict) (start n : ℕ) → verdict_at minority q votes blocks start ≡ at.Win → Found v (start + 1) n → Found v start (suc n)
+  found_more : (v : Verdict) (start n : ℕ) → verdict_at minority q votes blocks start ≡ at.Win
+      → Found v (start + 1) n → Found v start (suc n)
   found_more Inquorate start n first f = f
   found_more Agreed start n first f = λ k low high. win_more start k first low (λ above. f k above (omega arith))
   found_more (Loss b) start n first f = first_more at.Loss start n b first f
   found_more (Split b) start n first f = first_more at.Split start n b first f
 
-  found_at : (a : At) (start n : ℕ) (rest : Verdict) → verdict_at minority q votes blocks start ≡ a → Found rest (start + 1) n
-      → Found (decided a start rest) start (suc n)
+  found_at : (a : At) (start n : ℕ) (rest : Verdict) → verdict_at minority q votes blocks start ≡ a
+      → Found rest (start + 1) n
+      → Found (decided_at a start rest) start (suc n)
   found_at at.Win start n rest is f = found_more rest start n is f
-  found_at at.Loss start n rest is f = record { low = omega arith; high = omega arith; here = is; before = λ k low high. absurd (omega arith) }
-  found_at at.Split start n rest is f = record { low = omega arith; high = omega arith; here = is; before = λ k low high. absurd (omega arith) }
+  found_at at.Loss start n rest is f =
+      record { low = omega arith; high = omega arith; here = is; before = λ k low high. absurd (omega arith) }
+  found_at at.Split start n rest is f =
+      record { low = omega arith; high = omega arith; here = is; before = λ k low high. absurd (omega arith) }
 
   found : (n start : ℕ) → Found (first_from minority q votes blocks start n) start n
   found zero start = λ k low high. absurd (omega arith)
   found (suc n) start =
-      found_at (verdict_at minority q votes blocks start) start n (first_from minority q votes blocks (start + 1) n) refl (found n (start + 1))
+      found_at (verdict_at minority q votes blocks start) start n (first_from minority q votes blocks (start + 1) n)
+      refl (found n (start + 1))
 
   first_is : (said : At) (b : ℕ) → First said 0 (length blocks) b → IsFirst minority q votes blocks said b
   first_is said b f = record { within = omega arith; here = f.here; before = λ k high. f.before k (omega arith) high }
@@ -110,7 +121,8 @@ module _ (minority : ℕ) (q : Ballot) (votes : List Vote) (blocks : List (List 
     inquorate_votes is = by_few (ltb (length votes) quorum) refl is
       where
         by_few : (few : Bool) → ltb (length votes) quorum ≡ few
-            → cond few Inquorate (first_from minority q votes blocks 0 (length blocks)) ≡ Inquorate → length votes < quorum
+            → cond few Inquorate (first_from minority q votes blocks 0 (length blocks)) ≡ Inquorate
+            → length votes < quorum
         by_few true few is = ltb-true (length votes) quorum few
         by_few false few is = absurd (subst (λ v. Found v 0 (length blocks)) is (found (length blocks) 0))
 

@@ -1,5 +1,6 @@
 -- Distinct voters out of a circle.
-use Rattle.std.proofs.Common.{◌≡◌, ◌≢◌, ◌<◌, ◌≤◌, ℕ, suc, true, ◌||◌, List, [], ◌∷◌, length, map, refl, sym, ◌∙◌, ap, arith}
+use Rattle.std.proofs.Common.{◌≡◌, ◌≢◌, ◌<◌, ◌≤◌, ℕ, suc, true, ◌||◌, List, [], ◌∷◌, length, map, refl, sym, ◌∙◌, ap}
+use Rattle.std.proofs.Common.{arith}
 use Rattle.std.specs.Prelude.{nat_eq}
 use Rattle.std.specs.Cmp.{nat_eq_equiv}
 use Rattle.std.specs.List.{AllPairs}
@@ -35,13 +36,16 @@ distinct_voters votes distinct = λ i j d before within same.
     let second : j < length votes = omega (arith, within, length_voters votes) in
     let first : i < length votes = omega arith in
     distinct i j vote before second
-    (sym (get_or-map (λ (v : Vote). v.voter) votes i vote d first) ∙ same ∙ get_or-map (λ (v : Vote). v.voter) votes j vote d second)
+    (sym (get_or-map (λ (v : Vote). v.voter) votes i vote d first) ∙ same
+    ∙ get_or-map (λ (v : Vote). v.voter) votes j vote d second)
 
 -- distinct voters out of a circle are no more than it has members
-pub few_voters : (ids : List ℕ) (votes : List Vote) → AreDistinct votes → ((v : ℕ) → has_voted votes v ≡ true → has_member ids v ≡ true)
+pub few_voters : (ids : List ℕ) (votes : List Vote) → AreDistinct votes
+    → ((v : ℕ) → has_voted votes v ≡ true → has_member ids v ≡ true)
     → length votes ≤ length ids
 few_voters ids votes distinct within =
     let fewer : length (voters votes) ≤ length ids =
-    length-le_from_is_member nat_eq_equiv (voters votes) ids (IsDistinct-from_AllPairs Decides-eqb (voters votes) (distinct_voters votes distinct))
+    length-le_from_is_member nat_eq_equiv (voters votes) ids
+    (IsDistinct-from_AllPairs Decides-eqb (voters votes) (distinct_voters votes distinct))
     (λ v found. is_member_ids ids v ∙ within v (sym (is_member_votes votes v) ∙ found)) in
     rw (← length_voters votes) fewer

@@ -1,5 +1,6 @@
 -- The verdict of a poll, by counting the votes for and against each block of a copy.
-use Rattle.std.specs.Prelude.{◌≡◌, ◌<◌, ℕ, Bool, false, not, ◌==◌, ◌+◌, ◌-◌, nat_le, if◌then◌else◌, zero, suc, Option, Some, None, List, length, take, slice_get, count_by, filter, map}
+use Rattle.std.specs.Prelude.{◌≡◌, ◌<◌, ℕ, Bool, false, not, ◌==◌, ◌+◌, ◌-◌, nat_le, if◌then◌else◌, zero, suc, Option}
+use Rattle.std.specs.Prelude.{Some, None, List, length, take, slice_get, count_by, filter, map}
 use Rattle.std.specs.Cmp.Lexicographic.{pointwise}
 use Rattle.lks_base.specs.Kinds.{is_second}
 use Rattle.lks_hash.specs.Hashes.{key_of}
@@ -55,16 +56,16 @@ abbrev pub verdict_at : ℕ → Ballot → List Vote → List (List ℕ) → ℕ
 verdict_at minority q votes blocks b = landslide minority (for_at q votes blocks b) (against_at q votes blocks b)
 
 -- a block that isn't a win decides; after a win the rest does
-abbrev pub decided : At → ℕ → Verdict → Verdict
-decided at.Win b rest = rest
-decided at.Loss b rest = Loss b
-decided at.Split b rest = Split b
+abbrev pub decided_at : At → ℕ → Verdict → Verdict
+decided_at at.Win b rest = rest
+decided_at at.Loss b rest = Loss b
+decided_at at.Split b rest = Split b
 
 -- the verdict on n blocks from b on
 abbrev pub first_from : ℕ → Ballot → List Vote → List (List ℕ) → ℕ → ℕ → Verdict
 first_from minority q votes blocks b zero = Agreed
 first_from minority q votes blocks b (suc n) =
-    decided (verdict_at minority q votes blocks b) b (first_from minority q votes blocks (b + 1) n)
+    decided_at (verdict_at minority q votes blocks b) b (first_from minority q votes blocks (b + 1) n)
 
 -- the verdict on the copy that has these blocks
 unfoldable pub verdict_on : ℕ → ℕ → Ballot → List Vote → List (List ℕ) → Verdict
@@ -72,7 +73,8 @@ verdict_on quorum minority q votes blocks =
     if is_inquorate (length votes) quorum then Inquorate else first_from minority q votes blocks 0 (length blocks)
 
 -- b is the first block that isn't a win, and this is what the votes say there
-pub record IsFirst (minority : ℕ) (q : Ballot) (votes : List Vote) (blocks : List (List ℕ)) (said : At) (b : ℕ) : Type 0 where
+pub record IsFirst (minority : ℕ) (q : Ballot) (votes : List Vote) (blocks : List (List ℕ)) (said : At)
+    (b : ℕ) : Type 0 where
   pub within : b < length blocks
   pub here : verdict_at minority q votes blocks b ≡ said
   pub before : (k : ℕ) → k < b → verdict_at minority q votes blocks k ≡ at.Win

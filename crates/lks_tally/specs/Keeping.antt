@@ -45,12 +45,12 @@ abbrev pub has_voted : List Vote → ℕ → Bool
 has_voted votes voter = list_any (λ v. v.voter == voter) votes
 
 -- one vote more, and nothing kept
-abbrev pub voted : Tallied → Vote → Tallied
-voted t vote = record t { votes = t.votes ++ vote ∷ []; kept = 0; hashes = [] }
+abbrev pub vote_added : Tallied → Vote → Tallied
+vote_added t vote = record t { votes = t.votes ++ vote ∷ []; kept = 0; hashes = [] }
 
 -- nothing kept from block b on
-abbrev pub forgotten : ℕ → Tallied → Tallied
-forgotten b t = record t { kept = min b t.kept; hashes = take (min b t.kept * length t.votes) t.hashes }
+abbrev pub hashes_forgotten : ℕ → Tallied → Tallied
+hashes_forgotten b t = record t { kept = min b t.kept; hashes = take (min b t.kept * length t.votes) t.hashes }
 
 -- for how many of `count` blocks hashes are kept after a verdict
 abbrev pub kept_after : Verdict → ℕ → ℕ → ℕ

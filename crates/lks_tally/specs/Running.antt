@@ -1,5 +1,6 @@
 -- A poll that runs, as its poller knows it: what each thing that happens makes of it, and its rules.
-use Rattle.std.specs.Prelude.{ℕ, Bool, true, false, not, ◌&&◌, ◌==◌, if◌then◌else◌, Option, Some, None, is_some, unwrap_or, List, [], ◌∷◌, ◌++◌, filter, find}
+use Rattle.std.specs.Prelude.{ℕ, Bool, true, false, not, ◌&&◌, ◌==◌, if◌then◌else◌, Option, Some, None, is_some}
+use Rattle.std.specs.Prelude.{unwrap_or, List, [], ◌∷◌, ◌++◌, filter, find}
 use Rattle.std.specs.List.{list_any}
 use Rattle.lks_base.specs.Checking.{has_member}
 use Rattle.lks_base.specs.declared.names.HashKind.{HashKind}
@@ -45,8 +46,8 @@ pub record Poll : Type 0 where
 -- ---- what happens
 
 -- a poll that was opened just now
-abbrev pub begun : ℕ → Opening → Poll
-begun n opening =
+abbrev pub begun_poll : ℕ → Opening → Poll
+begun_poll n opening =
     record {
       number = n;
       opening = opening;
@@ -62,7 +63,8 @@ begun n opening =
 
 -- a voter nominated these
 abbrev pub nominated_by : ℕ → List ℕ → Poll → Poll
-nominated_by voter nominees p = record p { nominations = p.nominations ++ record { voter = voter; nominees = nominees } ∷ [] }
+nominated_by voter nominees p =
+    record p { nominations = p.nominations ++ record { voter = voter; nominees = nominees } ∷ [] }
 
 -- the circle that was invited first stays
 abbrev pub first_circle : Option (List ℕ) → List ℕ → Option (List ℕ)
@@ -85,12 +87,12 @@ abbrev pub shut_now : Poll → Poll
 shut_now p = record p { shut = true }
 
 -- a voter was asked for a block
-abbrev pub asking : Request → Poll → Poll
-asking r p = record p { asked = p.asked ++ r ∷ []; request = Some r }
+abbrev pub request_sent : Request → Poll → Poll
+request_sent r p = record p { asked = p.asked ++ r ∷ []; request = Some r }
 
 -- the request was answered, or given up
-abbrev pub answered : Poll → Poll
-answered p = record p { request = None }
+abbrev pub request_answered : Poll → Poll
+request_answered p = record p { request = None }
 
 -- ---- the rules
 
@@ -116,7 +118,8 @@ may_prove p from = not p.shut && is_invited_to p from && not (has_member p.voter
 
 -- an invited peer votes once, while votes are open, with so many hashes: one for each of so many blocks
 abbrev pub may_vote : Poll → ℕ → ℕ → ℕ → Bool
-may_vote p from hashes count = not p.shut && poll.may_vote (is_invited_to p from) (has_member p.voters from) hashes count
+may_vote p from hashes count =
+    not p.shut && poll.may_vote (is_invited_to p from) (has_member p.voters from) hashes count
 
 -- the invited peers that haven't voted
 unfoldable pub silent_in : Poll → List ℕ
@@ -145,7 +148,8 @@ module _ {X : Type 0} (close : Outcome → X) where
   supplied_by ask b None = close (outcome.NoSupplier b)
   supplied_by ask b (Some v) = ask b v
 
-  -- The first block that isn't a win decides: a split closes the poll, and at a loss a voter against the copy is asked for the block.
+  -- The first block that isn't a win decides: a split closes the poll, and at a loss a voter against the copy is asked
+  -- for the block.
   abbrev pub follows : X → (ℕ → X) → Verdict → X
   follows few lose Inquorate = few
   follows few lose Agreed = close outcome.Agreed

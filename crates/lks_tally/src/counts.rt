@@ -129,7 +129,8 @@ pub fn landslide(minority: u16, votes_for: usize, votes_against: usize) -> At
 /// What the votes say at block `b`, where the voters' running hashes after it are these.
 pub fn at_heads(minority: u16, votes: &[Vote], heads: &[[u8; 32]], b: u16) -> At
     requires { length votes.now ≡ length heads.now }
-    ensures { let votes_for = matching b votes.now heads.now in result ≡ count.landslide minority votes_for (length votes.now - votes_for) }
+    ensures { let votes_for = matching b votes.now heads.now in
+        result ≡ count.landslide minority votes_for (length votes.now - votes_for) }
 {
     let votes_for = count_for(votes, heads, b);
     landslide(minority, votes_for, votes.len() - votes_for)

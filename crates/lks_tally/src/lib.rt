@@ -1,8 +1,8 @@
 //! The verdict of a poll on a copy (Maniatis et al., ACM TOCS 23(1), 2005, section 4): at each block, the votes are
 //! counted whose running hash there is the copy's own under the voter's key.
 //!
-//! A [`Tally`] keeps running hashes from one verdict to the next, so that after a repair only the blocks from there on are
-//! hashed again. [`for_of`] hashes a copy afresh for votes in a slice.
+//! A [`Tally`] keeps running hashes from one verdict to the next, so that after a repair only the blocks from there on
+//! are hashed again. [`for_of`] hashes a copy afresh for votes in a slice.
 //!
 //! ```rust
 //! use lks_base::MOST_CIRCLE;
@@ -22,6 +22,8 @@
 //!     }
 //! }
 //! ```
+//!
+//! Its trials: `lks_rule_trials`, `tally`.
 #![tactic(auto)]
 
 mod ballots;

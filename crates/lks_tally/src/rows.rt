@@ -1,6 +1,7 @@
 //! Running hashes that are kept between verdicts: block after block a row, in it one hash for each vote.
 
-ghost use Rattle.std.specs.Prelude.{◌≡◌, ◌+◌, ◌*◌, ◌-◌, ◌<◌, ◌≤◌, ◌++◌, ◌∷◌, [], max, length, take, drop, slice_get, vec_len, vec_capacity};
+ghost use Rattle.std.specs.Prelude.{◌≡◌, ◌+◌, ◌*◌, ◌-◌, ◌<◌, ◌≤◌, ◌++◌, ◌∷◌, [], max, length, take, drop, slice_get};
+ghost use Rattle.std.specs.Prelude.{vec_len, vec_capacity};
 ghost use Rattle.lks_base.specs.Kinds.{is_second};
 ghost use Rattle.lks_hash.specs.Running.{running};
 ghost use Rattle.lks_tally.specs.Counting.{key_for, verdict_at, first_from};
@@ -136,7 +137,8 @@ pub fn first_of_rows<C: Contents, L: Ledger>(
     requires few { rows.old.count ≤ length (C.blocks copy.now) }
     requires cache { rows.old.hashes.items ≡ kept.rows_of ballot.now (C.blocks copy.now) votes.now rows.old.count }
     requires room { length votes.now * length (C.blocks copy.now) ≤ vec_capacity rows.old.hashes }
-    ensures verdict { result ≡ first_from minority ballot.now votes.now (C.blocks copy.now) 0 (length (C.blocks copy.now)) }
+    ensures verdict { result
+        ≡ first_from minority ballot.now votes.now (C.blocks copy.now) 0 (length (C.blocks copy.now)) }
     ensures count { rows.new.count ≡ kept_after result rows.old.count (length (C.blocks copy.now)) }
     ensures few { rows.new.count ≤ length (C.blocks copy.now) }
     ensures cache { rows.new.hashes.items ≡ kept.rows_of ballot.now (C.blocks copy.now) votes.now rows.new.count }

@@ -1,8 +1,10 @@
 //! The tally of a poll: its votes, and the running hashes that it keeps from one verdict to the next.
 
-ghost use Rattle.std.specs.Prelude.{◌≡◌, ℕ, ◌+◌, ◌*◌, ◌-◌, ◌<◌, ◌≤◌, ◌≢◌, ◌↔◌, List, [], ◌∷◌, length, min, slice_set, vec_len, vec_capacity, IsOk, IsTrue, IfOk, OnOk, OnErr, true, false};
+ghost use Rattle.std.specs.Prelude.{◌≡◌, ℕ, ◌+◌, ◌*◌, ◌-◌, ◌<◌, ◌≤◌, ◌≢◌, ◌↔◌, List, [], ◌∷◌, length, min, slice_set};
+ghost use Rattle.std.specs.Prelude.{vec_len, vec_capacity, IsOk, IsTrue, IfOk, OnOk, OnErr, true, false};
 ghost use Rattle.lks_tally.specs.Counting.{voters_against, verdict_at, verdict_on};
-ghost use Rattle.lks_tally.specs.Keeping.{IsCacheOf, IsReserved, IsSame, KeepsRooms, has_voted, voted, forgotten, kept_after, roomed_as};
+ghost use Rattle.lks_tally.specs.Keeping.{IsCacheOf, IsReserved, IsSame, KeepsRooms, has_voted, vote_added};
+ghost use Rattle.lks_tally.specs.Keeping.{hashes_forgotten, kept_after, roomed_as};
 
 use crate::ballots::{At, Ballot, Verdict, Vote};
 use crate::rows::Rows;
@@ -44,9 +46,19 @@ impl Model for Tally {
 
     ghost Value = { Tallied };
 
-    ghost view = { λ a. record { ballot = a.ballot; limits = a.limits; votes = a.votes.items; kept = a.rows.count; hashes = a.rows.hashes.items; room = vec_capacity a.rows.hashes; vote_room = vec_capacity a.votes } };
+    ghost view = { λ a.
+        record {
+          ballot = a.ballot;
+          limits = a.limits;
+          votes = a.votes.items;
+          kept = a.rows.count;
+          hashes = a.rows.hashes.items;
+          room = vec_capacity a.rows.hashes;
+          vote_room = vec_capacity a.votes;
+        } };
 
-    ghost invariant = { λ a. (a.rows.count ≤ a.ballot.count) × (length a.rows.hashes.items ≡ a.rows.count * length a.votes.items) };
+    ghost invariant = { λ a. (a.rows.count ≤ a.ballot.count)
+        × (length a.rows.hashes.items ≡ a.rows.count * length a.votes.items) };
 }
 
 impl Tally {
@@ -85,8 +97,8 @@ impl Tally {
         }
     }
 
-    /// Takes room for the votes of a whole inner circle and their running hashes: votes that fit, and verdicts, then take no
-    /// memory.
+    /// Takes room for the votes of a whole inner circle and their running hashes: votes that fit, and verdicts, then
+    /// take no memory.
     pub fn reserve(&mut self) -> Result<(), OutOfMemory>
         ensures ok { OnOk result (IsReserved self.new) }
         ensures same { self.new ≡ roomed_as self.new self.old }
@@ -100,14 +112,20 @@ impl Tally {
         Ok(())
     }
 
-    /// Takes a vote, which is to have one hash a block, and forgets what was kept. It takes no memory where there is room.
+    /// Takes a vote, which is to have one hash a block, and forgets what was kept. It takes no memory where there is
+    /// room.
     pub fn add_vote(&mut self, voter: PeerId, hashes: Hashes) -> Result<(), VoteFault>
-        ensures ok { OnOk result (self.new ≡ record (voted self.old (record { voter = voter; hashes = hashes })) { vote_room = self.new.vote_room }) }
+        ensures ok { OnOk result
+            (self.new
+            ≡ record (vote_added self.old
+            (record { voter = voter; hashes = hashes })) { vote_room = self.new.vote_room }) }
         ensures err { OnErr result (self.new ≡ self.old) }
         ensures twice { (result ≡ Err VoteFault.Twice) ↔ IsTrue (has_voted self.old.votes voter) }
-        ensures wrong_length { (result ≡ Err VoteFault.Length) ↔ ((has_voted self.old.votes voter ≡ false) × (length hashes ≢ self.old.ballot.count)) }
+        ensures wrong_length { (result ≡ Err VoteFault.Length)
+            ↔ ((has_voted self.old.votes voter ≡ false) × (length hashes ≢ self.old.ballot.count)) }
         ensures rooms { KeepsRooms self.old self.new }
-        ensures roomy { length self.old.votes < self.old.vote_room → (self.new.vote_room ≡ self.old.vote_room) × (result ≢ Err VoteFault.Memory) }
+        ensures roomy { length self.old.votes < self.old.vote_room
+            → (self.new.vote_room ≡ self.old.vote_room) × (result ≢ Err VoteFault.Memory) }
     {
         if counts::has_voted(&self.votes, voter) {
             return Err(VoteFault::Twice);
@@ -124,14 +142,17 @@ impl Tally {
         Ok(())
     }
 
-    /// The verdict of the votes on a copy. It takes no memory, and makes links for the blocks alone whose hashes aren't kept.
+    /// The verdict of the votes on a copy. It takes no memory, and makes links for the blocks alone whose hashes aren't
+    /// kept.
     #[tactic(auto, unfolding(crate::specs::Counting::verdict_on))]
     pub fn verdict<C: Contents, L: Ledger>(&mut self, c: &C, steps: &mut Steps<L>) -> Verdict
         requires reserved { IsReserved self.old }
         requires few { length self.old.votes ≤ MOST_CIRCLE }
         requires count { length (C.blocks c.now) ≡ self.old.ballot.count }
         requires cache { IsCacheOf self.old (C.blocks c.now) }
-        ensures verdict { result ≡ verdict_on self.old.limits.quorum self.old.limits.minority self.old.ballot self.old.votes (C.blocks c.now) }
+        ensures verdict { result
+            ≡ verdict_on self.old.limits.quorum self.old.limits.minority self.old.ballot self.old.votes
+            (C.blocks c.now) }
         ensures same { IsSame self.new self.old }
         ensures rooms { KeepsRooms self.old self.new }
         ensures kept { self.new.kept ≡ kept_after result self.old.kept self.old.ballot.count }
@@ -163,7 +184,9 @@ impl Tally {
         requires within { b < self.old.ballot.count }
         requires count { length (C.blocks c.now) ≡ self.old.ballot.count }
         requires cache { IsCacheOf self.old (C.blocks c.now) }
-        ensures at { result ≡ verdict_at self.old.limits.minority self.old.ballot self.old.votes (slice_set (C.blocks c.now) b bytes.now) b }
+        ensures at { result
+            ≡ verdict_at self.old.limits.minority self.old.ballot self.old.votes
+            (slice_set (C.blocks c.now) b bytes.now) b }
         ensures same { self.new ≡ self.old }
         ensures cost { steps.new ≡ steps.old + length self.old.votes * (b - self.old.kept + 1) }
     {
@@ -181,7 +204,7 @@ impl Tally {
 
     /// Forgets the running hashes from block `b` on.
     pub fn forget_from(&mut self, b: u16)
-        ensures { self.new ≡ forgotten b self.old }
+        ensures { self.new ≡ hashes_forgotten b self.old }
     {
         if b < self.rows.count {
             self.rows.count = b;
@@ -262,7 +285,8 @@ fn make_place(votes: &mut Vec<Vote>) -> Result<(), OutOfMemory>
     ensures ok { OnOk result (vec_len votes.new < vec_capacity votes.new) }
     ensures err { OnErr result (vec_capacity votes.new ≡ vec_capacity votes.old) }
     ensures room { vec_capacity votes.old ≤ vec_capacity votes.new }
-    ensures roomy { vec_len votes.old < vec_capacity votes.old → (vec_capacity votes.new ≡ vec_capacity votes.old) × IsOk result }
+    ensures roomy { vec_len votes.old < vec_capacity votes.old
+        → (vec_capacity votes.new ≡ vec_capacity votes.old) × IsOk result }
 {
     if votes.len() == votes.capacity() {
         votes.try_reserve(1)?;

@@ -11,29 +11,37 @@ kept_in : (s : Shelf) (k : ℕ) → IsKept s k → 0 < length s.lists → IsWhol
 kept_in s k (inl is) some whole = omega arith
 kept_in s k (inr pinned) some whole = pin_of-within pinned.0 (length s.lists) k s.pins whole.there pinned.1
 
-pub kept_within : (s : Shelf) (k : ℕ) (deposit : List Block) (later : List (List Block)) (pins : List Pin) → record { lists = deposit ∷ later; pins = pins } ≡ s
+pub kept_within : (s : Shelf) (k : ℕ) (deposit : List Block) (later : List (List Block)) (pins : List Pin)
+    → record { lists = deposit ∷ later; pins = pins } ≡ s
     → IsKept s k → IsWhole (deposit ∷ later) pins → k ≤ length later
 kept_within s k deposit later pins is kept whole =
     let seen : Shelf = record { lists = deposit ∷ later; pins = pins } in
-    let within : k < length (deposit ∷ later) = kept_in seen k (subst (λ s. IsKept s k) (sym is) kept) (omega arith) whole in
+    let within : k
+    < length (deposit ∷ later) = kept_in seen k (subst (λ s. IsKept s k) (sym is) kept) (omega arith) whole in
     omega arith
 
 -- each version has as many blocks as the deposit
-pub count_at : (lists : List (List Block)) (pins : List Pin) (k : ℕ) (list : List Block) → IsWhole lists pins → k < length lists → list ≡ slice_index_or lists k [] → length list ≡ length (deposit_of lists)
+pub count_at : (lists : List (List Block)) (pins : List Pin) (k : ℕ) (list : List Block) → IsWhole lists pins
+    → k < length lists → list ≡ slice_index_or lists k [] → length list ≡ length (deposit_of lists)
 count_at lists pins k list whole within is = ap length is ∙ whole.same k [] within
 
-pub counted_at : (lists : List (List Block)) (pins : List Pin) (k : ℕ) (list : List Block) → IsWhole lists pins → k < length lists → list ≡ slice_index_or lists k [] → IsCounted list
+pub counted_at : (lists : List (List Block)) (pins : List Pin) (k : ℕ) (list : List Block) → IsWhole lists pins
+    → k < length lists → list ≡ slice_index_or lists k [] → IsCounted list
 counted_at lists pins k list whole within is =
     let same = count_at lists pins k list whole within is in
     (omega (arith, same, whole.counted.0), omega (arith, same, whole.counted.1))
 
-pub count_each : (deposit : List Block) (later : List (List Block)) (pins : List Pin) (s : Shelf) → record { lists = deposit ∷ later; pins = pins } ≡ s → IsWhole (deposit ∷ later) pins
+pub count_each : (deposit : List Block) (later : List (List Block)) (pins : List Pin) (s : Shelf)
+    → record { lists = deposit ∷ later; pins = pins } ≡ s → IsWhole (deposit ∷ later) pins
     → (k : ℕ) → k ≤ current_of s → length (version_of s k) ≡ length deposit
 count_each deposit later pins s is whole =
     let P : Shelf → Type 0 = λ s. (k : ℕ) → k ≤ current_of s → length (version_of s k) ≡ length deposit in
     subst P is (λ k within. whole.same k [] (omega arith))
 
 -- a list with another block in a place
-pub count_set : (lists : List (List Block)) (pins : List Pin) (k : ℕ) (list after : List Block) (b : ℕ) (block : Block) → IsWhole lists pins → k < length lists
+pub count_set : (lists : List (List Block)) (pins : List Pin) (k : ℕ) (list after : List Block) (b : ℕ)
+    (block : Block)
+    → IsWhole lists pins → k < length lists
     → list ≡ slice_index_or lists k [] → after ≡ slice_set list b block → length after ≡ length (deposit_of lists)
-count_set lists pins k list after b block whole within is set = ap length set ∙ length-set list b block ∙ count_at lists pins k list whole within is
+count_set lists pins k list after b block whole within is set =
+    ap length set ∙ length-set list b block ∙ count_at lists pins k list whole within is

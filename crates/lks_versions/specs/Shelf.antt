@@ -29,7 +29,8 @@ replaced s b block = record s { lists = s.lists ++ slice_set (newest_of s) b blo
 
 -- the same, where block b is now one of this pool with these bytes
 abbrev pub IsReplaced : List ℕ → Shelf → Shelf → ℕ → List ℕ → Type 0
-IsReplaced pool before after b bytes = (block : Block) × (block.pool ≡ pool) × (block.bytes ≡ bytes) × (after ≡ replaced before b block)
+IsReplaced pool before after b bytes =
+    (block : Block) × (block.pool ≡ pool) × (block.bytes ≡ bytes) × (after ≡ replaced before b block)
 
 -- the version is the newest, or a session pins it
 abbrev pub IsKept : Shelf → ℕ → Type 0

@@ -16,6 +16,8 @@
 //!     versions.refs(version)
 //! }
 //! ```
+//!
+//! Its trials: `lks_rule_trials`, `versions`.
 #![tactic(auto)]
 
 mod newest;

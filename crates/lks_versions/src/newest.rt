@@ -7,8 +7,8 @@ use lks_base::Contents;
 use lks_blocks::{BlockPool, BlockRef};
 use std::marker::Model;
 
-/// A version of a copy that was the newest when its references were taken, with the pool that has its blocks. Contracts see
-/// the bytes of each block.
+/// A version of a copy that was the newest when its references were taken, with the pool that has its blocks. Contracts
+/// see the bytes of each block.
 #[derive(Drop)]
 pub struct Newest<'a> {
     pool: &'a BlockPool,

@@ -7,8 +7,8 @@ ghost use Rattle.lks_versions.specs.Places as places_of;
 use crate::versions::PinTag;
 use lks_base::AuId;
 
-/// Where the deposit of an AU stands in the pool: the index of its first block, which tells it from the same blocks deposited
-/// anew.
+/// Where the deposit of an AU stands in the pool: the index of its first block, which tells it from the same blocks
+/// deposited anew.
 #[derive(Clone, Copy, Debug, PartialEq, Eq)]
 pub struct Place {
     pub au: AuId,

@@ -1,11 +1,13 @@
 //! The versions of a copy.
 
-ghost use Rattle.std.specs.Prelude.{◌≡◌, ◌≢◌, ℕ, ◌<◌, ◌≤◌, ◌+◌, ◌-◌, ◌^◌, List, [], ◌∷◌, ◌++◌, IsNone, IfOk, IfErr, OnOk, OnErr, length, vec_len, slice_get, slice_index_or, slice_set, Some};
+ghost use Rattle.std.specs.Prelude.{◌≡◌, ◌≢◌, ℕ, ◌<◌, ◌≤◌, ◌+◌, ◌-◌, ◌^◌, List, [], ◌∷◌, ◌++◌, IsNone, IfOk, IfErr};
+ghost use Rattle.std.specs.Prelude.{OnOk, OnErr, length, vec_len, slice_get, slice_index_or, slice_set, Some};
 ghost use Rattle.lks_base.specs.declared.names.PollName.{PollName};
 ghost use Rattle.lks_blocks.specs.Block.{Block, AllOf, bytes_of};
 ghost use Rattle.lks_versions.specs.Each.{EachOf};
 ghost use Rattle.lks_versions.specs.Pins.{pin_of, pins_with, pins_without};
-ghost use Rattle.lks_versions.specs.Shelf.{current_of, newest_of, version_of, first_index, replaced, IsKept, IsReplaced};
+ghost use Rattle.lks_versions.specs.Shelf.{current_of, newest_of, version_of, first_index, replaced, IsKept};
+ghost use Rattle.lks_versions.specs.Shelf.{IsReplaced};
 ghost use Rattle.lks_versions.specs.Whole.{IsCounted};
 
 use crate::newest::Newest;
@@ -131,7 +133,8 @@ impl Versions {
     pub fn pin(&mut self, poll: PollName) -> Result<u32, OutOfMemory>
         requires { IsNone (pin_of poll self.old.pins) }
         ensures number { IfOk result (λ k. k ≡ current_of self.old) }
-        ensures pins { OnOk result (self.new ≡ record self.old { pins = pins_with poll (current_of self.old) self.old.pins }) }
+        ensures pins { OnOk result
+            (self.new ≡ record self.old { pins = pins_with poll (current_of self.old) self.old.pins }) }
         ensures mine { OnOk result (pin_of poll self.new.pins ≡ Some (current_of self.old)) }
         ensures others { (other : PollName) → other ≢ poll → pin_of other self.new.pins ≡ pin_of other self.old.pins }
         ensures err { OnErr result (self.new ≡ self.old) }
@@ -198,7 +201,8 @@ impl Versions {
         ensures number { IfOk result (λ k. k ≡ current_of self.old + 1) }
         ensures lists { OnOk result (IsReplaced pool.now self.old self.new b bytes.now) }
         ensures current { OnOk result (current_of self.new ≡ current_of self.old + 1) }
-        ensures bytes { OnOk result (bytes_of (newest_of self.new) ≡ slice_set (bytes_of (newest_of self.old)) b bytes.now) }
+        ensures bytes { OnOk result
+            (bytes_of (newest_of self.new) ≡ slice_set (bytes_of (newest_of self.old)) b bytes.now) }
         ensures kept { (k : ℕ) → k ≤ current_of self.old → version_of self.new k ≡ version_of self.old k }
         ensures pins { self.new.pins ≡ self.old.pins }
         ensures of { EachOf pool.now self.old.lists → EachOf pool.now self.new.lists }

@@ -12,7 +12,8 @@ any_is [] b = refl
 any_is (c ∷ cs) b = λ i. nat_eq_equiv.symm b c i || any_is cs b i
 
 -- a block that wasn't served goes behind those that were
-pub distinct_more : (bs : List ℕ) (b : ℕ) → IsDistinct nat_eq bs → has_member bs b ≡ false → IsDistinct nat_eq (bs ++ b ∷ [])
+pub distinct_more : (bs : List ℕ) (b : ℕ) → IsDistinct nat_eq bs → has_member bs b ≡ false
+    → IsDistinct nat_eq (bs ++ b ∷ [])
 distinct_more bs b distinct new = IsDistinct-push nat_eq_equiv bs b distinct (any_is bs b ∙ new)
 
 pub none_twice : IsDistinct nat_eq []

@@ -14,8 +14,8 @@ pub record Vote : Type 0 where
 abbrev pub vote_of : Committing → List (List ℕ) → Vote
 vote_of committed hashes = record { committed = committed; hashes = hashes; served = [] }
 
--- Where these blocks were served, and so many may be, a block that was served is served again. Of new ones, as many are as
--- make up the most.
+-- Where these blocks were served, and so many may be, a block that was served is served again. Of new ones, as many are
+-- as make up the most.
 abbrev pub answer_of : List ℕ → ℕ → ℕ → Serve
 answer_of served b most = if has_member served b then Again else (if nat_lt (length served) most then First else Spent)
 

@@ -37,7 +37,8 @@ impl Model for Committed {
 
     ghost Value = { Committing };
 
-    ghost view = { λ a. record { joined = a.joined; commitment = record { nonce = a.nonce; version = a.version; kind = a.kind } } };
+    ghost view = { λ a.
+        record { joined = a.joined; commitment = record { nonce = a.nonce; version = a.version; kind = a.kind } } };
 }
 
 /// The session is over.
@@ -81,7 +82,8 @@ impl Joined {
 
     /// Commits to a version under the nonce and the hash function of the poll.
     pub fn commit(self, kind: HashKind, nonce: [u8; 32], version: u32) -> Committed
-        ensures { result ≡ record { joined = self; commitment = record { nonce = nonce; version = version; kind = kind } } }
+        ensures { result
+            ≡ record { joined = self; commitment = record { nonce = nonce; version = version; kind = kind } } }
     {
         Committed {
             joined: self,

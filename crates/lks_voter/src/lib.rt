@@ -1,5 +1,5 @@
-//! A voter's session in a poll (Maniatis et al., ACM TOCS 23(1), 2005): it joins, commits to a version of its copy under
-//! the poll's nonce, votes, and serves repairs of at most so many blocks to the poller. It may end at any time.
+//! A voter's session in a poll (Maniatis et al., ACM TOCS 23(1), 2005): it joins, commits to a version of its copy
+//! under the poll's nonce, votes, and serves repairs of at most so many blocks to the poller. It may end at any time.
 //!
 //! Each state is a type of its own, and a move to the next one uses it up: so a voter commits and votes once in a poll.
 //!
@@ -18,6 +18,8 @@
 //!     }
 //! }
 //! ```
+//!
+//! Its trials: `lks_rule_trials`, `voter`.
 #![tactic(auto)]
 
 mod commitments;

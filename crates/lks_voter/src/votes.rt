@@ -69,7 +69,8 @@ impl Voted {
         self.served.as_slice()
     }
 
-    /// How the voter takes the poller's request for block `b`, where it may have at most `most` blocks. It changes nothing.
+    /// How the voter takes the poller's request for block `b`, where it may have at most `most` blocks. It changes
+    /// nothing.
     pub fn answer(&self, b: u16, most: u16) -> Serve
         ensures { result ≡ answer_of self.now.served b most }
     {
@@ -82,14 +83,16 @@ impl Voted {
         Serve::Spent
     }
 
-    /// Takes the poller's request for block `b`, where it may have at most `most` blocks. Want of memory, which can come
-    /// at a new block alone, changes nothing.
+    /// Takes the poller's request for block `b`, where it may have at most `most` blocks. Want of memory, which can
+    /// come at a new block alone, changes nothing.
     #[tactic(auto, using(crate::proofs::Served::distinct_more))]
     pub fn serve(&mut self, b: u16, most: u16) -> Result<Serve, OutOfMemory>
         ensures answer { IfOk result (λ r. r ≡ answer_of self.old.served b most) }
-        ensures first { IfOk result (λ r. (r ≡ First) ↔ ((has_member self.old.served b ≡ false) × (length self.old.served < most))) }
+        ensures first { IfOk result
+            (λ r. (r ≡ First) ↔ ((has_member self.old.served b ≡ false) × (length self.old.served < most))) }
         ensures again { IfOk result (λ r. (r ≡ Again) ↔ (has_member self.old.served b ≡ true)) }
-        ensures spent { IfOk result (λ r. (r ≡ Spent) ↔ ((has_member self.old.served b ≡ false) × (most ≤ length self.old.served))) }
+        ensures spent { IfOk result
+            (λ r. (r ≡ Spent) ↔ ((has_member self.old.served b ≡ false) × (most ≤ length self.old.served))) }
         ensures after { IfOk result (λ r. self.new ≡ after self.old b r) }
         ensures err { OnErr result (self.new ≡ self.old) }
         ensures need { OnErr result (answer_of self.old.served b most ≡ First) }

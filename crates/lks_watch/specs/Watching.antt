@@ -1,12 +1,12 @@
 -- What is seen of a judge and bells, and what a history makes of it.
 use Rattle.std.specs.Prelude.{◌≡◌, ℕ, List, [], ◌∷◌, ◌++◌, Result, Ok, Err}
 use Rattle.std.specs.Option.{option_to_list}
-use Rattle.lks_alarm.specs.Bells.{Heard, raised, left_of, seen}
-use Rattle.lks_alarm.specs.declared.alarms.Alarm.{Alarm}
+use Rattle.lks_outside.specs.Bells.{Heard, raised, left_of, seen}
+use Rattle.lks_outside.specs.declared.alarms.Alarm.{Alarm}
 use Rattle.lks_base.specs.declared.events.Event.{Event}
 use Rattle.lks_base.specs.declared.events.PeerStep.{PeerStep}
 use Rattle.lks_base.specs.declared.plans.Plan.{Plan}
-use Rattle.lks_effort.specs.declared.questions.Question.{Question}
+use Rattle.lks_outside.specs.declared.questions.Question.{Question}
 use Rattle.lks_law.specs.Alarms.{alarms}
 use Rattle.lks_law.specs.Questions.{Verdicts, question_on, questions}
 use Rattle.lks_law.specs.World.{World}
@@ -51,12 +51,13 @@ pub record Rings (alarms : List Alarm) (old new : Watching) : Type 0 where
   pub verdict : new.verdict ≡ old.verdict
   pub bells : new.bells ≡ raised_all alarms old.bells
 
--- While a history went on, the judge heard its questions, once each, and the bells rang for its alarms: those of these limits
--- that rang for all alarms before do so now, but for those that have reached their limit.
+-- While a history went on, the judge heard its questions, once each, and the bells rang for its alarms: those of these
+-- limits that rang for all alarms before do so now, but for those that have reached their limit.
 pub record Watches (plan : Plan) (before after : List Event) (old new : Watching) : Type 0 where
   pub heard : old.heard ≡ questions plan before → new.heard ≡ questions plan after
   pub verdict : new.verdict ≡ old.verdict
-  pub bells : (limits : List ℕ) → old.bells ≡ left_of (alarms plan before) limits → new.bells ≡ left_of (alarms plan after) limits
+  pub bells : (limits : List ℕ) → old.bells ≡ left_of (alarms plan before) limits
+      → new.bells ≡ left_of (alarms plan after) limits
 
 -- The same of a judge and a desk.
 

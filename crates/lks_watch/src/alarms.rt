@@ -3,8 +3,8 @@
 ghost use Rattle.std.specs.Prelude.{◌≡◌};
 ghost use Rattle.lks_law.specs.Alarms.{closing_alarm, alarm_noted};
 
-use lks_alarm::{Alarm, AlarmKind};
 use lks_base::{Note, Outcome, PeerId};
+use lks_outside::{Alarm, AlarmKind};
 
 /// The alarm of a poll that ends so.
 fn closing(peer: PeerId, tick: u32, number: u32, outcome: Outcome) -> Option<Alarm>

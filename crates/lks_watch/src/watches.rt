@@ -6,9 +6,8 @@ ghost use Rattle.lks_law.specs.Alarms.{alarm_noted};
 ghost use Rattle.lks_watch.specs.Watching.{ears, seen_by, Rings};
 
 use crate::alarms::alarm;
-use lks_alarm::{AlarmDesk, Bell};
 use lks_base::{Note, PeerId};
-use lks_effort::EffortJudge;
+use lks_outside::{AlarmDesk, Bell, EffortJudge};
 
 /// The judge of a world and the desk where its bells hang.
 #[derive(Drop)]
@@ -38,7 +37,9 @@ impl<J: EffortJudge, B: Bell> Watch<J, B> {
     /// Raises each alarm of which these notes tell, in order.
     pub fn hear(&mut self, peer: PeerId, tick: u32, notes: &[Note])
         ensures judge { self.new.judge ≡ self.old.judge }
-        ensures rings { Rings (filter_map (alarm_noted peer tick) notes.now) (seen_by (ears J.heard J.verdict B.rung B.limit) self.old) (seen_by (ears J.heard J.verdict B.rung B.limit) self.new) }
+        ensures rings { Rings (filter_map (alarm_noted peer tick) notes.now)
+            (seen_by (ears J.heard J.verdict B.rung B.limit) self.old)
+            (seen_by (ears J.heard J.verdict B.rung B.limit) self.new) }
     {
         for note in notes {
             if let Some(alarm) = alarm(peer, tick, note) {

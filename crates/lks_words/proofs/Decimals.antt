@@ -1,11 +1,13 @@
 -- The number that a word writes is the one whose decimal digits the word is.
-use Rattle.std.proofs.Common.{◌≡◌, ◌&&◌, ℕ, ◌+◌, ◌-◌, ◌*◌, ◌^◌, ◌≤◌, ◌<◌, true, false, cond, leb, eqb, List, [], ◌∷◌, length, get_or, Option, Some, None, inl, inr, refl, sym, ap, subst, ◌∙◌, arith, rules}
+use Rattle.std.proofs.Common.{◌≡◌, ◌&&◌, ℕ, ◌+◌, ◌-◌, ◌*◌, ◌^◌, ◌≤◌, ◌<◌, true, false, cond, leb, eqb, List, [], ◌∷◌}
+use Rattle.std.proofs.Common.{length, get_or, Option, Some, None, inl, inr, refl, sym, ap, subst, ◌∙◌, arith, rules}
 use Rattle.std.specs.Char.{is_ascii_digit}
 use Rattle.std.specs.Fmt.{decimal}
 use Rattle.std.specs.Prelude.{IfSome}
 use Rattle.std.specs.Str.{all_ascii_digits}
 use Rattle.std.proofs.lemmas.Bool.{and_parts, leb-true, le-leb, ne_eqb, cases_eq}
-use Rattle.std.proofs.lemmas.Fmt.{decimal_digit, decimal-digits_value, digits_decimal, digits_value-decimal, first_decimal, decimal_is_IsNumeral}
+use Rattle.std.proofs.lemmas.Fmt.{decimal_digit, decimal-digits_value, digits_decimal, digits_value-decimal}
+use Rattle.std.proofs.lemmas.Fmt.{first_decimal, decimal_is_IsNumeral}
 use Rattle.std.proofs.lemmas.Str.Parse.{IsNumeralModel, numerals_by_fold}
 use Rattle.lks_words.specs.Numbers.{with_digit, digits_on, number_in}
 use Rattle.lks_words.proofs.Steps.{bind_some, if_some, unless_some, same_some}
@@ -20,14 +22,16 @@ own = numerals_by_fold _ (search rules) read_on (search rules)
 
 -- ---- what is found is written so
 
-pub digits_found : (most n m : ℕ) (ds : List ℕ) → n ≤ most → digits_on most n ds ≡ Some m → (all_ascii_digits ds ≡ true) × (read_on n ds ≡ m) × (m ≤ most)
+pub digits_found : (most n m : ℕ) (ds : List ℕ) → n ≤ most → digits_on most n ds ≡ Some m
+    → (all_ascii_digits ds ≡ true) × (read_on n ds ≡ m) × (m ≤ most)
 unfolding digits_on with_digit
 digits_found most n m [] le e = (refl, cc, subst (λ (k : ℕ). k ≤ most) (same_some n m e) le)
 digits_found most n m (d ∷ ds) le e =
     let a = bind_some (with_digit most n d) (λ k. digits_on most k ds) m e in
     let b = if_some (is_ascii_digit d && leb (n * 10 + (d - 48)) most) (Some (n * 10 + (d - 48))) a.0 a.1 in
     let c = and_parts (is_ascii_digit d) (leb (n * 10 + (d - 48)) most) b.0 in
-    let more = digits_found most (n * 10 + (d - 48)) m ds (leb-true _ _ c.1) (rw (same_some (n * 10 + (d - 48)) a.0 b.1) a.2) in
+    let more = digits_found most (n * 10 + (d - 48)) m ds (leb-true _ _ c.1)
+    (rw (same_some (n * 10 + (d - 48)) a.0 b.1) a.2) in
     (rw (c.0, more.0) refl, more.1, more.2)
 
 led : (d : ℕ) (o : Option ℕ) (m : ℕ) → d ≡ 48 → cond (eqb d 48) None o ≡ Some m → ⊥
@@ -38,10 +42,15 @@ unfolding number_in
 number_is most m [] lt e = absurd cc
 number_is most m (d ∷ []) lt e =
     let found = digits_found most 0 m (d ∷ []) (omega arith) e in
-    sym (decimal-digits_value own (d ∷ []) found.0 (omega arith) (λ z. refl) (omega (arith, found.1, found.2))) ∙ ap decimal found.1
+    sym (decimal-digits_value own (d ∷ []) found.0 (omega arith) (λ z. refl) (omega (arith, found.1, found.2)))
+    ∙ ap decimal found.1
 number_is most m (d ∷ next ∷ ds) lt e =
-    let found = digits_found most 0 m (d ∷ next ∷ ds) (omega arith) (unless_some (eqb d 48) (digits_on most 0 (d ∷ next ∷ ds)) m e) in
-    sym (decimal-digits_value own (d ∷ next ∷ ds) found.0 (omega arith) (λ z. absurd (led d (digits_on most 0 (d ∷ next ∷ ds)) m z e)) (omega (arith, found.1, found.2))) ∙ ap decimal found.1
+    let found = digits_found most 0 m (d ∷ next ∷ ds) (omega arith)
+    (unless_some (eqb d 48) (digits_on most 0 (d ∷ next ∷ ds)) m e) in
+    sym
+    (decimal-digits_value own (d ∷ next ∷ ds) found.0 (omega arith)
+    (λ z. absurd (led d (digits_on most 0 (d ∷ next ∷ ds)) m z e)) (omega (arith, found.1, found.2)))
+    ∙ ap decimal found.1
 
 -- ---- what is written so is found
 
@@ -49,15 +58,18 @@ grows : (n : ℕ) (ds : List ℕ) → n ≤ read_on n ds
 grows n [] = omega arith
 grows n (d ∷ ds) = let more = grows (n * 10 + (d - 48)) ds in omega arith
 
-digits_again : (most n : ℕ) (ds : List ℕ) → all_ascii_digits ds ≡ true → read_on n ds ≤ most → digits_on most n ds ≡ Some (read_on n ds)
+digits_again : (most n : ℕ) (ds : List ℕ) → all_ascii_digits ds ≡ true → read_on n ds ≤ most
+    → digits_on most n ds ≡ Some (read_on n ds)
 unfolding digits_on with_digit
 digits_again most n [] all le = refl
 digits_again most n (d ∷ ds) all le =
     let parts = and_parts (is_ascii_digit d) (all_ascii_digits ds) all in
-    let fits : leb (n * 10 + (d - 48)) most ≡ true = let more = grows (n * 10 + (d - 48)) ds in le-leb _ _ (omega arith) in
+    let fits : leb (n * 10 + (d - 48)) most ≡ true = let more = grows (n * 10 + (d - 48)) ds in
+    le-leb _ _ (omega arith) in
     rw (parts.0, fits) (digits_again most (n * 10 + (d - 48)) ds parts.1 le)
 
-number_from : (most : ℕ) (ds : List ℕ) → all_ascii_digits ds ≡ true → 0 < length ds → (get_or ds 0 0 ≡ 48 → length ds ≡ 1) → read_on 0 ds ≤ most → number_in most ds ≡ Some (read_on 0 ds)
+number_from : (most : ℕ) (ds : List ℕ) → all_ascii_digits ds ≡ true → 0 < length ds
+    → (get_or ds 0 0 ≡ 48 → length ds ≡ 1) → read_on 0 ds ≤ most → number_in most ds ≡ Some (read_on 0 ds)
 unfolding number_in
 number_from most [] all some lead le = absurd (omega arith)
 number_from most (d ∷ []) all some lead le = digits_again most 0 (d ∷ []) all le
@@ -76,9 +88,13 @@ pub number_again : (most n : ℕ) (ds : List ℕ) → most < 2 ^ 64 → n ≤ mo
 number_again most n ds lt le e =
     let is = digits_value-decimal own n (omega arith) in
     let long = (decimal_is_IsNumeral n (omega arith)).0.0 in
-    ap (number_in most) e ∙ number_from most (decimal n) (digits_decimal own n (omega arith)) long (lead_of n (omega arith)) (omega arith) ∙ ap Some is
+    ap (number_in most) e
+    ∙ number_from most (decimal n) (digits_decimal own n (omega arith)) long (lead_of n (omega arith))
+    (omega arith)
+    ∙ ap Some is
 
-pub found_is : (most : ℕ) (ds : List ℕ) (o : Option ℕ) → most < 2 ^ 64 → o ≡ number_in most ds → IfSome o (λ m. ds ≡ decimal m)
+pub found_is : (most : ℕ) (ds : List ℕ) (o : Option ℕ) → most < 2 ^ 64 → o ≡ number_in most ds
+    → IfSome o (λ m. ds ≡ decimal m)
 found_is most ds (Some m) lt e = number_is most m ds lt (sym e)
 found_is most ds None lt e = tt
 
@@ -87,14 +103,18 @@ pub number_most : (most : ℕ) (ds : List ℕ) (m : ℕ) → number_in most ds �
 unfolding number_in
 number_most most [] m e = absurd cc
 number_most most (d ∷ []) m e = (digits_found most 0 m (d ∷ []) (omega arith) e).2
-number_most most (d ∷ next ∷ ds) m e = (digits_found most 0 m (d ∷ next ∷ ds) (omega arith) (unless_some (eqb d 48) (digits_on most 0 (d ∷ next ∷ ds)) m e)).2
+number_most most (d ∷ next ∷ ds) m e =
+    (digits_found most 0 m (d ∷ next ∷ ds) (omega arith)
+    (unless_some (eqb d 48) (digits_on most 0 (d ∷ next ∷ ds)) m e)).2
 
 -- what was read is written so that it reads as the same
-pub number_kept : (most m : ℕ) (ds : List ℕ) → most < 2 ^ 64 → number_in most ds ≡ Some m → number_in most (decimal m) ≡ Some m
+pub number_kept : (most m : ℕ) (ds : List ℕ) → most < 2 ^ 64 → number_in most ds ≡ Some m
+    → number_in most (decimal m) ≡ Some m
 number_kept most m ds lt e = number_again most m (decimal m) lt (number_most most ds m e) refl
 
 -- a number has one spelling
-pub number_once : (most m : ℕ) (a b : List ℕ) → most < 2 ^ 64 → number_in most a ≡ Some m → number_in most b ≡ Some m → a ≡ b
+pub number_once : (most m : ℕ) (a b : List ℕ) → most < 2 ^ 64 → number_in most a ≡ Some m
+    → number_in most b ≡ Some m → a ≡ b
 number_once most m a b lt p q = number_is most m a lt p ∙ sym (number_is most m b lt q)
 
 -- a decimal has digits alone

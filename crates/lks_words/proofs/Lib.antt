@@ -1,6 +1,7 @@
-pub mod Steps
+pub mod Decimals
 pub mod Digits
 pub mod Each
-pub mod Decimals
-pub mod Splits
 pub mod Kept
+pub mod Operands
+pub mod Splits
+pub mod Steps

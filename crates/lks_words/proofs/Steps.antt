@@ -3,7 +3,8 @@ use Rattle.std.proofs.Common.{◌≡◌, Bool, true, false, cond, Option, Some, 
 use Rattle.std.specs.Option.{option_map}
 use Rattle.lks_words.specs.Numbers.{◌>>=◌}
 
-pub bind_some : {A B : Type 0} (o : Option A) (f : A → Option B) (y : B) → (o >>= f) ≡ Some y → (x : A) × (o ≡ Some x) × (f x ≡ Some y)
+pub bind_some : {A B : Type 0} (o : Option A) (f : A → Option B) (y : B) → (o >>= f) ≡ Some y
+    → (x : A) × (o ≡ Some x) × (f x ≡ Some y)
 bind_some (Some x) f y e = (x, refl, e)
 bind_some None f y e = absurd cc
 
@@ -21,11 +22,13 @@ some x = Some x
 pub same_some : {A : Type 0} (x y : A) → some x ≡ some y → x ≡ y
 same_some x y e = cc
 
-pub map_some : {A B : Type 0} (f : A → B) (o : Option A) (y : B) → option_map f o ≡ Some y → (x : A) × (o ≡ Some x) × (f x ≡ y)
+pub map_some : {A B : Type 0} (f : A → B) (o : Option A) (y : B) → option_map f o ≡ Some y
+    → (x : A) × (o ≡ Some x) × (f x ≡ y)
 map_some f (Some x) y e = (x, refl, cc)
 map_some f None y e = absurd cc
 
 -- the same follows from either part
-pub if_else : {A X : Type 0} (b : Bool) (x y : Option A) (z : A) → (x ≡ Some z → X) → (y ≡ Some z → X) → cond b x y ≡ Some z → X
+pub if_else : {A X : Type 0} (b : Bool) (x y : Option A) (z : A) → (x ≡ Some z → X) → (y ≡ Some z → X)
+    → cond b x y ≡ Some z → X
 if_else true x y z f g e = f e
 if_else false x y z f g e = g e

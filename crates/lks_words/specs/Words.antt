@@ -1,9 +1,11 @@
 -- What single words say: numbers of peers, bytes in hex, blocks.
-use Rattle.std.specs.Prelude.{◌≡◌, ℕ, ◌-◌, ◌==◌, Bool, true, false, nat_le, slice_index, if◌then◌else◌, List, [], ◌∷◌, ◌++◌, length, replicate, codes, Option, Some, None, Result, Ok, Err}
+use Rattle.std.specs.Prelude.{◌≡◌, ℕ, ◌-◌, ◌==◌, Bool, true, false, nat_le, slice_index, if◌then◌else◌, List, [], ◌∷◌}
+use Rattle.std.specs.Prelude.{◌++◌, length, replicate, codes, Option, Some, None, Result, Ok, Err}
 use Rattle.std.specs.List.{slice_split}
 use Rattle.std.specs.Str.{bytes_eq}
 use Rattle.hex.specs.Hex.{decode_of}
-use Rattle.lks_base.specs.declared.limits.TheConstants.{LAST_BLOCK, MOST_BLOCK_BYTES, MOST_FORGED_BYTES, MOST_PROOF_BYTES}
+use Rattle.lks_base.specs.declared.limits.TheConstants.{LAST_BLOCK, MOST_BLOCK_BYTES, MOST_FORGED_BYTES}
+use Rattle.lks_base.specs.declared.limits.TheConstants.{MOST_PROOF_BYTES}
 use Rattle.lks_base.specs.Checking.{is_within}
 use Rattle.lks_base.specs.declared.names.HashKind.{HashKind}
 use Rattle.lks_base.specs.declared.names.HashKind.TheVariants.{Sha256, Sha512_256}
@@ -96,12 +98,17 @@ bytes_in word = if bytes_eq word (codes "-") then Some [] else hex_in MOST_FORGE
 
 -- yes or no
 unfoldable pub answer_in : List ℕ → Option Bool
-answer_in word = if bytes_eq word (codes "yes") then Some true else if bytes_eq word (codes "no") then Some false else None
+answer_in word =
+    if bytes_eq word (codes "yes") then Some true else if bytes_eq word (codes "no") then Some false else None
 
 -- whether a peer of this kind is corrupt
 unfoldable pub kind_in : List ℕ → Option Bool
-kind_in word = if bytes_eq word (codes "honest") then Some false else if bytes_eq word (codes "corrupt") then Some true else None
+kind_in word =
+    if bytes_eq word (codes "honest") then Some false else if bytes_eq word (codes "corrupt") then Some true
+    else None
 
 -- the hash of this name
 unfoldable pub hash_in : List ℕ → Option HashKind
-hash_in word = if bytes_eq word (codes "sha256") then Some Sha256 else if bytes_eq word (codes "sha512-256") then Some Sha512_256 else None
+hash_in word =
+    if bytes_eq word (codes "sha256") then Some Sha256 else if bytes_eq word (codes "sha512-256")
+    then Some Sha512_256 else None

@@ -1,6 +1,11 @@
-//! Words of a script: what each says, how it is printed, and that what is printed reads back.
+//! Words of a script: what each says, how it is printed, and that what is printed reads back. And the words of the
+//! command line.
+//!
+//! Its trials: `lks_format_trials`, `words`.
 #![tactic(auto)]
 
+mod command_line;
+mod commands;
 mod laws;
 mod numbers;
 mod own_steps;
@@ -8,6 +13,7 @@ mod printing;
 mod stops;
 mod words;
 
+pub use commands::{Command, Play, parse};
 pub use laws::{
     every_block_reads_back, every_copy_reads_back, every_forgery_reads_back,
     every_line_parts_again, every_list_reads_back, every_name_reads_back, every_number_reads_back,

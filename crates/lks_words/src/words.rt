@@ -1,7 +1,9 @@
 //! Single words: numbers of peers, bytes in hex, blocks.
 
 ghost use Rattle.std.specs.Prelude.{◌≡◌, ◌≤◌, ◌-◌, ◌++◌, map, length, IfOk};
-ghost use Rattle.lks_words.specs.Words.{Gives, Shows, parts, each_in, id_in, poll_in, hex_in, zeros, seed_in, proof_in, index_in, bytes_in, repeated_in, filled_block_in, block_in, blocks_in, answer_in, kind_in, hash_in};
+ghost use Rattle.lks_words.specs.Words.{Gives, Shows, parts, each_in, id_in, poll_in, hex_in, zeros, seed_in};
+ghost use Rattle.lks_words.specs.Words.{proof_in, index_in, bytes_in, repeated_in, filled_block_in, block_in};
+ghost use Rattle.lks_words.specs.Words.{blocks_in, answer_in, kind_in, hash_in};
 ghost use Rattle.lks_words.specs.Numbers.{number_in};
 
 use crate::numbers::number;

@@ -20,7 +20,9 @@ vote_of job = hashes_of (is_second job.kind) (key_for (ballot_of job) job.peer) 
 
 -- the verdict of the job's votes on what its references name
 abbrev pub verdict_of : TallyJob → Verdict
-verdict_of job = verdict_on job.tally.limits.quorum job.tally.limits.minority job.tally.ballot job.tally.votes (bytes_of job.refs)
+verdict_of job =
+    verdict_on job.tally.limits.quorum job.tally.limits.minority job.tally.ballot job.tally.votes
+    (bytes_of job.refs)
 
 -- the same but for the running hashes that the tally keeps
 pub record IsSameJob (old new : TallyJob) : Type 0 where

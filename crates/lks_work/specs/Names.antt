@@ -27,7 +27,8 @@ step_named (names.Tally peer number) = Tally peer number
 
 -- whether two names are of one job
 unfoldable pub is_job : JobName → JobName → Bool
-is_job (names.Vote peer poll) (names.Vote other named) = (peer == other) && ((poll.poller == named.poller) && (poll.number == named.number))
+is_job (names.Vote peer poll) (names.Vote other named) =
+    (peer == other) && ((poll.poller == named.poller) && (poll.number == named.number))
 is_job (names.Vote peer poll) (names.Tally other number) = false
 is_job (names.Tally peer number) (names.Vote other poll) = false
 is_job (names.Tally peer number) (names.Tally other named) = (peer == other) && (number == named)

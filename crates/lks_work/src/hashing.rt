@@ -104,7 +104,9 @@ fn reach_verdict<'a, L: Ledger>(
     requires few { length tally.old.votes ≤ MOST_CIRCLE }
     requires count { length refs.now ≡ tally.old.ballot.count }
     requires cache { IsCacheOf tally.old (bytes_of refs.now) }
-    ensures verdict { result ≡ verdict_on tally.old.limits.quorum tally.old.limits.minority tally.old.ballot tally.old.votes (bytes_of refs.now) }
+    ensures verdict { result
+        ≡ verdict_on tally.old.limits.quorum tally.old.limits.minority tally.old.ballot tally.old.votes
+        (bytes_of refs.now) }
     ensures same { IsSame tally.new tally.old }
     ensures rooms { KeepsRooms tally.old tally.new }
     ensures kept { tally.new.kept ≡ kept_after result tally.old.kept tally.old.ballot.count }
@@ -116,8 +118,8 @@ fn reach_verdict<'a, L: Ledger>(
     tally.verdict(&Newest::new(pool, refs), steps)
 }
 
-/// Reaches the verdict of a tally's votes: reads each block at most once, for all votes together, takes no memory and no
-/// lock, and makes links for the blocks alone whose hashes the tally doesn't keep.
+/// Reaches the verdict of a tally's votes: reads each block at most once, for all votes together, takes no memory and
+/// no lock, and makes links for the blocks alone whose hashes the tally doesn't keep.
 pub fn hash_tally<L: Ledger>(pool: &BlockPool, job: TallyJob, steps: &mut Steps<L>) -> TallyDone
     requires { AllOf pool.now job.refs }
     ensures job { IsSameJob job result.job }

@@ -1,8 +1,9 @@
 //! Jobs of hashing, as values.
 //!
-//! A vote and a verdict of a poll cost the hashing of a whole copy (Maniatis et al., ACM TOCS 23(1), 2005, section 4). So
-//! they leave their peer as a job: references to the blocks of one version of the copy, and what to hash these under.
-//! Whoever hashes it, on whichever thread, needs the pool alone, and hands back a value whose type says that it is right.
+//! A vote and a verdict of a poll cost the hashing of a whole copy (Maniatis et al., ACM TOCS 23(1), 2005, section 4).
+//! So they leave their peer as a job: references to the blocks of one version of the copy, and what to hash these
+//! under. Whoever hashes it, on whichever thread, needs the pool alone, and hands back a value whose type says that it
+//! is right.
 //!
 //! ```rust
 //! use lks_base::Hashes;
@@ -20,6 +21,8 @@
 //!     }
 //! }
 //! ```
+//!
+//! Its trials: `lks_rule_trials`, `work`.
 #![tactic(auto)]
 
 mod gates;

@@ -28,4 +28,5 @@ module _ {D : Type 0} (f : Face D) where
 
   pub fresh_unfused : (disks : List D) → AreFresh f disks → AreUnfused f disks
   fresh_unfused [] fresh = refl
-  fresh_unfused (d ∷ ds) fresh = one_more d ds (fresh 0 d refl).unfused (fresh_unfused ds (λ i e at. fresh (suc i) e at))
+  fresh_unfused (d ∷ ds) fresh =
+      one_more d ds (fresh 0 d refl).unfused (fresh_unfused ds (λ i e at. fresh (suc i) e at))

@@ -1,6 +1,6 @@
 mod Acting
 mod BeginLaws
-mod SameSeats
+mod SameSites
 pub mod BegunUpTo
 pub mod CountLaws
 mod CutActs
@@ -23,9 +23,9 @@ mod Places
 mod PowerEnds
 pub mod PowerLaws
 mod ReadyLaws
-mod SeatEnds
+mod SiteEnds
 mod Remembering
-mod SeatLaws
+mod SiteLaws
 mod Sends
 pub mod ServingLaws
 mod StateLaws

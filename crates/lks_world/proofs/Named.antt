@@ -24,7 +24,8 @@ use Rattle.lks_work.specs.declared.results.JobDone.TheVariants as results
 use Rattle.lks_world.specs.Beside.{IsFor, IsForDue}
 
 -- the input of the step that was worked for
-named : (pool : List ℕ) (bag : List Envelope) (d : JobDone) → AllOf pool (refs_done d) → IfSome (deed_of bag (step_named (name_done d))) (λ x. IsResultOf pool x.input d)
+named : (pool : List ℕ) (bag : List Envelope) (d : JobDone) → AllOf pool (refs_done d)
+    → IfSome (deed_of bag (step_named (name_done d))) (λ x. IsResultOf pool x.input d)
 unfolding deed_of own_deed_of
 named pool bag (results.Vote done) of = record { of = of; work = refl }
 named pool bag (results.Tally done) of = record { of = of; work = refl }
@@ -34,19 +35,26 @@ nothing_done pool None = tt
 nothing_done pool (Some x) = tt
 
 -- a result for a step is one of what the step is to its peer
-pub result_of_step : (pool : List ℕ) (bag : List Envelope) (s : PeerStep) (o : Option JobDone) (deed : Option Deed) → deed ≡ deed_of bag s → IfSome o (IsFor pool s) → IfSome deed (λ x. IfSome o (IsResultOf pool x.input))
+pub result_of_step : (pool : List ℕ) (bag : List Envelope) (s : PeerStep) (o : Option JobDone) (deed : Option Deed)
+    → deed ≡ deed_of bag s → IfSome o (IsFor pool s) → IfSome deed (λ x. IfSome o (IsResultOf pool x.input))
 result_of_step pool bag s None deed is for = nothing_done pool deed
-result_of_step pool bag s (Some d) deed is for = subst (λ (x : Option Deed). IfSome x (λ y. IsResultOf pool y.input d)) (sym (is ∙ ap (deed_of bag) for.step)) (named pool bag d for.of)
+result_of_step pool bag s (Some d) deed is for =
+    subst (λ (x : Option Deed). IfSome x (λ y. IsResultOf pool y.input d)) (sym (is ∙ ap (deed_of bag) for.step))
+    (named pool bag d for.of)
 
 -- a result of what is due is one for its step
-pub result_of_due : (pool : List ℕ) (due : Due) (s : PeerStep) (o : Option JobDone) → ((p : PeerStep) → due ≡ dues.Own p → s ≡ p) → IfSome o (IsForDue pool due) → IfSome o (IsFor pool s)
+pub result_of_due : (pool : List ℕ) (due : Due) (s : PeerStep) (o : Option JobDone)
+    → ((p : PeerStep) → due ≡ dues.Own p → s ≡ p) → IfSome o (IsForDue pool due) → IfSome o (IsFor pool s)
 result_of_due pool due s None own for = tt
 result_of_due pool due s (Some d) own for = record { of = for.of; step = own (step_named (name_done d)) for.work }
 
 -- and one that is named as it is
-pub result_named : (pool : List ℕ) (due : Due) (name : JobName) (o : Option JobDone) → due ≡ dues.Own (step_named name) → IfSome o (λ d. name_done d ≡ name) → IfSome o (λ d. AllOf pool (refs_done d)) → IfSome o (IsForDue pool due)
+pub result_named : (pool : List ℕ) (due : Due) (name : JobName) (o : Option JobDone)
+    → due ≡ dues.Own (step_named name) → IfSome o (λ d. name_done d ≡ name)
+    → IfSome o (λ d. AllOf pool (refs_done d)) → IfSome o (IsForDue pool due)
 result_named pool due name None is named of = tt
-result_named pool due name (Some d) is named of = record { of = of; work = is ∙ ap (λ n. dues.Own (step_named n)) (sym named) }
+result_named pool due name (Some d) is named of =
+    record { of = of; work = is ∙ ap (λ n. dues.Own (step_named n)) (sym named) }
 
 -- A host that told a place is as it was.
 module _ {D : Type 0} (f : Face D) (old mid new : Host D) where
@@ -65,14 +73,27 @@ module _ {D : Type 0} (f : Face D) (old mid new : Host D) where
   })
 
   pub told_stepped : (tick : ℕ) (input : Input) (result : Result Reaction HostFault) → mid ≡ told_host
-      → Stepped f mid new (react_on mid.peer.own mid.peer.state tick input) result → Stepped f old new (react_on old.peer.own old.peer.state tick input) result
+      → Stepped f mid new (react_on mid.peer.own mid.peer.state tick input) result
+      → Stepped f old new (react_on old.peer.own old.peer.state tick input) result
   told_stepped tick input result same stepped =
       let s = subst (λ h. Stepped f h new (react_on h.peer.own h.peer.state tick input) result) same stepped in
-      record { reaction = s.reaction; state = s.state; own = s.own; pool = s.pool; broken = s.broken; end = s.end; calls = s.calls; behaves = s.behaves }
+      record {
+        reaction = s.reaction;
+        state = s.state;
+        own = s.own;
+        pool = s.pool;
+        broken = s.broken;
+        end = s.end;
+        calls = s.calls;
+        behaves = s.behaves;
+      }
 
   -- what holds of it holds of it as it was
-  pub told_stands : (P : Host D → List (List Record) → Type 0) → mid ≡ told_host → ((batches : List (List Record)) → P told_host batches → P old batches)
+  pub told_stands : (P : Host D → List (List Record) → Type 0) → mid ≡ told_host
+      → ((batches : List (List Record)) → P told_host batches → P old batches)
       → (f.told mid.journal.disk → (batches : List (List Record)) → StandsFor f mid batches → P mid batches)
       → f.told old.journal.disk → (batches : List (List Record)) → StandsFor f old batches → P old batches
   told_stands P same back holds told batches stands =
-      back batches (subst (λ h. f.told h.journal.disk → (bs : List (List Record)) → StandsFor f h bs → P h bs) same holds told batches (stands_told batches stands))
+      back batches
+      (subst (λ h. f.told h.journal.disk → (bs : List (List Record)) → StandsFor f h bs → P h bs) same holds
+      told batches (stands_told batches stands))

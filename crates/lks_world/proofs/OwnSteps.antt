@@ -13,7 +13,8 @@ use Rattle.lks_base.specs.declared.plans.Plan.{Plan}
 use Rattle.lks_law.specs.Histories.{MayStep}
 use Rattle.lks_law.specs.Questions.{Verdicts}
 use Rattle.lks_law.specs.World.{World}
-use Rattle.lks_script.specs.StepRules.{is_session, is_tuning, is_own_step, is_said, is_forgery, is_cut_step, is_cut, is_step_of}
+use Rattle.lks_script.specs.StepRules.{is_session, is_tuning, is_own_step, is_said, is_forgery, is_cut_step, is_cut}
+use Rattle.lks_script.specs.StepRules.{is_step_of}
 use Rattle.lks_script.specs.declared.steps.CutStep.{CutStep}
 use Rattle.lks_script.specs.declared.steps.Step.{Step}
 use Rattle.lks_script.specs.declared.steps.TheConstants.{MOST_CUT_CALLS}
@@ -22,15 +23,18 @@ use Rattle.lks_saying.proofs.Ends.{said_ends}
 use Rattle.lks_saying.specs.Sayings.{said_by, IsSaying}
 use Rattle.lks_world.specs.Follows.{spoken, Performs}
 
-session_may : (plan : Plan) (voter : ℕ) (poll : PollName) → is_session plan voter poll ≡ true → has_honest plan.peers voter ≡ true
+session_may : (plan : Plan) (voter : ℕ) (poll : PollName) → is_session plan voter poll ≡ true
+    → has_honest plan.peers voter ≡ true
 unfolding is_session
 session_may plan voter poll legal = (and_parts (has_honest plan.peers voter) (has_peer plan.peers poll.poller) legal).0
 
-tuning_may : (plan : Plan) (peer quorum minority repairs : ℕ) → is_tuning plan peer quorum minority repairs ≡ true → has_honest plan.peers peer ≡ true
+tuning_may : (plan : Plan) (peer quorum minority repairs : ℕ) → is_tuning plan peer quorum minority repairs ≡ true
+    → has_honest plan.peers peer ≡ true
 unfolding is_tuning
 tuning_may plan peer quorum minority repairs legal =
     let honest = has_honest plan.peers peer in
-    let all = and_parts (honest && is_within 1 plan.rules.inner quorum && obeys_quorum_rule quorum minority) (nat_le repairs MOST_REPAIRS) legal in
+    let all = and_parts (honest && is_within 1 plan.rules.inner quorum && obeys_quorum_rule quorum minority)
+    (nat_le repairs MOST_REPAIRS) legal in
     let first = and_parts (honest && is_within 1 plan.rules.inner quorum) (obeys_quorum_rule quorum minority) all.0 in
     (and_parts honest (is_within 1 plan.rules.inner quorum) first.0).0
 
@@ -49,37 +53,45 @@ own_may plan w (peers.Tune peer quorum minority repairs) legal = tuning_may plan
 own_may plan w s legal = absurd cc
 
 -- a step of a peer's own may be taken
-pub step_may : (plan : Plan) (w : World) (given : Step) (s : PeerStep) → given ≡ step.Peer s → is_step_of plan given ≡ true → MayStep plan w s
+pub step_may : (plan : Plan) (w : World) (given : Step) (s : PeerStep) → given ≡ step.Peer s
+    → is_step_of plan given ≡ true → MayStep plan w s
 unfolding is_step_of
 step_may plan w given s is legal = own_may plan w s (ap (is_step_of plan) (sym is) ∙ legal)
 
 -- the peer of a crash is honest
-pub crash_may : (plan : Plan) (given : Step) (peer : ℕ) → given ≡ step.Crash peer → is_step_of plan given ≡ true → has_honest plan.peers peer ≡ true
+pub crash_may : (plan : Plan) (given : Step) (peer : ℕ) → given ≡ step.Crash peer → is_step_of plan given ≡ true
+    → has_honest plan.peers peer ≡ true
 unfolding is_step_of
 crash_may plan given peer is legal = ap (is_step_of plan) (sym is) ∙ legal
 
 -- what a line cuts off is such a step
-pub cut_legal : (plan : Plan) (given : Step) (calls choice : ℕ) (s : CutStep) → given ≡ step.Cut calls choice s → is_step_of plan given ≡ true → is_cut_step plan s ≡ true
+pub cut_legal : (plan : Plan) (given : Step) (calls choice : ℕ) (s : CutStep) → given ≡ step.Cut calls choice s
+    → is_step_of plan given ≡ true → is_cut_step plan s ≡ true
 unfolding is_step_of is_cut
-cut_legal plan given calls choice s is legal = (and_parts (leb calls MOST_CUT_CALLS) (is_cut_step plan s) (ap (is_step_of plan) (sym is) ∙ legal)).1
+cut_legal plan given calls choice s is legal =
+    (and_parts (leb calls MOST_CUT_CALLS) (is_cut_step plan s) (ap (is_step_of plan) (sym is) ∙ legal)).1
 
 -- the clock moves on by some ticks, and by no more
-pub ticks_within : (plan : Plan) (given : Step) (by : ℕ) → given ≡ step.Tick by → is_step_of plan given ≡ true → (1 ≤ by) × (by ≤ MOST_TICKS)
+pub ticks_within : (plan : Plan) (given : Step) (by : ℕ) → given ≡ step.Tick by → is_step_of plan given ≡ true
+    → (1 ≤ by) × (by ≤ MOST_TICKS)
 unfolding is_step_of
 ticks_within plan given by is legal =
     let parts = and_parts (leb 1 by) (leb by MOST_TICKS) (ap (is_step_of plan) (sym is) ∙ legal) in
     (leb-true 1 by parts.0, leb-true by MOST_TICKS parts.1)
 
 -- what is forged comes from a corrupt peer, goes to a peer of the plan, and isn't long
-pub forgery_may : (plan : Plan) (given : Step) (from to : ℕ) (bytes : List ℕ) → given ≡ step.Forge from to bytes → is_step_of plan given ≡ true
+pub forgery_may : (plan : Plan) (given : Step) (from to : ℕ) (bytes : List ℕ) → given ≡ step.Forge from to bytes
+    → is_step_of plan given ≡ true
     → (has_corrupt plan.peers from ≡ true) × (has_peer plan.peers to ≡ true) × (length bytes ≤ MOST_FORGED_BYTES)
 unfolding is_step_of is_forgery
 forgery_may plan given from to bytes is legal =
-    let all = and_parts (is_said plan from to) (nat_le (length bytes) MOST_FORGED_BYTES) (ap (is_step_of plan) (sym is) ∙ legal) in
+    let all = and_parts (is_said plan from to) (nat_le (length bytes) MOST_FORGED_BYTES)
+    (ap (is_step_of plan) (sym is) ∙ legal) in
     let ends = said_ends plan from to all.0 in
     (ends.0, ends.1, leb-true (length bytes) MOST_FORGED_BYTES all.1)
 
-pub says : (verdict : Verdicts) (plan : Plan) (history after : List Event) (s : Step) → IsSaying s → after ≡ spoken history (said_by plan s) → Performs verdict plan history s after
+pub says : (verdict : Verdicts) (plan : Plan) (history after : List Event) (s : Step) → IsSaying s
+    → after ≡ spoken history (said_by plan s) → Performs verdict plan history s after
 says verdict plan history after (step.SayPoll from to number au) saying is = is
 says verdict plan history after (step.SayProof from to number) saying is = is
 says verdict plan history after (step.SayRequest from to number block) saying is = is

@@ -1,5 +1,6 @@
 -- What an event makes a peer add and send at most, and so what a history leaves in a journal and in the bag.
-use Rattle.std.proofs.Common.{◌≡◌, ◌≤◌, ◌<◌, ◌+◌, ◌*◌, ◌==◌, ap, subst, ℕ, zero, suc, Bool, true, false, cond, eqb, not, List, [], ◌∷◌, ◌++◌, length, filter, refl, arith}
+use Rattle.std.proofs.Common.{◌≡◌, ◌≤◌, ◌<◌, ◌+◌, ◌*◌, ◌==◌, ap, subst, ℕ, zero, suc, Bool, true, false, cond, eqb}
+use Rattle.std.proofs.Common.{not, List, [], ◌∷◌, ◌++◌, length, filter, refl, arith}
 use Rattle.std.specs.Prelude.{Option, Some, None, is_some, unwrap_or, map, slice_get, ◌&&◌, nat_le}
 use Rattle.std.specs.List.{filter_map, cons_option}
 use Rattle.std.proofs.lemmas.Bool.{leb-true}
@@ -29,15 +30,26 @@ use Rattle.lks_base.specs.declared.records.Record.{Record}
 use Rattle.lks_base.specs.declared.records.Record.TheVariants as records
 use Rattle.lks_law.specs.Fitting.{has_room, most_numbered}
 use Rattle.lks_law.specs.Histories.{IsHistory}
-use Rattle.lks_law.specs.Journal.{Opening, Request, contents_at, is_voting, is_widened, opening_in, opening_of, openings, outer_in, outer_of, has_voted, unanswered, vote_in}
+use Rattle.lks_law.specs.Journal.{Opening, Request, contents_at, is_voting, is_widened, opening_in, opening_of}
+use Rattle.lks_law.specs.Journal.{openings, outer_in, outer_of, has_voted, unanswered_request, vote_in}
 use Rattle.lks_law.specs.Polls.{Station, restores, verdict_in, votes}
-use Rattle.lks_law.specs.Reaction.{nothing, letter, for_opening, may_open, opened, on_open, widened, on_widen, silent, reminded, asked_again, on_nudge, given_up, on_give_up, receipts, is_inquorate, shut_inquorate, shut, on_shut, may_tally, closed, tallied, on_tally, must_note, overdue_in, on_check, may_prove, proved, on_challenge, may_nominate, nominated, on_nominate, is_accepted, may_vote, counted, on_vote, may_repair, repaired, on_repair}
+use Rattle.lks_law.specs.Reaction.{no_effect, letter, for_opening, may_open, opens_poll, on_open, invites_outer}
+use Rattle.lks_law.specs.Reaction.{on_widen, silent_voters, reminds_silent, asked_again, on_nudge, given_up}
+use Rattle.lks_law.specs.Reaction.{on_give_up, receipts, is_inquorate, shut_inquorate, ends_voting, on_shut}
+use Rattle.lks_law.specs.Reaction.{may_tally, closes_poll, follows_verdict, on_tally, must_note, overdue_in, on_check}
+use Rattle.lks_law.specs.Reaction.{may_prove, sends_proof, on_challenge, may_nominate, notes_nominees, on_nominate}
+use Rattle.lks_law.specs.Reaction.{is_accepted, may_vote, counts_vote, on_vote, may_repair, takes_repair, on_repair}
 use Rattle.lks_law.specs.References.{inner_circle, outer_circle, reference_list}
-use Rattle.lks_law.specs.Sessions.{Join, Commitment, join_of, commitment_of, hashes_of_vote, is_session, served, version_now}
+use Rattle.lks_law.specs.Sessions.{Join, Commitment, join_of, commitment_of, hashes_of_vote, is_session}
+use Rattle.lks_law.specs.Sessions.{served_blocks, version_now}
 use Rattle.lks_law.specs.State.{state_of}
 use Rattle.lks_law.specs.Table.{reaction, on_message}
-use Rattle.lks_law.specs.Voting.{named, answers, challenge, may_join, joined, on_invitation, nominates, repeats, vote_again, commits, proved_to, on_proof, worked, on_work, most_served, gives, serves, requested, on_request, on_end, may_tune, on_tune}
-use Rattle.lks_law.specs.World.{Standing, World, Deed, is_honest, standing_of, deposit_for, deposits, start, deed_of, peer_at, reaction_at, effect_of, with_records, sent_by, actor_of, sent, peers_after, after_step, happens, happen_all, world}
+use Rattle.lks_law.specs.Voting.{poll_named, answers, challenge, may_join, joins_poll, on_invitation, nominates}
+use Rattle.lks_law.specs.Voting.{repeats, vote_again, commits, proved_to, on_proof, casts_vote, on_work, most_served}
+use Rattle.lks_law.specs.Voting.{gives, serves, answers_request, on_request, on_end, may_tune, on_tune}
+use Rattle.lks_law.specs.World.{Standing, World, Deed, is_honest, standing_of, deposit_for, deposits, start, deed_of}
+use Rattle.lks_law.specs.World.{peer_at, reaction_at, effect_of, with_records, sent_by, actor_of, letters_sent}
+use Rattle.lks_law.specs.World.{peers_after, after_step, happens, happen_all, world}
 use Rattle.lks_law.proofs.Growing.{each_append, each_map as each_weaker}
 use Rattle.lks_law.proofs.Linked.{Each}
 use Rattle.lks_law.proofs.Lists.{each_at, each_filter}
@@ -53,7 +65,8 @@ few_mapped : {X Y : Type 0} (f : X → Option Y) (xs : List X) → length (filte
 few_mapped f [] = omega arith
 few_mapped {Y = Y} f (x ∷ xs) = here (f x) (few_mapped f xs)
   where
-    here : (o : Option Y) → length (filter_map f xs) ≤ length xs → length (cons_option o (filter_map f xs)) ≤ suc (length xs)
+    here : (o : Option Y) → length (filter_map f xs) ≤ length xs
+        → length (cons_option o (filter_map f xs)) ≤ suc (length xs)
     here None low = omega (arith, low)
     here (Some y) low = omega (arith, low)
 
@@ -103,7 +116,8 @@ opening_few n (r ∷ js) all o e = by_record r all.0 e (opening_few n js all.1 o
     by_record (records.PollOpened number au nonce inner tick limits kind) few e rest = by_number (eqb number n) _ few e
       where
         by_number : (b : Bool) (this : Opening) → length this.inner ≤ 16
-            → cond (is_some (cond b (Some this) None)) (cond b (Some this) None) (opening_of n js) ≡ Some o → length o.inner ≤ 16
+            → cond (is_some (cond b (Some this) None)) (cond b (Some this) None) (opening_of n js) ≡ Some o
+            → length o.inner ≤ 16
         by_number true this few e = let same : this ≡ o = cc in subst (λ (x : Opening). length x.inner ≤ 16) same few
         by_number false this few e = rest e
     by_record r few e rest = rest e
@@ -118,21 +132,24 @@ outer_few n (r ∷ js) all = by_record r all.0 (outer_few n js all.1)
     by_record (records.OuterOpened number outer) few rest = by_number (eqb number n)
       where
         by_number : (b : Bool)
-            → length (cond (is_some (cond b (Some outer) None)) (unwrap_or (cond b (Some outer) None) []) (outer_of n js)) ≤ 16
+            → length
+            (cond (is_some (cond b (Some outer) None)) (unwrap_or (cond b (Some outer) None) [])
+            (outer_of n js))
+            ≤ 16
         by_number true = few
         by_number false = rest
     by_record r few rest = rest
 
 module _ (n : ℕ) (most : 32 ≤ n) where
-  none_small : IsSmall n nothing
+  none_small : IsSmall n no_effect
   none_small = record { records = omega arith; sends = omega arith; circles = tt }
 
   either_small : (b : Bool) (r s : Reaction) → IsSmall n r → IsSmall n s → IsSmall n (cond b r s)
   either_small true r s one other = one
   either_small false r s one other = other
 
-  if_small : (b : Bool) (r : Reaction) → IsSmall n r → IsSmall n (cond b r nothing)
-  if_small b r one = either_small b r nothing one none_small
+  if_small : (b : Bool) (r : Reaction) → IsSmall n r → IsSmall n (cond b r no_effect)
+  if_small b r one = either_small b r no_effect one none_small
 
   at_opening : (o : Option Opening) (f : Opening → Reaction)
       → ((x : Opening) → o ≡ Some x → IsSmall n (f x)) → IsSmall n (for_opening o f)
@@ -164,20 +181,20 @@ module _ (n : ℕ) (most : 32 ≤ n) where
         let k = openings js + 1 in
         let count = length-map (inner_circle own k js) (letter (message.Poll k au)) in
         let low = few_inner own k js in
-        if_small (may_open own js tick au) (opened own js tick au k)
+        if_small (may_open own js tick au) (opens_poll own js tick au k)
         (adds_small _ _ (omega (arith, low, is.inner)) (omega (arith, count, low, is.inner, most)))
 
     widen_small : (k : ℕ) → IsSmall n (on_widen own js k)
     unfolding on_widen
     widen_small k =
-        if_small (is_voting k js && not (is_widened k js)) (for_opening (opening_of k js) (widened own js k))
-        (at_opening (opening_of k js) (widened own js k) (λ o at.
+        if_small (is_voting k js && not (is_widened k js)) (for_opening (opening_of k js) (invites_outer own js k))
+        (at_opening (opening_of k js) (invites_outer own js k) (λ o at.
         let count = length-map (outer_circle own k o js) (letter (message.Poll k o.au)) in
         let low = (outer_sample own k o js).0.few in
         adds_small _ _ (omega (arith, low, is.outer)) (omega (arith, count, low, is.outer, most))))
 
-    silent_few : (k : ℕ) (o : Opening) → opening_of k js ≡ Some o → length (silent k o js) ≤ 32
-    unfolding silent
+    silent_few : (k : ℕ) (o : Opening) → opening_of k js ≡ Some o → length (silent_voters k o js) ≤ 32
+    unfolding silent_voters
     silent_few k o at =
         let low = few_filtered (λ v. not (has_voted k v js)) (o.inner ++ outer_of k js) in
         let inner = opening_few k js is.circles o at in
@@ -187,10 +204,11 @@ module _ (n : ℕ) (most : 32 ≤ n) where
     nudge_small : (k : ℕ) → IsSmall n (on_nudge js k)
     unfolding on_nudge
     nudge_small k =
-        either_small (is_voting k js) (for_opening (opening_of k js) (reminded js k)) (asked_again k (unanswered k js))
-        (at_opening (opening_of k js) (reminded js k) (λ o at.
-        let count = length-map (silent k o js) (letter (message.Poll k o.au)) in
-        sends_small _ (omega (arith, count, silent_few k o at)))) (by_request (unanswered k js))
+        either_small (is_voting k js) (for_opening (opening_of k js) (reminds_silent js k))
+        (asked_again k (unanswered_request k js))
+        (at_opening (opening_of k js) (reminds_silent js k) (λ o at.
+        let count = length-map (silent_voters k o js) (letter (message.Poll k o.au)) in
+        sends_small _ (omega (arith, count, silent_few k o at)))) (by_request (unanswered_request k js))
       where
         by_request : (r : Option Request) → IsSmall n (asked_again k r)
         by_request None = none_small
@@ -198,7 +216,7 @@ module _ (n : ℕ) (most : 32 ≤ n) where
 
     give_up_small : (k : ℕ) → IsSmall n (on_give_up js k)
     unfolding on_give_up
-    give_up_small k = by_request (unanswered k js)
+    give_up_small k = by_request (unanswered_request k js)
       where
         by_request : (r : Option Request) → IsSmall n (given_up k r)
         by_request None = none_small
@@ -213,14 +231,14 @@ module _ (n : ℕ) (most : 32 ≤ n) where
     shut_small : (tick k : ℕ) → IsSmall n (on_shut own js tick k)
     unfolding on_shut
     shut_small tick k =
-        if_small (is_voting k js) (for_opening (opening_of k js) (shut own js tick k))
-        (at_opening (opening_of k js) (shut own js tick k) (λ o at.
+        if_small (is_voting k js) (for_opening (opening_of k js) (ends_voting own js tick k))
+        (at_opening (opening_of k js) (ends_voting own js tick k) (λ o at.
         either_small (is_inquorate own k o js) (shut_inquorate js tick k) _
         (record { records = omega arith; sends = receipts_few k; circles = (tt, (tt, tt)) })
         (adds_small (records.Shut k) [] tt (omega arith))))
 
-    tallied_small : (tick k : ℕ) (o : Opening) → IsSmall n (tallied own js tick k o (verdict_in own k o js))
-    unfolding closed
+    tallied_small : (tick k : ℕ) (o : Opening) → IsSmall n (follows_verdict own js tick k o (verdict_in own k o js))
+    unfolding closes_poll
     tallied_small tick k o = record {
       records = grind arith;
       sends = grind (arith, receipts_few k, most);
@@ -230,8 +248,9 @@ module _ (n : ℕ) (most : 32 ≤ n) where
     tally_small : (tick k : ℕ) → IsSmall n (on_tally own js tick k)
     unfolding on_tally
     tally_small tick k =
-        if_small (may_tally k js) (for_opening (opening_of k js) (λ o. tallied own js tick k o (verdict_in own k o js)))
-        (at_opening (opening_of k js) (λ o. tallied own js tick k o (verdict_in own k o js))
+        if_small (may_tally k js)
+        (for_opening (opening_of k js) (λ o. follows_verdict own js tick k o (verdict_in own k o js)))
+        (at_opening (opening_of k js) (λ o. follows_verdict own js tick k o (verdict_in own k o js))
         (λ o at. tallied_small tick k o))
 
     noted_few : (tick : ℕ) (aus : List AuPlan) → Each HasFew (filter_map (overdue_in own js tick) aus)
@@ -255,31 +274,31 @@ module _ (n : ℕ) (most : 32 ≤ n) where
     challenge_small : (from k : ℕ) (agrees : Bool) → IsSmall n (on_challenge own js from k agrees)
     unfolding on_challenge
     challenge_small from k agrees =
-        if_small (agrees && is_voting k js) (for_opening (opening_of k js) (proved own js from k))
-        (at_opening (opening_of k js) (proved own js from k) (λ o at.
+        if_small (agrees && is_voting k js) (for_opening (opening_of k js) (sends_proof own js from k))
+        (at_opening (opening_of k js) (sends_proof own js from k) (λ o at.
         if_small (may_prove js from k o) _ (sends_small _ (omega arith))))
 
     nominate_small : (from k : ℕ) (nominees : List ℕ) → IsSmall n (on_nominate js from k nominees)
     unfolding on_nominate
     nominate_small from k nominees =
         if_small (is_voting k js && not (is_widened k js))
-        (for_opening (opening_of k js) (nominated js from k nominees))
-        (at_opening (opening_of k js) (nominated js from k nominees) (λ o at.
+        (for_opening (opening_of k js) (notes_nominees js from k nominees))
+        (at_opening (opening_of k js) (notes_nominees js from k nominees) (λ o at.
         if_small (may_nominate js from k o) _ (adds_small (records.Nominated k from nominees) [] tt (omega arith))))
 
     vote_small : (from k : ℕ) (hashes : List (List ℕ)) (judged : Judged) → IsSmall n (on_vote js from k hashes judged)
     unfolding on_vote
     vote_small from k hashes judged =
-        if_small (is_accepted judged && is_voting k js) (for_opening (opening_of k js) (counted js from k hashes))
-        (at_opening (opening_of k js) (counted js from k hashes) (λ o at.
+        if_small (is_accepted judged && is_voting k js) (for_opening (opening_of k js) (counts_vote js from k hashes))
+        (at_opening (opening_of k js) (counts_vote js from k hashes) (λ o at.
         if_small (may_vote js from k (length hashes) o) _
         (adds_small (records.VoteIn k from hashes) [] tt (omega arith))))
 
     repair_small : (from k b : ℕ) (bytes : List ℕ) → IsSmall n (on_repair own js from k b bytes)
     unfolding on_repair
     repair_small from k b bytes =
-        if_small (may_repair js from k b) (for_opening (opening_of k js) (repaired own js from k b bytes))
-        (at_opening (opening_of k js) (repaired own js from k b bytes) (λ o at.
+        if_small (may_repair js from k b) (for_opening (opening_of k js) (takes_repair own js from k b bytes))
+        (at_opening (opening_of k js) (takes_repair own js from k b bytes) (λ o at.
         either_small (restores own k o b bytes js) _ _
         (adds_small (records.Replaced k o.au b bytes) [] tt (omega arith))
         (adds_small (records.RepairBad k b from) [] tt (omega arith))))
@@ -290,7 +309,8 @@ module _ (n : ℕ) (most : 32 ≤ n) where
     unfolding on_invitation
     invitation_small tick q au =
         either_small (is_session q js) (answers (challenge q true)) _ (answers_small _)
-        (either_small (may_join own js tick q au) (joined own js tick q au) _ (adds_small _ _ tt (omega (arith, most)))
+        (either_small (may_join own js tick q au) (joins_poll own js tick q au) _
+        (adds_small _ _ tt (omega (arith, most)))
         (answers_small (challenge q false)))
 
     again_small : (q : PollName) (hashes : Option (List (List ℕ))) → length (vote_again own q hashes) ≤ 1
@@ -323,7 +343,7 @@ module _ (n : ℕ) (most : 32 ≤ n) where
         if_small (is_session q js) _ (by_session (join_of q js) (commitment_of q js) (hashes_of_vote q js))
       where
         by_session : (j : Option Join) (c : Option Commitment) (h : Option (List (List ℕ)))
-            → IsSmall n (worked own js q j c h)
+            → IsSmall n (casts_vote own js q j c h)
         by_session None c h = none_small
         by_session (Some j) None h = none_small
         by_session (Some j) (Some c) None = adds_small _ _ tt (omega (arith, most))
@@ -345,12 +365,12 @@ module _ (n : ℕ) (most : 32 ≤ n) where
         if_small (is_session q js) _ (by_session (join_of q js) (commitment_of q js) (hashes_of_vote q js))
       where
         by_session : (j : Option Join) (c : Option Commitment) (h : Option (List (List ℕ)))
-            → IsSmall n (requested own js q b j c h)
+            → IsSmall n (answers_request own js q b j c h)
         by_session None c h = none_small
         by_session (Some j) None h = none_small
         by_session (Some j) (Some c) None = none_small
         by_session (Some j) (Some c) (Some h) =
-            serves_small q b (most_served own.rules j.repairs) (served q js)
+            serves_small q b (most_served own.rules j.repairs) (served_blocks q js)
             (slice_get (contents_at j.au c.version js) b)
 
     end_small : (q : PollName) → IsSmall n (on_end js q)
@@ -364,14 +384,15 @@ module _ (n : ℕ) (most : 32 ≤ n) where
         (adds_small (records.Tuned quorum minority repairs) [] tt (omega arith))
 
     message_small : (tick from : ℕ) (m : Message) (judged : Judged) → IsSmall n (on_message own js tick from m judged)
-    message_small tick from (message.Poll k au) judged = invitation_small tick (named from k) au
+    message_small tick from (message.Poll k au) judged = invitation_small tick (poll_named from k) au
     message_small tick from (message.PollChallenge k agrees) judged = challenge_small from k agrees
-    message_small tick from (message.PollProof k nonce kind proof) judged = proof_small (named from k) nonce kind judged
+    message_small tick from (message.PollProof k nonce kind proof) judged =
+        proof_small (poll_named from k) nonce kind judged
     message_small tick from (message.Nominate k nominees) judged = nominate_small from k nominees
     message_small tick from (message.Vote k hashes proof) judged = vote_small from k hashes judged
-    message_small tick from (message.RepairRequest k b) judged = request_small (named from k) b
+    message_small tick from (message.RepairRequest k b) judged = request_small (poll_named from k) b
     message_small tick from (message.Repair k b bytes) judged = repair_small from k b bytes
-    message_small tick from (message.Receipt k) judged = end_small (named from k)
+    message_small tick from (message.Receipt k) judged = end_small (poll_named from k)
 
     reaction_small : (tick : ℕ) (i : Input) → IsSmall n (reaction own js tick i)
     unfolding reaction
@@ -459,7 +480,7 @@ module _ (n : ℕ) (most : 32 ≤ n) where
       let d = deed_of w.bag s in
       let small = effect_small w.tick w.peers d all in
       let count = length-map (effect_of w.tick w.peers d).sends (sent_by (actor_of d)) in
-      omega (arith, length-append w.bag (sent w.tick w.peers d), count, small.sends)
+      omega (arith, length-append w.bag (letters_sent w.tick w.peers d), count, small.sends)
   sent_few w (Cut s true) all = omega arith
   sent_few w (Cut s false) all = omega arith
   sent_few w (Tick by) all = omega arith
@@ -493,7 +514,8 @@ all_sent n most w (e ∷ es) low all =
 abbrev held : ℕ → List Holding → List Holding
 held au copies = filter (λ c. c.au == au) copies
 
-held_few : (au : AuPlan) (copies : List Holding) → length (filter_map (deposit_for au) copies) ≡ length (held au.id copies)
+held_few : (au : AuPlan) (copies : List Holding)
+    → length (filter_map (deposit_for au) copies) ≡ length (held au.id copies)
 held_few au [] = refl
 held_few au (c ∷ cs) = by_test (eqb c.au au.id) (held_few au cs)
   where
@@ -516,7 +538,8 @@ no_circles : (aus : List AuPlan) (copies : List Holding) → Each HasFew (deposi
 unfolding deposits
 no_circles [] copies = tt
 no_circles (au ∷ aus) copies =
-    each_append HasFew (filter_map (deposit_for au) copies) (deposits aus copies) (each_held copies) (no_circles aus copies)
+    each_append HasFew (filter_map (deposit_for au) copies) (deposits aus copies) (each_held copies)
+    (no_circles aus copies)
   where
     each_held : (copies : List Holding) → Each HasFew (filter_map (deposit_for au) copies)
     each_held [] = tt
@@ -539,8 +562,10 @@ unfolding plan_fault are_bounded
 small_outer plan good =
     let r = plan.rules in
     leb-true r.outer MOST_CIRCLE
-    (third (is_within 1 MOST_CIRCLE r.inner) (nat_le 1 r.quorum) (nat_le r.outer MOST_CIRCLE) (nat_le r.repairs MOST_REPAIRS)
-    (nat_le r.pace MOST_TICKS) (nat_le r.refractory MOST_TICKS) (nat_le r.overdue MOST_TICKS) (nat_le r.unknown_pct 100) (nat_le r.debt_pct 100) (nat_le r.churn MOST_CIRCLE)
+    (third (is_within 1 MOST_CIRCLE r.inner) (nat_le 1 r.quorum) (nat_le r.outer MOST_CIRCLE)
+    (nat_le r.repairs MOST_REPAIRS)
+    (nat_le r.pace MOST_TICKS) (nat_le r.refractory MOST_TICKS) (nat_le r.overdue MOST_TICKS)
+    (nat_le r.unknown_pct 100) (nat_le r.debt_pct 100) (nat_le r.churn MOST_CIRCLE)
     (stands _ _ (no_first _ _ good)))
 
 abbrev BeginsFew : Plan → PeerPlan → Type 0
@@ -573,7 +598,8 @@ few_records plan history good is i s at =
     omega (arith, few.short, is.few)
 
 pub always_room : (plan : Plan) (history : List Event) → plan_fault plan ≡ None → IsHistory plan history
-    → (i : ℕ) (s : Standing) → slice_get (world plan history).peers i ≡ Some s → has_room (state_of s.own s.journal) ≡ true
+    → (i : ℕ) (s : Standing) → slice_get (world plan history).peers i ≡ Some s
+    → has_room (state_of s.own s.journal) ≡ true
 always_room plan history good is i s at = room_left s.own s.journal (few_records plan history good is i s at)
 
 -- The most messages that an event makes a peer send: to both circles, or a receipt for each record of its journal.

@@ -7,8 +7,8 @@ use Rattle.lks_blocks.specs.Block.{AllOf}
 use Rattle.lks_host.specs.declared.hosts.Host.{Host}
 use Rattle.lks_work.specs.Names.{name_done, refs_done, step_named}
 use Rattle.lks_work.specs.declared.results.JobDone.{JobDone}
-use Rattle.lks_world.specs.declared.seats.Seat.{Seat}
-use Rattle.lks_world.specs.declared.seats.Seat.TheVariants as seat
+use Rattle.lks_world.specs.declared.sites.Site.{Site}
+use Rattle.lks_world.specs.declared.sites.Site.TheVariants as site
 
 -- it is a result of the work of this step, over blocks of this pool
 pub record IsFor (pool : List ℕ) (s : PeerStep) (d : JobDone) : Type 0 where
@@ -24,18 +24,18 @@ pub record IsForDue (pool : List ℕ) (due : Due) (d : JobDone) : Type 0 where
 abbrev pub unplaced : {D : Type 0} → Host D → Host D
 unplaced h = record h { peer = record h.peer { places = [] } }
 
-abbrev pub unplaced_at : {D : Type 0} → Seat D → Seat D
-unplaced_at (seat.Host h) = seat.Host (unplaced h)
-unplaced_at (seat.Idle d) = seat.Idle d
+abbrev pub unplaced_at : {D : Type 0} → Site D → Site D
+unplaced_at (site.Host h) = site.Host (unplaced h)
+unplaced_at (site.Idle d) = site.Idle d
 
 -- nothing changed but what was told of places
-abbrev pub AreSameSeats : {D : Type 0} → List (Seat D) → List (Seat D) → Type 0
-AreSameSeats old new = map unplaced_at new ≡ map unplaced_at old
+abbrev pub AreSameSites : {D : Type 0} → List (Site D) → List (Site D) → Type 0
+AreSameSites old new = map unplaced_at new ≡ map unplaced_at old
 
 -- the blocks of whoever sits there are in this pool
-abbrev pub IsPooled : {D : Type 0} → List ℕ → Seat D → Type 0
-IsPooled pool (seat.Host h) = h.peer.pool ≡ pool
-IsPooled pool (seat.Idle d) = Unit {0}
+abbrev pub IsPooled : {D : Type 0} → List ℕ → Site D → Type 0
+IsPooled pool (site.Host h) = h.peer.pool ≡ pool
+IsPooled pool (site.Idle d) = Unit {0}
 
-abbrev pub ArePooled : {D : Type 0} → List ℕ → List (Seat D) → Type 0
-ArePooled pool seats = All (IsPooled pool) seats
+abbrev pub ArePooled : {D : Type 0} → List ℕ → List (Site D) → Type 0
+ArePooled pool sites = All (IsPooled pool) sites

@@ -1,5 +1,6 @@
 -- Steps that are cut off: which ones, and what becomes of them.
-use Rattle.std.specs.Prelude.{◌≡◌, ◌≤◌, ◌<◌, ◌⊎◌, ℕ, Bool, false, nat_lt, if◌then◌else◌, Option, Some, None, List, [], length, slice_get, option_map}
+use Rattle.std.specs.Prelude.{◌≡◌, ◌≤◌, ◌<◌, ◌⊎◌, ℕ, Bool, false, nat_lt, if◌then◌else◌, Option, Some, None, List, []}
+use Rattle.std.specs.Prelude.{length, slice_get, option_map}
 use Rattle.lks_base.specs.Steps.{Act, act_of}
 use Rattle.lks_base.specs.declared.events.Due.{Due}
 use Rattle.lks_base.specs.declared.events.Due.TheVariants.{Delivery, Own}
@@ -12,7 +13,7 @@ use Rattle.lks_base.specs.declared.plans.Plan.{Plan}
 use Rattle.lks_law.specs.Due.{pending}
 use Rattle.lks_law.specs.Entries.{receiver_of}
 use Rattle.lks_law.specs.Histories.{added_by}
-use Rattle.lks_law.specs.Questions.{Verdicts, judged, question_at, questions}
+use Rattle.lks_law.specs.Questions.{Verdicts, judgement_on, question_at, questions}
 use Rattle.lks_law.specs.World.{Standing, peer_at, world}
 use Rattle.lks_script.specs.declared.steps.CutStep.{CutStep}
 use Rattle.lks_script.specs.declared.steps.CutStep.TheVariants as cut
@@ -33,7 +34,8 @@ due_cut plan history (cut.Peer s) = Some (Own s)
 
 -- the step of what is due: a delivery has what the judge says
 abbrev pub step_due : Verdicts → Plan → List Event → Due → PeerStep
-step_due verdict plan history (Delivery i) = Deliver i (judged verdict (questions plan history) (question_at (world plan history) i))
+step_due verdict plan history (Delivery i) =
+    Deliver i (judgement_on verdict (questions plan history) (question_at (world plan history) i))
 step_due verdict plan history (Own s) = s
 
 -- the step that a line cuts off
@@ -56,12 +58,14 @@ pub record FallsShort (plan : Plan) (history : List Event) (calls : ℕ) (s : Pe
 -- What becomes of a step where the power of its peer fails after so many calls of the disk.
 pub record Cuts (plan : Plan) (history : List Event) (calls : ℕ) (s : PeerStep) (after : List Event) : Type 0 where
   -- where no honest peer takes it, it is done
-  pub alone : peer_at (taker_of (world plan history).bag s) (world plan history).peers ≡ None → after ≡ kept history (events.Step s)
+  pub alone : peer_at (taker_of (world plan history).bag s) (world plan history).peers ≡ None
+      → after ≡ kept history (events.Step s)
   -- where its power falls short, it is cut off
   pub short : FallsShort plan history calls s → IsCutOff history calls s after
   -- else it is done, and then the power fails
   pub whole : (p : Standing) → peer_at (taker_of (world plan history).bag s) (world plan history).peers ≡ Some p
-      → (added_by (world plan history) s ≡ []) ⊎ (4 ≤ calls) → after ≡ kept (kept history (events.Step s)) (events.Crash (taker_of (world plan history).bag s))
+      → (added_by (world plan history) s ≡ []) ⊎ (4 ≤ calls)
+      → after ≡ kept (kept history (events.Step s)) (events.Crash (taker_of (world plan history).bag s))
 
 -- the same of what a line cuts off: nothing happens where it is no step
 abbrev pub CutsOff : Plan → List Event → ℕ → Option PeerStep → List Event → Type 0

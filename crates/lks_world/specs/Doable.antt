@@ -3,7 +3,7 @@ use Rattle.std.specs.Prelude.{◌≡◌, List}
 use Rattle.lks_base.specs.declared.events.Due.{Due}
 use Rattle.lks_base.specs.declared.plans.Plan.{Plan}
 use Rattle.lks_disk.specs.Face.{Face}
-use Rattle.lks_effort.specs.declared.questions.Question.{Question}
+use Rattle.lks_outside.specs.declared.questions.Question.{Question}
 use Rattle.lks_law.specs.Histories.{MayHappen}
 use Rattle.lks_law.specs.Questions.{Verdicts, event_of, questions}
 use Rattle.lks_law.specs.World.{world}
@@ -13,7 +13,8 @@ use Rattle.lks_law.specs.Questions.{OwnAsksNothing}
 use Rattle.lks_world.specs.declared.states.State.{State}
 
 -- the state is that of a history of the plan, the judge has heard what it asks, and what is due may happen next
-pub record IsDoable {D J B : Type 0} (f : Face D) (hears : J → List Question) (plan : Plan) (s : State D) (x : Watch J B) (due : Due) : Type 0 where
+pub record IsDoable {D J B : Type 0} (f : Face D) (hears : J → List Question) (plan : Plan) (s : State D)
+    (x : Watch J B) (due : Due) : Type 0 where
   pub state : IsStateOf f plan s
   pub heard : hears x.judge ≡ questions plan (events_in s)
   pub may : (verdict : Verdicts) → MayHappen plan (world plan (events_in s)) (event_of verdict plan (events_in s) due)

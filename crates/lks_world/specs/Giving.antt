@@ -1,5 +1,6 @@
 -- What a world gives out that is due, and what it takes back.
-use Rattle.std.specs.Prelude.{◌≡◌, ◌≢◌, ◌≤◌, ◌<◌, ◌+◌, ◌⊎◌, ℕ, true, false, not, Option, Some, None, List, [], ◌∷◌, ◌++◌, All, filter, length, slice_get}
+use Rattle.std.specs.Prelude.{◌≡◌, ◌≢◌, ◌≤◌, ◌<◌, ◌+◌, ◌⊎◌, ℕ, true, false, not, Option, Some, None, List, [], ◌∷◌}
+use Rattle.std.specs.Prelude.{◌++◌, All, filter, length, slice_get}
 use Rattle.lks_audit.specs.Kept.{Kept}
 use Rattle.lks_base.specs.declared.events.Due.{Due}
 use Rattle.lks_base.specs.declared.events.Due.TheVariants.{Own}
@@ -23,8 +24,8 @@ use Rattle.lks_world.specs.declared.giving.Back.{Back}
 use Rattle.lks_world.specs.declared.giving.Back.TheVariants as back
 use Rattle.lks_world.specs.declared.giving.Taken.{Taken}
 use Rattle.lks_world.specs.declared.giving.Taken.TheVariants as taken
-use Rattle.lks_world.specs.declared.seats.Seat.{Seat}
-use Rattle.lks_world.specs.declared.seats.Seat.TheVariants as seat
+use Rattle.lks_world.specs.declared.sites.Site.{Site}
+use Rattle.lks_world.specs.declared.sites.Site.TheVariants as site
 
 -- Turns.
 
@@ -52,9 +53,9 @@ pub record TakesTurn {D J B : Type 0} (P : Event → Type 0) (old new : Seen D J
 -- Jobs.
 
 -- all work of whoever sits there
-abbrev pub seat_works : {D : Type 0} → Seat D → List JobName
-seat_works (seat.Host h) = works_in h.peer.own h.peer.state
-seat_works (seat.Idle d) = []
+abbrev pub site_works : {D : Type 0} → Site D → List JobName
+site_works (site.Host h) = works_in h.peer.own h.peer.state
+site_works (site.Idle d) = []
 
 -- the job of ready work, as the peer makes it whose work it is
 pub record IsJobIn (w : World) (j : Job) : Type 0 where
@@ -129,8 +130,12 @@ pub record StaysAtFault {D J B : Type 0} (old new : Seen D J B) : Type 0 where
 
 -- what is answered where a result is given back, whose job isn't out any more
 abbrev pub GivesFresh : {D J B : Type 0} → JobDone → Seen D J B → Seen D J B → Back → Type 0
-GivesFresh d old new back.Kept = TakesTurn (λ e. e ≡ Step (step_named (name_done d))) old new × IsExpected (world old.plan old.history) d (Some (tag_done d)) × (new.out ≡ old.out)
-GivesFresh d old new (back.Stale expected found) = (found ≡ tag_done d) × (expected ≢ Some found) × IsExpected (world old.plan old.history) d expected × HasTurn old × (new ≡ old)
+GivesFresh d old new back.Kept =
+    TakesTurn (λ e. e ≡ Step (step_named (name_done d))) old new
+    × IsExpected (world old.plan old.history) d (Some (tag_done d)) × (new.out ≡ old.out)
+GivesFresh d old new (back.Stale expected found) =
+    (found ≡ tag_done d) × (expected ≢ Some found) × IsExpected (world old.plan old.history) d expected
+    × HasTurn old × (new ≡ old)
 GivesFresh d old new back.Late = IsUsedUp old × (new ≡ old)
 
 -- what is answered where a result is given back

@@ -1,4 +1,4 @@
--- Jobs and results at one seat, and what is due beside work.
+-- Jobs and results at one site, and what is due beside work.
 use Rattle.std.specs.Prelude.{◌≡◌, ◌≢◌, ◌⊎◌, ℕ, true, false, Option, Some, None, List, [], slice_get}
 use Rattle.lks_base.specs.declared.events.Due.{Due}
 use Rattle.lks_base.specs.declared.events.Due.TheVariants as dues
@@ -17,39 +17,42 @@ use Rattle.lks_work.specs.declared.jobs.JobName.{JobName}
 use Rattle.lks_work.specs.declared.results.JobDone.{JobDone}
 use Rattle.lks_world.specs.Giving.{peer_named}
 use Rattle.lks_world.specs.Hosts.{peer_in, peers_of}
-use Rattle.lks_world.specs.Seats.{hosts_of}
+use Rattle.lks_world.specs.Sites.{hosts_of}
 use Rattle.lks_world.specs.declared.giving.Next.{Next}
 use Rattle.lks_world.specs.declared.giving.Next.TheVariants as next
-use Rattle.lks_world.specs.declared.seats.Seat.{Seat}
-use Rattle.lks_world.specs.declared.seats.Seat.TheVariants as seat
+use Rattle.lks_world.specs.declared.sites.Site.{Site}
+use Rattle.lks_world.specs.declared.sites.Site.TheVariants as site
 
 -- the peer that sits there is ready for this work
-abbrev pub IsReadyAt : {D : Type 0} → JobName → Seat D → Type 0
-IsReadyAt name (seat.Host h) = is_ready_for h.peer.own h.peer.state name ≡ true
-IsReadyAt name (seat.Idle d) = ⊥
+abbrev pub IsReadyAt : {D : Type 0} → JobName → Site D → Type 0
+IsReadyAt name (site.Host h) = is_ready_for h.peer.own h.peer.state name ≡ true
+IsReadyAt name (site.Idle d) = ⊥
 
 -- it is the job of this work, as the peer makes it that sits there
-abbrev pub IsJobAt : {D : Type 0} → JobName → Seat D → Job → Type 0
-IsJobAt name (seat.Host h) j = (places : List Place) × IsJobOf h.peer.own h.peer.state h.peer.kept places name j
-IsJobAt name (seat.Idle d) j = ⊥
+abbrev pub IsJobAt : {D : Type 0} → JobName → Site D → Job → Type 0
+IsJobAt name (site.Host h) j = (places : List Place) × IsJobOf h.peer.own h.peer.state h.peer.kept places name j
+IsJobAt name (site.Idle d) j = ⊥
 
 -- over which version a result would be taken there
-abbrev pub IsExpectedAt : {D : Type 0} → JobDone → Seat D → Option PinTag → Type 0
-IsExpectedAt d (seat.Host h) expected = (places : List Place) × (expected ≡ tag_for h.peer.state places d)
-IsExpectedAt d (seat.Idle disk) expected = expected ≡ None
+abbrev pub IsExpectedAt : {D : Type 0} → JobDone → Site D → Option PinTag → Type 0
+IsExpectedAt d (site.Host h) expected = (places : List Place) × (expected ≡ tag_for h.peer.state places d)
+IsExpectedAt d (site.Idle disk) expected = expected ≡ None
 
 -- the peer of the result sits there, and expects this version
-pub record IsToldBy {D : Type 0} (f : Face D) (d : JobDone) (seats : List (Seat D)) (expected : Option PinTag) : Type 0 where
+pub record IsToldBy {D : Type 0} (f : Face D) (d : JobDone) (sites : List (Site D))
+    (expected : Option PinTag) : Type 0 where
   pub host : Host D
   pub rank : ℕ
-  pub ranked : slice_get (hosts_of seats) rank ≡ Some host
-  pub found : peer_at (peer_named (name_done d)) (peers_of f (hosts_of seats)) ≡ Some (peer_in f host)
+  pub ranked : slice_get (hosts_of sites) rank ≡ Some host
+  pub found : peer_at (peer_named (name_done d)) (peers_of f (hosts_of sites)) ≡ Some (peer_in f host)
   pub places : List Place
   pub is : expected ≡ tag_for host.peer.state places d
 
 -- or there is no such peer, and no version is expected
-abbrev pub Expects : {D : Type 0} → Face D → JobDone → List (Seat D) → Option PinTag → Type 0
-Expects f d seats expected = ((peer_at (peer_named (name_done d)) (peers_of f (hosts_of seats)) ≡ None) × (expected ≡ None)) ⊎ IsToldBy f d seats expected
+abbrev pub Expects : {D : Type 0} → Face D → JobDone → List (Site D) → Option PinTag → Type 0
+Expects f d sites expected =
+    ((peer_at (peer_named (name_done d)) (peers_of f (hosts_of sites)) ≡ None) × (expected ≡ None)) ⊎ IsToldBy f d
+    sites expected
 
 -- a delivery, or a step that is no work
 abbrev pub IsBesideWork : Due → Type 0

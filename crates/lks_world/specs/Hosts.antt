@@ -1,5 +1,6 @@
 -- The hosts of a world, and how they go on.
-use Rattle.std.specs.Prelude.{◌≡◌, ◌≤◌, ◌+◌, ◌*◌, ◌++◌, ℕ, false, Some, None, List, [], length, drop, map, slice_get, Result, IsErrOf, ◌⊎◌, OnErr}
+use Rattle.std.specs.Prelude.{◌≡◌, ◌≤◌, ◌+◌, ◌*◌, ◌++◌, ℕ, false, Some, None, List, [], length, drop, map, slice_get}
+use Rattle.std.specs.Prelude.{Result, IsErrOf, ◌⊎◌, OnErr}
 use Rattle.std.specs.Option.{option_map_or}
 use Rattle.lks_disk.specs.Counts.{Rose, raised}
 use Rattle.lks_disk.specs.Face.{Face}
@@ -48,7 +49,9 @@ pub record GoesOn {D : Type 0} (f : Face D) (h k : Host D) : Type 0 where
   pub room : k.journal.end ≤ h.journal.end + 32768
   pub unfused : f.fused k.journal.disk ≡ f.fused h.journal.disk
   pub pool : k.peer.pool ≡ h.peer.pool
-  pub stands : (batches : List (List Record)) → StandsFor f h batches → StandsFor f k (with_batch batches (drop (length (journal_on f h.journal.disk)) (journal_on f k.journal.disk)))
+  pub stands : (batches : List (List Record)) → StandsFor f h batches
+      → StandsFor f k
+      (with_batch batches (drop (length (journal_on f h.journal.disk)) (journal_on f k.journal.disk)))
 
 pub record WentOn {D : Type 0} (f : Face D) (before : List (Host D)) (place : ℕ) (k : Host D) : Type 0 where
   pub host : Host D
@@ -58,23 +61,28 @@ pub record WentOn {D : Type 0} (f : Face D) (before : List (Host D)) (place : �
 abbrev pub HaveGoneOn : {D : Type 0} → Face D → List (Host D) → List (Host D) → Type 0
 HaveGoneOn {D} f before after = (place : ℕ) (k : Host D) → slice_get after place ≡ Some k → WentOn f before place k
 
--- At a refusal a crash leaves of each host's disk the batches from before, or those with one more: what its peer was to have
--- more in its journal.
+-- At a refusal a crash leaves of each host's disk the batches from before, or those with one more: what its peer was to
+-- have more in its journal.
 
 abbrev pub journal_in : ℕ → List Standing → List Record
 journal_in place peers = option_map_or (λ (s : Standing). s.journal) (slice_get peers place) []
 
-pub record HasFallen {D : Type 0} (f : Face D) (before : List (Host D)) (peers : List Standing) (place : ℕ) (k : Host D) : Type 0 where
+pub record HasFallen {D : Type 0} (f : Face D) (before : List (Host D)) (peers : List Standing) (place : ℕ)
+    (k : Host D) : Type 0 where
   pub host : Host D
   pub there : slice_get before place ≡ Some host
   pub falls : (batches : List (List Record)) → StandsFor f host batches
-      → Falls f batches (with_batch batches (drop (length (journal_on f host.journal.disk)) (journal_in place peers))) k.journal.disk
+      → Falls f batches
+      (with_batch batches (drop (length (journal_on f host.journal.disk)) (journal_in place peers)))
+      k.journal.disk
 
 abbrev pub HaveFallen : {D : Type 0} → Face D → List (Host D) → List Standing → List (Host D) → Type 0
-HaveFallen {D} f before peers after = (place : ℕ) (k : Host D) → slice_get after place ≡ Some k → HasFallen f before peers place k
+HaveFallen {D} f before peers after =
+    (place : ℕ) (k : Host D) → slice_get after place ≡ Some k → HasFallen f before peers place k
 
 -- a host after so many events, whose disk holds these batches, and whose blocks are in this pool
-pub record IsHostAt {D : Type 0} (f : Face D) (pool : List ℕ) (batches : List (List Record)) (events : ℕ) (h : Host D) : Type 0 where
+pub record IsHostAt {D : Type 0} (f : Face D) (pool : List ℕ) (batches : List (List Record)) (events : ℕ)
+    (h : Host D) : Type 0 where
   pub stands : StandsFor f h batches
   pub pooled : h.peer.pool ≡ pool
   pub whole : h.broken ≡ false
@@ -86,7 +94,8 @@ pub record HasActed {D T : Type 0} (f : Face D) (h k : Host D) (result : Result 
   pub own : k.peer.own ≡ h.peer.own
   pub fuse : f.fused k.journal.disk ≡ f.fused h.journal.disk
   pub later : f.faults h.journal.disk ≤ f.faults k.journal.disk
-  pub cause : (id : ℕ) → IsErrOf result (Disk id) → (h.peer.own.id ≡ id) × Rose (f.faults h.journal.disk) (f.faults k.journal.disk)
+  pub cause : (id : ℕ) → IsErrOf result (Disk id)
+      → (h.peer.own.id ≡ id) × Rose (f.faults h.journal.disk) (f.faults k.journal.disk)
 
 -- no fuse burned on a disk, and its power wasn't cut
 pub record KeepsPower {D : Type 0} (f : Face D) (disk now : D) : Type 0 where

@@ -12,7 +12,7 @@ pub mod Held
 pub mod Hosts
 pub mod Kept
 pub mod Powers
-pub mod Seats
+pub mod Sites
 pub mod Spending
 pub mod States
 pub mod Stopping

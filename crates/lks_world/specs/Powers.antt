@@ -1,5 +1,6 @@
 -- How often the power of peers fails in a history, and how often their disks say that it did.
-use Rattle.std.specs.Prelude.{◌≡◌, ◌≤◌, ◌⊎◌, ◌==◌, ℕ, Bool, if◌then◌else◌, Option, None, List, [], ◌∷◌, ◌++◌, length, map}
+use Rattle.std.specs.Prelude.{◌≡◌, ◌≤◌, ◌⊎◌, ◌==◌, ℕ, Bool, if◌then◌else◌, Option, None, List, [], ◌∷◌, ◌++◌, length}
+use Rattle.std.specs.Prelude.{map}
 use Rattle.lks_base.specs.declared.events.Event.{Event}
 use Rattle.lks_base.specs.declared.events.Event.TheVariants.{Step, Cut, Tick, Lose, Forge, Crash}
 use Rattle.lks_base.specs.declared.limits.TheConstants.{MOST_EVENTS}
@@ -70,10 +71,11 @@ abbrev pub raised_each : List ℕ → List ℕ → List ℕ → List ℕ
 raised_each [] ids counts = counts
 raised_each (id ∷ more) ids counts = raised_each more ids (raised_at id ids counts)
 
--- From these events to those, the disk of each of these peers counted each fuse that burned there and each cut of its power. The
--- power of at most one peer was cut besides, with or without a fuse that burned: where a fault stopped the step, or where it filled
--- the history before the power failed. In a full history none is.
-pub record HavePower {D : Type 0} (f : Face D) (plan : Plan) (before after : List Event) (fault : Option WorldFault) (ids : List ℕ) (disks now : List D) : Type 0 where
+-- From these events to those, the disk of each of these peers counted each fuse that burned there and each cut of its
+-- power. The power of at most one peer was cut besides, with or without a fuse that burned: where a fault stopped the
+-- step, or where it filled the history before the power failed. In a full history none is.
+pub record HavePower {D : Type 0} (f : Face D) (plan : Plan) (before after : List Event) (fault : Option WorldFault)
+    (ids : List ℕ) (disks now : List D) : Type 0 where
   pub burned : List ℕ
   pub cut : List ℕ
   pub burned_besides : List ℕ
@@ -89,6 +91,7 @@ pub record HavePower {D : Type 0} (f : Face D) (plan : Plan) (before after : Lis
   pub full : MOST_EVENTS ≤ length before → (burned ≡ []) × (cut ≡ []) × (cut_besides ≡ [])
 
 -- The same where the power that was cut besides, if any was, is that of these.
-pub record HavePowerOf {D : Type 0} (f : Face D) (plan : Plan) (who : List ℕ) (before after : List Event) (fault : Option WorldFault) (ids : List ℕ) (disks now : List D) : Type 0 where
+pub record HavePowerOf {D : Type 0} (f : Face D) (plan : Plan) (who : List ℕ) (before after : List Event)
+    (fault : Option WorldFault) (ids : List ℕ) (disks now : List D) : Type 0 where
   pub power : HavePower f plan before after fault ids disks now
   pub whose : (power.cut_besides ≡ []) ⊎ (power.cut_besides ≡ who)

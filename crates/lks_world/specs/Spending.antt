@@ -18,7 +18,8 @@ use Rattle.lks_world.specs.declared.faults.WorldFault.{WorldFault}
 
 -- who takes the step that a line cuts off, if there is one
 abbrev pub cut_of : Verdicts → Plan → List Event → CutStep → List ℕ
-cut_of verdict plan history given = option_to_list (option_map (taker_of (world plan history).bag) (step_cut verdict plan history given))
+cut_of verdict plan history given =
+    option_to_list (option_map (taker_of (world plan history).bag) (step_cut verdict plan history given))
 
 -- whose power a line cuts
 abbrev pub loser_of : Verdicts → Plan → List Event → Step → List ℕ
@@ -41,21 +42,31 @@ loser_of verdict plan history (step.SayRepair from to number block bytes) = []
 loser_of verdict plan history (step.Crash peer) = peer ∷ []
 loser_of verdict plan history (step.Cut calls choice given) = cut_of verdict plan history given
 
--- What a line costs: the honest peers' disks counted the fuses that burned and the cuts of the power in its events, and besides at
--- most one cut of the power that the line cuts. Where it cuts a step off, the fuse was one of its calls and choice.
-pub record Spends {D : Type 0} (f : Face D) (verdict : Verdicts) (plan : Plan) (s : Step) (before after : List Event) (fault : Option WorldFault) (disks now : List D) : Type 0 where
-  pub counted : HavePowerOf f plan (loser_of verdict plan before s) before after fault (honest_ids plan.peers) (honest_disks plan.peers disks) (honest_disks plan.peers now)
-  pub burned : (calls choice : ℕ) (given : CutStep) → s ≡ step.Cut calls choice given → fault ≡ None → IfSome (step_cut verdict plan before given) (BurnsInStep f plan before calls choice disks now)
+-- What a line costs: the honest peers' disks counted the fuses that burned and the cuts of the power in its events, and
+-- besides at most one cut of the power that the line cuts. Where it cuts a step off, the fuse was one of its calls and
+-- choice.
+pub record Spends {D : Type 0} (f : Face D) (verdict : Verdicts) (plan : Plan) (s : Step)
+    (before after : List Event) (fault : Option WorldFault) (disks now : List D) : Type 0 where
+  pub counted : HavePowerOf f plan (loser_of verdict plan before s) before after fault (honest_ids plan.peers)
+      (honest_disks plan.peers disks) (honest_disks plan.peers now)
+  pub burned : (calls choice : ℕ) (given : CutStep) → s ≡ step.Cut calls choice given → fault ≡ None
+      → IfSome (step_cut verdict plan before given) (BurnsInStep f plan before calls choice disks now)
 
 -- What lines cost, one after another, each from the disks as the one before left them.
-abbrev pub AreSpent : {D : Type 0} → Face D → Verdicts → Plan → List Event → List D → List Step → List Event → List D → Type 0
+abbrev pub AreSpent : {D : Type 0} → Face D → Verdicts → Plan → List Event → List D → List Step → List Event
+    → List D → Type 0
 AreSpent f verdict plan before disks [] after now = (after ≡ before) × (now ≡ disks)
 AreSpent {D} f verdict plan before disks (s ∷ ss) after now =
-    (mid : List Event) × (there : List D) × Performs verdict plan before s mid × Spends f verdict plan s before mid None disks there × AreSpent f verdict plan mid there ss after now
+    (mid : List Event) × (there : List D) × Performs verdict plan before s mid
+    × Spends f verdict plan s before mid None disks there × AreSpent f verdict plan mid there ss after now
 
 -- The same up to a fault in one of them.
-abbrev pub AreSpentUpTo : {D : Type 0} → Face D → Verdicts → Plan → List Event → List D → List Step → WorldFault → List Event → List D → Type 0
+abbrev pub AreSpentUpTo : {D : Type 0} → Face D → Verdicts → Plan → List Event → List D → List Step → WorldFault
+    → List Event → List D → Type 0
 AreSpentUpTo f verdict plan before disks [] fault after now = ⊥
 AreSpentUpTo {D} f verdict plan before disks (s ∷ ss) fault after now =
     Spends f verdict plan s before after (Some fault) disks now
-    ⊎ ((mid : List Event) × (there : List D) × Performs verdict plan before s mid × Spends f verdict plan s before mid None disks there × AreSpentUpTo f verdict plan mid there ss fault after now)
+    ⊎
+    ((mid : List Event) × (there : List D) × Performs verdict plan before s mid
+    × Spends f verdict plan s before mid None disks there
+    × AreSpentUpTo f verdict plan mid there ss fault after now)

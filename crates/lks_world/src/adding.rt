@@ -1,6 +1,7 @@
 //! One event more, unless the history is full.
 
-ghost use Rattle.std.specs.Prelude.{◌≡◌, ◌≤◌, ◌<◌, ◌-◌, ◌++◌, ◌∷◌, [], ℕ, true, Some, IfSome, OnOk, OnErr, List, length, get_or};
+ghost use Rattle.std.specs.Prelude.{◌≡◌, ◌≤◌, ◌<◌, ◌-◌, ◌++◌, ◌∷◌, [], ℕ, true, Some, IfSome, OnOk, OnErr, List};
+ghost use Rattle.std.specs.Prelude.{length, get_or};
 ghost use Rattle.lks_base.specs.Checking.{has_corrupt, has_peer};
 ghost use Rattle.lks_base.specs.declared.events.Event.TheVariants as events;
 ghost use Rattle.lks_base.specs.declared.limits.TheConstants.{MOST_FORGED_BYTES, MOST_TICKS};
@@ -15,7 +16,7 @@ ghost use Rattle.lks_farm.specs.Batches.{AreDoneOf};
 ghost use Rattle.lks_world.specs.Beside.{IsFor, IsForDue};
 ghost use Rattle.lks_world.specs.Doable.{IsDoable};
 ghost use Rattle.lks_world.specs.Kept.{kept};
-ghost use Rattle.lks_world.specs.Seats.{Counted, SeatsPower};
+ghost use Rattle.lks_world.specs.Sites.{Counted, SitesPower};
 ghost use Rattle.lks_world.specs.Stopping.{HasStopped};
 ghost use Rattle.lks_world.specs.Watched.{StopsBy};
 ghost use Rattle.lks_world.specs.States.{IsStateOf, AreLeft, Becomes, Extends, events_in, world_in};
@@ -26,10 +27,9 @@ use crate::faults::WorldFault;
 use crate::other_events::{crash, forge, lose, tick};
 use crate::settling::step_of;
 use crate::states::{State, step};
-use lks_alarm::Bell;
 use lks_base::{Bytes, Due, MOST_EVENTS, OutOfMemory, PeerId, PeerStep};
 use lks_disk::CrashDisk;
-use lks_effort::EffortJudge;
+use lks_outside::{Bell, EffortJudge};
 use lks_watch::Watch;
 use lks_work::{Gate, JobDone};
 use std::alloc::Global;
@@ -62,22 +62,31 @@ pub fn take_step<R: Wait, D: CrashDisk, J: EffortJudge, B: Bell>(
         OnOk result (Becomes D.face plan (events_in state.old ++ events.Step s ∷ []) state.new) }
     ensures extends { (plan : Plan) → IsStateOf D.face plan state.old → MayStep plan (world_in D.face state.old) s →
         Extends plan state.old.history.items state.new.history.items }
-    ensures watches { (plan : Plan) → IsStateOf D.face plan state.old → (first : Watch J B) → AsksOn (ears J.heard J.verdict B.rung B.limit) (world_in D.face state.old) s first watch.old →
-        OnOk result (WatchesBy (ears J.heard J.verdict B.rung B.limit) plan (events_in state.old) (events_in state.new) first watch.new) }
-    ensures stops { (plan : Plan) → IsStateOf D.face plan state.old → (first : Watch J B) → AsksOn (ears J.heard J.verdict B.rung B.limit) (world_in D.face state.old) s first watch.old →
-        OnErr result (StopsBy (ears J.heard J.verdict B.rung B.limit) plan (events_in state.old) (events_in state.new) (Some s) first watch.new) }
-    ensures fallen { (plan : Plan) → IsStateOf D.face plan state.old → OnErr result (AreLeft D.face plan (Some s) state.new) }
+    ensures watches { (plan : Plan) → IsStateOf D.face plan state.old → (first : Watch J B)
+        → AsksOn (ears J.heard J.verdict B.rung B.limit) (world_in D.face state.old) s first watch.old →
+        OnOk result
+        (WatchesBy (ears J.heard J.verdict B.rung B.limit) plan (events_in state.old) (events_in state.new)
+        first watch.new) }
+    ensures stops { (plan : Plan) → IsStateOf D.face plan state.old → (first : Watch J B)
+        → AsksOn (ears J.heard J.verdict B.rung B.limit) (world_in D.face state.old) s first watch.old →
+        OnErr result
+        (StopsBy (ears J.heard J.verdict B.rung B.limit) plan (events_in state.old) (events_in state.new)
+        (Some s) first watch.new) }
+    ensures fallen { (plan : Plan) → IsStateOf D.face plan state.old
+        → OnErr result (AreLeft D.face plan (Some s) state.new) }
     ensures err { OnErr result (state.new.history.items ≡ state.old.history.items) }
-    ensures counted { Counted D.face state.old.seats.items state.new.seats.items result }
-    ensures power { (plan : Plan) (who : List ℕ) → SeatsPower D.face plan who (events_in state.old) (events_in state.new) state.old.seats.items state.new.seats.items result }
+    ensures counted { Counted D.face state.old.sites.items state.new.sites.items result }
+    ensures power { (plan : Plan) (who : List ℕ)
+        → SitesPower D.face plan who (events_in state.old) (events_in state.new) state.old.sites.items
+        state.new.sites.items result }
     ensures pool { state.new.pool.now ≡ state.old.pool.now }
 {
     step(alloc, rt, state, watch, s, deed, done)?;
     Ok(())
 }
 
-/// Does what is due, once the judge was asked what it asks, where there is room for its event: by a result of its work, if there
-/// is one.
+/// Does what is due, once the judge was asked what it asks, where there is room for its event: by a result of its work,
+/// if there is one.
 pub fn do_due<R: Wait, D: CrashDisk, J: EffortJudge, B: Bell>(
     alloc: Global,
     rt: &R,
@@ -90,16 +99,27 @@ pub fn do_due<R: Wait, D: CrashDisk, J: EffortJudge, B: Bell>(
     requires state { (plan : Plan) × IsDoable D.face J.heard plan state.old watch.old due }
     requires done { IfSome done (IsForDue state.old.pool.now due) }
     ensures becomes { (plan : Plan) → IsDoable D.face J.heard plan state.old watch.old due →
-        OnOk result (Becomes D.face plan (events_in state.old ++ event_of (J.verdict watch.old.judge) plan (events_in state.old) due ∷ []) state.new) }
+        OnOk result
+        (Becomes D.face plan
+        (events_in state.old ++ event_of (J.verdict watch.old.judge) plan (events_in state.old) due ∷ [])
+        state.new) }
     ensures watches { (plan : Plan) → IsDoable D.face J.heard plan state.old watch.old due →
-        OnOk result (WatchesBy (ears J.heard J.verdict B.rung B.limit) plan (events_in state.old) (events_in state.new) watch.old watch.new) }
+        OnOk result
+        (WatchesBy (ears J.heard J.verdict B.rung B.limit) plan (events_in state.old) (events_in state.new)
+        watch.old watch.new) }
     ensures stops { (plan : Plan) → IsDoable D.face J.heard plan state.old watch.old due →
-        OnErr result (HasStopped D.face (ears J.heard J.verdict B.rung B.limit) plan (λ after. after ≡ events_in state.old ++ event_of (J.verdict watch.old.judge) plan (events_in state.old) due ∷ []) (events_in state.old) watch.old state.new watch.new) }
+        OnErr result
+        (HasStopped D.face (ears J.heard J.verdict B.rung B.limit) plan
+        (λ after. after
+        ≡ events_in state.old ++ event_of (J.verdict watch.old.judge) plan (events_in state.old) due ∷ [])
+        (events_in state.old) watch.old state.new watch.new) }
     ensures extends { (plan : Plan) → IsDoable D.face J.heard plan state.old watch.old due →
         Extends plan state.old.history.items state.new.history.items }
     ensures err { OnErr result (state.new.history.items ≡ state.old.history.items) }
-    ensures counted { Counted D.face state.old.seats.items state.new.seats.items result }
-    ensures power { (plan : Plan) (who : List ℕ) → SeatsPower D.face plan who (events_in state.old) (events_in state.new) state.old.seats.items state.new.seats.items result }
+    ensures counted { Counted D.face state.old.sites.items state.new.sites.items result }
+    ensures power { (plan : Plan) (who : List ℕ)
+        → SitesPower D.face plan who (events_in state.old) (events_in state.new) state.old.sites.items
+        state.new.sites.items result }
     ensures pool { state.new.pool.now ≡ state.old.pool.now }
 {
     let (s, deed) = step_of(alloc, state, watch, due)?;
@@ -121,15 +141,26 @@ pub fn do_next<R: Threads + Wait + Sync, D: CrashDisk, J: EffortJudge, B: Bell, 
     requires state { (plan : Plan) × IsDoable D.face J.heard plan state.old watch.old due }
     requires of { AreDoneOf state.old.pool.now beside.old.items }
     ensures becomes { (plan : Plan) → IsDoable D.face J.heard plan state.old watch.old due →
-        OnOk result (Becomes D.face plan (events_in state.old ++ event_of (J.verdict watch.old.judge) plan (events_in state.old) due ∷ []) state.new) }
+        OnOk result
+        (Becomes D.face plan
+        (events_in state.old ++ event_of (J.verdict watch.old.judge) plan (events_in state.old) due ∷ [])
+        state.new) }
     ensures watches { (plan : Plan) → IsDoable D.face J.heard plan state.old watch.old due →
-        OnOk result (WatchesBy (ears J.heard J.verdict B.rung B.limit) plan (events_in state.old) (events_in state.new) watch.old watch.new) }
+        OnOk result
+        (WatchesBy (ears J.heard J.verdict B.rung B.limit) plan (events_in state.old) (events_in state.new)
+        watch.old watch.new) }
     ensures stops { (plan : Plan) → IsDoable D.face J.heard plan state.old watch.old due →
-        OnErr result (HasStopped D.face (ears J.heard J.verdict B.rung B.limit) plan (λ after. after ≡ events_in state.old ++ event_of (J.verdict watch.old.judge) plan (events_in state.old) due ∷ []) (events_in state.old) watch.old state.new watch.new) }
+        OnErr result
+        (HasStopped D.face (ears J.heard J.verdict B.rung B.limit) plan
+        (λ after. after
+        ≡ events_in state.old ++ event_of (J.verdict watch.old.judge) plan (events_in state.old) due ∷ [])
+        (events_in state.old) watch.old state.new watch.new) }
     ensures extends { (plan : Plan) → IsDoable D.face J.heard plan state.old watch.old due →
         Extends plan state.old.history.items state.new.history.items }
-    ensures counted { Counted D.face state.old.seats.items state.new.seats.items result }
-    ensures power { (plan : Plan) (who : List ℕ) → SeatsPower D.face plan who (events_in state.old) (events_in state.new) state.old.seats.items state.new.seats.items result }
+    ensures counted { Counted D.face state.old.sites.items state.new.sites.items result }
+    ensures power { (plan : Plan) (who : List ℕ)
+        → SitesPower D.face plan who (events_in state.old) (events_in state.new) state.old.sites.items
+        state.new.sites.items result }
     ensures pool { state.new.pool.now ≡ state.old.pool.now }
     ensures of { AreDoneOf state.old.pool.now beside.new.items }
 {
@@ -149,15 +180,26 @@ pub fn add_due<R: Wait, D: CrashDisk, J: EffortJudge, B: Bell>(
 ) -> Result<(), WorldFault>
     requires { (plan : Plan) × IsDoable D.face J.heard plan state.old watch.old due }
     ensures becomes { (plan : Plan) → IsDoable D.face J.heard plan state.old watch.old due →
-        OnOk result (Becomes D.face plan (kept (events_in state.old) (event_of (J.verdict watch.old.judge) plan (events_in state.old) due)) state.new) }
+        OnOk result
+        (Becomes D.face plan
+        (kept (events_in state.old) (event_of (J.verdict watch.old.judge) plan (events_in state.old) due))
+        state.new) }
     ensures watches { (plan : Plan) → IsDoable D.face J.heard plan state.old watch.old due →
-        OnOk result (WatchesBy (ears J.heard J.verdict B.rung B.limit) plan (events_in state.old) (events_in state.new) watch.old watch.new) }
+        OnOk result
+        (WatchesBy (ears J.heard J.verdict B.rung B.limit) plan (events_in state.old) (events_in state.new)
+        watch.old watch.new) }
     ensures stops { (plan : Plan) → IsDoable D.face J.heard plan state.old watch.old due →
-        OnErr result (HasStopped D.face (ears J.heard J.verdict B.rung B.limit) plan (λ after. after ≡ kept (events_in state.old) (event_of (J.verdict watch.old.judge) plan (events_in state.old) due)) (events_in state.old) watch.old state.new watch.new) }
+        OnErr result
+        (HasStopped D.face (ears J.heard J.verdict B.rung B.limit) plan
+        (λ after. after
+        ≡ kept (events_in state.old) (event_of (J.verdict watch.old.judge) plan (events_in state.old) due))
+        (events_in state.old) watch.old state.new watch.new) }
     ensures extends { (plan : Plan) → IsDoable D.face J.heard plan state.old watch.old due →
         Extends plan state.old.history.items state.new.history.items }
-    ensures counted { Counted D.face state.old.seats.items state.new.seats.items result }
-    ensures power { (plan : Plan) (who : List ℕ) → SeatsPower D.face plan who (events_in state.old) (events_in state.new) state.old.seats.items state.new.seats.items result }
+    ensures counted { Counted D.face state.old.sites.items state.new.sites.items result }
+    ensures power { (plan : Plan) (who : List ℕ)
+        → SitesPower D.face plan who (events_in state.old) (events_in state.new) state.old.sites.items
+        state.new.sites.items result }
     ensures pool { state.new.pool.now ≡ state.old.pool.now }
 {
     if room(state) > 0 {
@@ -179,12 +221,14 @@ pub fn add_forgery<D: CrashDisk>(
     bytes: Bytes,
 ) -> Result<(), OutOfMemory>
     requires state { (plan : Plan) × IsStateOf D.face plan state.old }
-    ensures becomes { (plan : Plan) → IsStateOf D.face plan state.old → has_corrupt plan.peers from ≡ true → has_peer plan.peers to ≡ true → length bytes ≤ MOST_FORGED_BYTES →
+    ensures becomes { (plan : Plan) → IsStateOf D.face plan state.old → has_corrupt plan.peers from ≡ true
+        → has_peer plan.peers to ≡ true → length bytes ≤ MOST_FORGED_BYTES →
         OnOk result (Becomes D.face plan (kept (events_in state.old) (events.Forge from to bytes)) state.new) }
-    ensures extends { (plan : Plan) → IsStateOf D.face plan state.old → has_corrupt plan.peers from ≡ true → has_peer plan.peers to ≡ true → length bytes ≤ MOST_FORGED_BYTES →
+    ensures extends { (plan : Plan) → IsStateOf D.face plan state.old → has_corrupt plan.peers from ≡ true
+        → has_peer plan.peers to ≡ true → length bytes ≤ MOST_FORGED_BYTES →
         Extends plan state.old.history.items state.new.history.items }
     ensures err { OnErr result (state.new.history.items ≡ state.old.history.items) }
-    ensures seats { state.new.seats.items ≡ state.old.seats.items }
+    ensures sites { state.new.sites.items ≡ state.old.sites.items }
     ensures pool { state.new.pool.now ≡ state.old.pool.now }
 {
     are_bytes(bytes.as_slice());
@@ -201,9 +245,10 @@ pub fn add_ticks<D: CrashDisk>(state: &mut State<'_, D>, by: u32) -> Result<(), 
     requires state { (plan : Plan) × IsStateOf D.face plan state.old }
     ensures becomes { (plan : Plan) → IsStateOf D.face plan state.old →
         OnOk result (Becomes D.face plan (kept (events_in state.old) (events.Tick by)) state.new) }
-    ensures extends { (plan : Plan) → IsStateOf D.face plan state.old → Extends plan state.old.history.items state.new.history.items }
+    ensures extends { (plan : Plan) → IsStateOf D.face plan state.old
+        → Extends plan state.old.history.items state.new.history.items }
     ensures err { OnErr result (state.new.history.items ≡ state.old.history.items) }
-    ensures seats { state.new.seats.items ≡ state.old.seats.items }
+    ensures sites { state.new.sites.items ≡ state.old.sites.items }
     ensures pool { state.new.pool.now ≡ state.old.pool.now }
 {
     if room(state) > 0 {
@@ -219,7 +264,7 @@ pub fn add_loss<D: CrashDisk>(state: &mut State<'_, D>, envelope: u32) -> Result
     ensures extends { (plan : Plan) → IsStateOf D.face plan state.old → WasSent (world_in D.face state.old) envelope →
         Extends plan state.old.history.items state.new.history.items }
     ensures err { OnErr result (state.new.history.items ≡ state.old.history.items) }
-    ensures seats { state.new.seats.items ≡ state.old.seats.items }
+    ensures sites { state.new.sites.items ≡ state.old.sites.items }
     ensures pool { state.new.pool.now ≡ state.old.pool.now }
 {
     if room(state) > 0 {
@@ -232,9 +277,10 @@ pub fn add_loss<D: CrashDisk>(state: &mut State<'_, D>, envelope: u32) -> Result
 pub fn add_crash<D: CrashDisk>(state: &mut State<'_, D>, peer: PeerId) -> Result<(), OutOfMemory>
     ensures becomes { (plan : Plan) → IsStateOf D.face plan state.old → IsHonest plan peer →
         OnOk result (Becomes D.face plan (kept (events_in state.old) (events.Crash peer)) state.new) }
-    ensures extends { (plan : Plan) → IsStateOf D.face plan state.old → IsHonest plan peer → Extends plan state.old.history.items state.new.history.items }
+    ensures extends { (plan : Plan) → IsStateOf D.face plan state.old → IsHonest plan peer
+        → Extends plan state.old.history.items state.new.history.items }
     ensures err { OnErr result (state.new.history.items ≡ state.old.history.items) }
-    ensures seats { state.new.seats.items ≡ state.old.seats.items }
+    ensures sites { state.new.sites.items ≡ state.old.sites.items }
     ensures pool { state.new.pool.now ≡ state.old.pool.now }
 {
     if room(state) > 0 {

@@ -1,13 +1,14 @@
-//! Jobs that are hashed side by side, and their results, which wait beside a world until their work is the first one due.
+//! Jobs that are hashed side by side, and their results, which wait beside a world until their work is the first one
+//! due.
 
 ghost use Rattle.std.specs.Prelude.{◌≡◌, ℕ, List, IfOk, IfSome};
 ghost use Rattle.lks_base.specs.declared.events.Due.TheVariants as dues;
 ghost use Rattle.lks_blocks.specs.Block.{AllOf};
 ghost use Rattle.lks_farm.specs.Batches.{AreDoneOf, AreOf};
 ghost use Rattle.lks_work.specs.Names.{name_done, refs_done, step_named};
-ghost use Rattle.lks_world.specs.Beside.{unplaced, unplaced_at, ArePooled, AreSameSeats, IsForDue, IsPooled};
+ghost use Rattle.lks_world.specs.Beside.{unplaced, unplaced_at, ArePooled, AreSameSites, IsForDue, IsPooled};
 
-use crate::seats::{Seat, place_of};
+use crate::sites::{Site, place_of};
 use crate::states::State;
 use lks_base::{Due, Entry, OutOfMemory, PeerStep};
 use lks_blocks::BlockPool;
@@ -101,15 +102,15 @@ fn add_jobs<D: Disk>(
     Ok(())
 }
 
-impl<D: Disk> Seat<D> {
+impl<D: Disk> Site<D> {
     /// The same of whoever sits there.
     fn add_jobs(&mut self, beside: &[JobDone], jobs: &mut Vec<Job>) -> Result<(), OutOfMemory>
         ensures same { unplaced_at self.new ≡ unplaced_at self.old }
         ensures of { (pool : List ℕ) → IsPooled pool self.old → AreOf pool jobs.old.items → AreOf pool jobs.new.items }
     {
         match self {
-            Seat::Host(host) => add_jobs(host, beside, jobs),
-            Seat::Idle(_) => Ok(()),
+            Site::Host(host) => add_jobs(host, beside, jobs),
+            Site::Idle(_) => Ok(()),
         }
     }
 
@@ -118,8 +119,8 @@ impl<D: Disk> Seat<D> {
         ensures { unplaced_at self.new ≡ unplaced_at self.old }
     {
         match self {
-            Seat::Host(host) => Ok(host.expected(done)? == Some(done.tag())),
-            Seat::Idle(_) => Ok(false),
+            Site::Host(host) => Ok(host.expected(done)? == Some(done.tag())),
+            Site::Idle(_) => Ok(false),
         }
     }
 }
@@ -127,15 +128,15 @@ impl<D: Disk> Seat<D> {
 /// The jobs of all peers' ready work that has no result.
 fn gather<D: Disk>(
     alloc: Global,
-    seats: &mut Vec<Seat<D>>,
+    sites: &mut Vec<Site<D>>,
     beside: &[JobDone],
 ) -> Result<Vec<Job>, OutOfMemory>
-    ensures same { AreSameSeats seats.old.items seats.new.items }
-    ensures of { (pool : List ℕ) → ArePooled pool seats.old.items → IfOk result (λ jobs. AreOf pool jobs.items) }
+    ensures same { AreSameSites sites.old.items sites.new.items }
+    ensures of { (pool : List ℕ) → ArePooled pool sites.old.items → IfOk result (λ jobs. AreOf pool jobs.items) }
 {
     let mut jobs = Vec::new(alloc);
-    for place in 0..seats.len() {
-        seats[place].add_jobs(beside, &mut jobs)?;
+    for place in 0..sites.len() {
+        sites[place].add_jobs(beside, &mut jobs)?;
     }
     Ok(jobs)
 }
@@ -146,15 +147,15 @@ fn hash_ready<R: Threads + Wait + Sync, D: Disk, G: Gate>(
     rt: &R,
     pool: &BlockPool,
     gate: &G,
-    seats: &mut Vec<Seat<D>>,
+    sites: &mut Vec<Site<D>>,
     beside: &mut Vec<JobDone>,
 ) -> Result<(), OutOfMemory>
-    requires pooled { ArePooled pool.now seats.old.items }
+    requires pooled { ArePooled pool.now sites.old.items }
     requires of { AreDoneOf pool.now beside.old.items }
-    ensures same { AreSameSeats seats.old.items seats.new.items }
+    ensures same { AreSameSites sites.old.items sites.new.items }
     ensures of { AreDoneOf pool.now beside.new.items }
 {
-    let jobs = gather(alloc, seats, beside.as_slice())?;
+    let jobs = gather(alloc, sites, beside.as_slice())?;
     let mut done = hash_batch(alloc, rt, pool, gate, jobs)?;
     beside.append(&mut done)?;
     Ok(())
@@ -162,30 +163,31 @@ fn hash_ready<R: Threads + Wait + Sync, D: Disk, G: Gate>(
 
 /// Takes the result of this job, if it waits and would be taken now. One that is stale is dropped.
 fn take_fresh<D: Disk>(
-    seats: &mut Vec<Seat<D>>,
+    sites: &mut Vec<Site<D>>,
     beside: &mut Vec<JobDone>,
     name: JobName,
 ) -> Result<Option<JobDone>, OutOfMemory>
-    ensures same { AreSameSeats seats.old.items seats.new.items }
+    ensures same { AreSameSites sites.old.items sites.new.items }
     ensures name { IfOk result (λ o. IfSome o (λ d. name_done d ≡ name)) }
-    ensures of { (pool : List ℕ) → AreDoneOf pool beside.old.items → IfOk result (λ o. IfSome o (λ d. AllOf pool (refs_done d))) }
+    ensures of { (pool : List ℕ) → AreDoneOf pool beside.old.items
+        → IfOk result (λ o. IfSome o (λ d. AllOf pool (refs_done d))) }
     ensures rest { (pool : List ℕ) → AreDoneOf pool beside.old.items → AreDoneOf pool beside.new.items }
 {
     let Some(done) = take_result(beside, name) else {
         return Ok(None);
     };
-    let Some(place) = place_of(seats, name.peer()) else {
+    let Some(place) = place_of(sites, name.peer()) else {
         return Ok(None);
     };
-    if seats[place].would_take(&done)? {
+    if sites[place].would_take(&done)? {
         Ok(Some(done))
     } else {
         Ok(None)
     }
 }
 
-/// The result of what is due, if it is work: the one that waits, or else one that is made now, together with those of all
-/// other ready work that has none.
+/// The result of what is due, if it is work: the one that waits, or else one that is made now, together with those of
+/// all other ready work that has none.
 pub fn result_for<R: Threads + Wait + Sync, D: CrashDisk, G: Gate>(
     alloc: Global,
     rt: &R,
@@ -194,20 +196,20 @@ pub fn result_for<R: Threads + Wait + Sync, D: CrashDisk, G: Gate>(
     due: Due,
     beside: &mut Vec<JobDone>,
 ) -> Result<Option<JobDone>, OutOfMemory>
-    requires pooled { ArePooled state.old.pool.now state.old.seats.items }
+    requires pooled { ArePooled state.old.pool.now state.old.sites.items }
     requires of { AreDoneOf state.old.pool.now beside.old.items }
-    ensures same { AreSameSeats state.old.seats.items state.new.seats.items }
-    ensures rest { state.new ≡ record state.old { seats = state.new.seats } }
+    ensures same { AreSameSites state.old.sites.items state.new.sites.items }
+    ensures rest { state.new ≡ record state.old { sites = state.new.sites } }
     ensures result { IfOk result (λ o. IfSome o (IsForDue state.old.pool.now due)) }
     ensures of { AreDoneOf state.old.pool.now beside.new.items }
 {
     let Some(name) = work_in(due) else {
         return Ok(None);
     };
-    if let Some(done) = take_fresh(&mut state.seats, beside, name)? {
+    if let Some(done) = take_fresh(&mut state.sites, beside, name)? {
         return Ok(Some(done));
     }
-    hash_ready(alloc, rt, state.pool, gate, &mut state.seats, beside)?;
+    hash_ready(alloc, rt, state.pool, gate, &mut state.sites, beside)?;
     Ok(take_result(beside, name))
 }
 

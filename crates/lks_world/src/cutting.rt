@@ -1,6 +1,7 @@
 //! Peers whose power fails, at a call of the disk in a step or between two events.
 
-ghost use Rattle.std.specs.Prelude.{◌≡◌, ◌<◌, ◌-◌, true, None, Some, IfOk, IfSome, IsSome, OnOk, OnErr, length, List, ◌∷◌, []};
+ghost use Rattle.std.specs.Prelude.{◌≡◌, ◌<◌, ◌-◌, true, None, Some, IfOk, IfSome, IsSome, OnOk, OnErr, length, List};
+ghost use Rattle.std.specs.Prelude.{◌∷◌, []};
 ghost use Rattle.lks_base.specs.Checking.{plan_fault};
 ghost use Rattle.lks_base.specs.declared.events.Event.TheVariants as events;
 ghost use Rattle.lks_base.specs.declared.limits.TheConstants.{MOST_EVENTS};
@@ -20,10 +21,13 @@ ghost use Rattle.lks_script.specs.StepRules.{is_cut_step};
 ghost use Rattle.lks_watch.specs.Watching.{ears, AsksOn, WatchesBy};
 ghost use Rattle.lks_watch.specs.declared.watches.Watch.{Watch};
 ghost use Rattle.lks_world.specs.Cuts.{taker_of, due_cut, step_cut, Cuts, CutsOff};
-ghost use Rattle.lks_world.specs.Endings.{answer_to, AreMade, BurnsFor, BurnsUnless, CanTake, HasEnded, HostEnds, PeersEnd, PowerEnds, SeatsBurnFor, ending_of, event_for, is_whole, notes_for, sends_for};
-ghost use Rattle.lks_world.specs.Hosts.{peer_in, peers_of, IsReady, AreReady, GoesOn, HaveGoneOn, HaveFallen, HasActed, LosesPower};
+ghost use Rattle.lks_world.specs.Endings.{answer_to, AreMade, BurnsFor, BurnsUnless, CanTake, HasEnded, HostEnds};
+ghost use Rattle.lks_world.specs.Endings.{PeersEnd, PowerEnds, SitesBurnFor, ending_of, event_for, is_whole};
+ghost use Rattle.lks_world.specs.Endings.{notes_for, sends_for};
+ghost use Rattle.lks_world.specs.Hosts.{peer_in, peers_of, IsReady, AreReady, GoesOn, HaveGoneOn, HaveFallen};
+ghost use Rattle.lks_world.specs.Hosts.{HasActed, LosesPower};
 ghost use Rattle.lks_world.specs.Kept.{kept};
-ghost use Rattle.lks_world.specs.Seats.{hosts_of, Counted, Powered, SeatsBurn, SeatsPower};
+ghost use Rattle.lks_world.specs.Sites.{hosts_of, Counted, Powered, SitesBurn, SitesPower};
 ghost use Rattle.lks_world.specs.States.{events_in, world_in, IsStateOf, AreLeft, Becomes, Extends};
 ghost use Rattle.lks_world.specs.Spending.{cut_of};
 ghost use Rattle.lks_world.specs.Stopping.{HasStopped};
@@ -33,15 +37,14 @@ use crate::adding::{add_crash, room, take_step};
 use crate::deeds::{Deed, taker};
 use crate::faults::{WorldFault, blame};
 use crate::other_events;
-use crate::seats::{Seat, place_of};
 use crate::settling::{first_waiting, step_of, was_sent};
+use crate::sites::{Site, place_of};
 use crate::states::{Done, State, actor, note_step, nothing_done};
-use lks_alarm::Bell;
 use lks_base::{Due, Event, Input, Note, OutOfMemory, PeerId, PeerStep, Plan, Reaction, Seq};
 use lks_blocks::BlockPool;
 use lks_disk::{CrashDisk, Disk};
-use lks_effort::EffortJudge;
-use lks_host::{Host, Outcome, cut_step, restart};
+use lks_host::{AfterCut, Host, cut_step, restart};
+use lks_outside::{Bell, EffortJudge};
 use lks_script::CutStep;
 use lks_watch::Watch;
 use std::alloc::Global;
@@ -84,7 +87,8 @@ fn restart_as<R: Wait, D: CrashDisk>(
     requires made { IsMadeBy plan.now host.old.peer.own }
     ensures peer { OnOk result (peer_in D.face host.new ≡ peer_in D.face host.old) }
     ensures on { OnOk result (GoesOn D.face host.old host.new) }
-    ensures falls { (batches : List (List Recorded)) → StandsFor D.face host.old batches → OnErr result (Falls D.face batches batches host.new.journal.disk) }
+    ensures falls { (batches : List (List Recorded)) → StandsFor D.face host.old batches
+        → OnErr result (Falls D.face batches batches host.new.journal.disk) }
     ensures acted { HasActed D.face host.old host.new result }
     ensures power { LosesPower D.face host.old.journal.disk host.new.journal.disk result }
     ensures burns { D.face.burns host.new.journal.disk ≡ D.face.burns host.old.journal.disk }
@@ -96,16 +100,16 @@ fn restart_as<R: Wait, D: CrashDisk>(
 }
 
 /// What is noted of an outcome.
-fn note_outcome<D: Disk>(host: &Host<D>, outcome: Outcome) -> Result<Ending, OutOfMemory>
+fn note_outcome<D: Disk>(host: &Host<D>, outcome: AfterCut) -> Result<Ending, OutOfMemory>
     ensures { IfOk result (λ e. e ≡ ending_of (has_inner_in host.now.peer.state) outcome) }
 {
     match outcome {
-        Outcome::Whole(Reaction { records, sends }) => {
+        AfterCut::Whole(Reaction { records, sends }) => {
             let notes = host.notes(records.as_slice())?;
             Ok(Ending::Whole(Done { notes, sends }))
         }
-        Outcome::Kept(records) => Ok(Ending::Kept(host.notes(records.as_slice())?)),
-        Outcome::Lost => Ok(Ending::Lost),
+        AfterCut::Kept(records) => Ok(Ending::Kept(host.notes(records.as_slice())?)),
+        AfterCut::Lost => Ok(Ending::Lost),
     }
 }
 
@@ -122,13 +126,20 @@ fn cut_input<R: Wait, D: CrashDisk>(
     requires ready { IsReady D.face pool.now host.old }
     requires made { IsMadeBy plan.now host.old.peer.own }
     requires heard { IsHeard input.now }
-    ensures ends { IfOk result (HostEnds D.face (reaction host.old.peer.own (journal_on D.face host.old.journal.disk) tick input.now) power.calls host.old host.new) }
+    ensures ends { IfOk result
+        (HostEnds D.face (reaction host.old.peer.own (journal_on D.face host.old.journal.disk) tick input.now)
+        power.calls host.old host.new) }
     ensures on { OnOk result (GoesOn D.face host.old host.new) }
     ensures falls { (batches : List (List Recorded)) → StandsFor D.face host.old batches →
-        OnErr result (Falls D.face batches (with_batch batches (reaction host.old.peer.own (journal_on D.face host.old.journal.disk) tick input.now).records) host.new.journal.disk) }
+        OnErr result
+        (Falls D.face batches
+        (with_batch batches
+        (reaction host.old.peer.own (journal_on D.face host.old.journal.disk) tick input.now).records)
+        host.new.journal.disk) }
     ensures acted { HasActed D.face host.old host.new result }
     ensures power { LosesPower D.face host.old.journal.disk host.new.journal.disk result }
-    ensures burns { IfOk result (λ e. BurnsFor D.face power.calls power.choice e host.old.journal.disk host.new.journal.disk) }
+    ensures burns { IfOk result
+        (λ e. BurnsFor D.face power.calls power.choice e host.old.journal.disk host.new.journal.disk) }
 {
     let (calls, choice) = (u32::from(power.calls), u64::from(power.choice));
     match cut_step(rt, pool, host, plan, tick, input, calls, choice) {
@@ -151,13 +162,17 @@ fn cut_as<R: Wait, D: CrashDisk>(
     requires ready { IsReady D.face pool.now host.old }
     requires made { IsMadeBy plan.now host.old.peer.own }
     requires heard { IfSome deed.now (λ d. IsHeard d.input) }
-    ensures ends { IfOk result (HostEnds D.face (answer_to tick (peer_in D.face host.old) deed.now) power.calls host.old host.new) }
+    ensures ends { IfOk result
+        (HostEnds D.face (answer_to tick (peer_in D.face host.old) deed.now) power.calls host.old host.new) }
     ensures on { OnOk result (GoesOn D.face host.old host.new) }
     ensures falls { (batches : List (List Recorded)) → StandsFor D.face host.old batches →
-        OnErr result (Falls D.face batches (with_batch batches (answer_to tick (peer_in D.face host.old) deed.now).records) host.new.journal.disk) }
+        OnErr result
+        (Falls D.face batches (with_batch batches (answer_to tick (peer_in D.face host.old) deed.now).records)
+        host.new.journal.disk) }
     ensures acted { HasActed D.face host.old host.new result }
     ensures power { LosesPower D.face host.old.journal.disk host.new.journal.disk result }
-    ensures burns { IfOk result (λ e. BurnsFor D.face power.calls power.choice e host.old.journal.disk host.new.journal.disk) }
+    ensures burns { IfOk result
+        (λ e. BurnsFor D.face power.calls power.choice e host.old.journal.disk host.new.journal.disk) }
 {
     match deed {
         Some(deed) => cut_input(rt, pool, plan, host, tick, &deed.input, power),
@@ -168,35 +183,39 @@ fn cut_as<R: Wait, D: CrashDisk>(
     }
 }
 
-/// An honest peer takes a step on its seat while its power fails.
+/// An honest peer takes a step on its site while its power fails.
 fn cut_at<R: Wait, D: CrashDisk>(
     alloc: Global,
     rt: &R,
     pool: &BlockPool,
     plan: &Plan,
-    seats: &mut Vec<Seat<D>>,
+    sites: &mut Vec<Site<D>>,
     tick: u32,
     id: PeerId,
     deed: &Option<Deed>,
     power: Power,
 ) -> Result<Ending, WorldFault>
-    requires ready { AreReady D.face pool.now (hosts_of seats.old.items) }
-    requires made { AreMade plan.now (hosts_of seats.old.items) }
-    requires there { IsSome (peer_at id (peers_of D.face (hosts_of seats.old.items))) }
+    requires ready { AreReady D.face pool.now (hosts_of sites.old.items) }
+    requires made { AreMade plan.now (hosts_of sites.old.items) }
+    requires there { IsSome (peer_at id (peers_of D.face (hosts_of sites.old.items))) }
     requires told { IfSome deed.now (λ d. IsHeard d.input × (d.peer ≡ id)) }
-    ensures ends { IfOk result (PeersEnd tick deed.now power.calls (peers_of D.face (hosts_of seats.old.items)) (peers_of D.face (hosts_of seats.new.items))) }
-    ensures on { OnOk result (HaveGoneOn D.face (hosts_of seats.old.items) (hosts_of seats.new.items)) }
-    ensures fallen { OnErr result (HaveFallen D.face (hosts_of seats.old.items) (peers_after tick (peers_of D.face (hosts_of seats.old.items)) deed.now) (hosts_of seats.new.items)) }
-    ensures counted { Counted D.face seats.old.items seats.new.items result }
-    ensures power { PowerEnds D.face is_whole id seats.old.items seats.new.items result }
-    ensures burns { IfOk result (SeatsBurnFor D.face power.calls power.choice id seats.old.items seats.new.items) }
+    ensures ends { IfOk result
+        (PeersEnd tick deed.now power.calls (peers_of D.face (hosts_of sites.old.items))
+        (peers_of D.face (hosts_of sites.new.items))) }
+    ensures on { OnOk result (HaveGoneOn D.face (hosts_of sites.old.items) (hosts_of sites.new.items)) }
+    ensures fallen { OnErr result
+        (HaveFallen D.face (hosts_of sites.old.items)
+        (peers_after tick (peers_of D.face (hosts_of sites.old.items)) deed.now) (hosts_of sites.new.items)) }
+    ensures counted { Counted D.face sites.old.items sites.new.items result }
+    ensures power { PowerEnds D.face is_whole id sites.old.items sites.new.items result }
+    ensures burns { IfOk result (SitesBurnFor D.face power.calls power.choice id sites.old.items sites.new.items) }
 {
-    let Some(place) = place_of(seats, id) else {
+    let Some(place) = place_of(sites, id) else {
         unreachable!()
     };
-    match &mut seats[place] {
-        Seat::Host(host) => cut_as(alloc, rt, pool, plan, host, tick, deed, power),
-        Seat::Idle(_) => unreachable!(),
+    match &mut sites[place] {
+        Site::Host(host) => cut_as(alloc, rt, pool, plan, host, tick, deed, power),
+        Site::Idle(_) => unreachable!(),
     }
 }
 
@@ -245,13 +264,22 @@ fn cut_there<R: Wait, D: CrashDisk, J: EffortJudge, B: Bell>(
     ensures ended { IfOk result (HasEnded D.face plan.now power.calls state.old s state.new) }
     ensures err { OnErr result (state.new.history.items ≡ state.old.history.items) }
     ensures fallen { OnErr result (AreLeft D.face plan.now (Some s) state.new) }
-    ensures counted { Counted D.face state.old.seats.items state.new.seats.items result }
-    ensures power { PowerEnds D.face (λ is_done. is_done) (taker_of state.old.bag.items s) state.old.seats.items state.new.seats.items result }
-    ensures burns { IfOk result (BurnsUnless D.face power.calls power.choice (taker_of state.old.bag.items s) state.old.seats.items state.new.seats.items) }
-    ensures watches { (first : Watch J B) → AsksOn (ears J.heard J.verdict B.rung B.limit) (world_in D.face state.old) s first watch.old →
-        OnOk result (WatchesBy (ears J.heard J.verdict B.rung B.limit) plan.now (events_in state.old) (events_in state.new) first watch.new) }
-    ensures stops { (first : Watch J B) → AsksOn (ears J.heard J.verdict B.rung B.limit) (world_in D.face state.old) s first watch.old →
-        OnErr result (StopsBy (ears J.heard J.verdict B.rung B.limit) plan.now (events_in state.old) (events_in state.new) (Some s) first watch.new) }
+    ensures counted { Counted D.face state.old.sites.items state.new.sites.items result }
+    ensures power { PowerEnds D.face (λ is_done. is_done) (taker_of state.old.bag.items s) state.old.sites.items
+        state.new.sites.items result }
+    ensures burns { IfOk result
+        (BurnsUnless D.face power.calls power.choice (taker_of state.old.bag.items s) state.old.sites.items
+        state.new.sites.items) }
+    ensures watches { (first : Watch J B)
+        → AsksOn (ears J.heard J.verdict B.rung B.limit) (world_in D.face state.old) s first watch.old →
+        OnOk result
+        (WatchesBy (ears J.heard J.verdict B.rung B.limit) plan.now (events_in state.old) (events_in state.new)
+        first watch.new) }
+    ensures stops { (first : Watch J B)
+        → AsksOn (ears J.heard J.verdict B.rung B.limit) (world_in D.face state.old) s first watch.old →
+        OnErr result
+        (StopsBy (ears J.heard J.verdict B.rung B.limit) plan.now (events_in state.old) (events_in state.new)
+        (Some s) first watch.new) }
     ensures pool { state.new.pool.now ≡ state.old.pool.now }
 {
     let id = taker(&state.bag, s);
@@ -260,7 +288,7 @@ fn cut_there<R: Wait, D: CrashDisk, J: EffortJudge, B: Bell>(
         rt,
         state.pool,
         plan,
-        &mut state.seats,
+        &mut state.sites,
         state.tick,
         id,
         deed,
@@ -272,7 +300,8 @@ fn cut_there<R: Wait, D: CrashDisk, J: EffortJudge, B: Bell>(
     Ok(whole)
 }
 
-/// Does a step while the power of its peer fails, where there is room for its event and the judge was asked what it asks.
+/// Does a step while the power of its peer fails, where there is room for its event and the judge was asked what it
+/// asks.
 fn cut_off<R: Wait, D: CrashDisk, J: EffortJudge, B: Bell>(
     alloc: Global,
     rt: &R,
@@ -288,19 +317,30 @@ fn cut_off<R: Wait, D: CrashDisk, J: EffortJudge, B: Bell>(
     requires may { MayStep plan.now (world_in D.face state.old) s }
     requires deed { deed.now ≡ deed_of state.old.bag.items s }
     requires heard { IfSome deed.now (λ d. IsHeard d.input) }
-    ensures cuts { OnOk result (IsStateOf D.face plan.now state.new × Cuts plan.now (events_in state.old) power.calls s (events_in state.new)) }
+    ensures cuts { OnOk result
+        (IsStateOf D.face plan.now state.new
+        × Cuts plan.now (events_in state.old) power.calls s (events_in state.new)) }
     ensures extends { Extends plan.now state.old.history.items state.new.history.items }
-    ensures counted { Counted D.face state.old.seats.items state.new.seats.items result }
-    ensures power { SeatsPower D.face plan.now (taker_of (world plan.now (events_in state.old)).bag s ∷ []) (events_in state.old) (events_in state.new) state.old.seats.items state.new.seats.items result }
-    ensures burns { OnOk result (SeatsBurn D.face plan.now (events_in state.old) power.calls power.choice state.old.seats.items state.new.seats.items s) }
-    ensures watches { (first : Watch J B) → AsksOn (ears J.heard J.verdict B.rung B.limit) (world_in D.face state.old) s first watch.old →
-        OnOk result (WatchesBy (ears J.heard J.verdict B.rung B.limit) plan.now (events_in state.old) (events_in state.new) first watch.new) }
-    ensures stops { (first : Watch J B) → AsksOn (ears J.heard J.verdict B.rung B.limit) (world_in D.face state.old) s first watch.old →
-        OnErr result (HasStopped D.face (ears J.heard J.verdict B.rung B.limit) plan.now (Cuts plan.now (events_in state.old) power.calls s) (events_in state.old) first state.new watch.new) }
+    ensures counted { Counted D.face state.old.sites.items state.new.sites.items result }
+    ensures power { SitesPower D.face plan.now (taker_of (world plan.now (events_in state.old)).bag s ∷ [])
+        (events_in state.old) (events_in state.new) state.old.sites.items state.new.sites.items result }
+    ensures burns { OnOk result
+        (SitesBurn D.face plan.now (events_in state.old) power.calls power.choice state.old.sites.items
+        state.new.sites.items s) }
+    ensures watches { (first : Watch J B)
+        → AsksOn (ears J.heard J.verdict B.rung B.limit) (world_in D.face state.old) s first watch.old →
+        OnOk result
+        (WatchesBy (ears J.heard J.verdict B.rung B.limit) plan.now (events_in state.old) (events_in state.new)
+        first watch.new) }
+    ensures stops { (first : Watch J B)
+        → AsksOn (ears J.heard J.verdict B.rung B.limit) (world_in D.face state.old) s first watch.old →
+        OnErr result
+        (HasStopped D.face (ears J.heard J.verdict B.rung B.limit) plan.now
+        (Cuts plan.now (events_in state.old) power.calls s) (events_in state.old) first state.new watch.new) }
     ensures pool { state.new.pool.now ≡ state.old.pool.now }
 {
     let id = taker(&state.bag, s);
-    if place_of(&state.seats, id).is_none() {
+    if place_of(&state.sites, id).is_none() {
         return take_step(alloc, rt, state, watch, s, deed, None);
     }
     if cut_there(alloc, rt, plan, state, watch, s, deed, power)? {
@@ -342,15 +382,28 @@ pub fn cut<R: Wait, D: CrashDisk, J: EffortJudge, B: Bell>(
 ) -> Result<(), WorldFault>
     requires good { plan_fault plan.now ≡ None }
     requires legal { is_cut_step plan.now step ≡ true }
-    requires state { IsStateOf D.face plan.now state.old × (J.heard watch.old.judge ≡ questions plan.now (events_in state.old)) }
+    requires state { IsStateOf D.face plan.now state.old
+        × (J.heard watch.old.judge ≡ questions plan.now (events_in state.old)) }
     ensures state { OnOk result (IsStateOf D.face plan.now state.new) }
-    ensures cuts { OnOk result (CutsOff plan.now (events_in state.old) power.calls (step_cut (J.verdict watch.old.judge) plan.now (events_in state.old) step) (events_in state.new)
-        × WatchesBy (ears J.heard J.verdict B.rung B.limit) plan.now (events_in state.old) (events_in state.new) watch.old watch.new) }
-    ensures stops { OnErr result (HasStopped D.face (ears J.heard J.verdict B.rung B.limit) plan.now (CutsOff plan.now (events_in state.old) power.calls (step_cut (J.verdict watch.old.judge) plan.now (events_in state.old) step)) (events_in state.old) watch.old state.new watch.new) }
+    ensures cuts { OnOk result
+        (CutsOff plan.now (events_in state.old) power.calls
+        (step_cut (J.verdict watch.old.judge) plan.now (events_in state.old) step) (events_in state.new)
+        × WatchesBy (ears J.heard J.verdict B.rung B.limit) plan.now (events_in state.old) (events_in state.new)
+        watch.old watch.new) }
+    ensures stops { OnErr result
+        (HasStopped D.face (ears J.heard J.verdict B.rung B.limit) plan.now
+        (CutsOff plan.now (events_in state.old) power.calls
+        (step_cut (J.verdict watch.old.judge) plan.now (events_in state.old) step)) (events_in state.old)
+        watch.old state.new watch.new) }
     ensures extends { Extends plan.now state.old.history.items state.new.history.items }
-    ensures counted { Counted D.face state.old.seats.items state.new.seats.items result }
-    ensures power { SeatsPower D.face plan.now (cut_of (J.verdict watch.old.judge) plan.now (events_in state.old) step) (events_in state.old) (events_in state.new) state.old.seats.items state.new.seats.items result }
-    ensures burns { OnOk result (IfSome (step_cut (J.verdict watch.old.judge) plan.now (events_in state.old) step) (SeatsBurn D.face plan.now (events_in state.old) power.calls power.choice state.old.seats.items state.new.seats.items)) }
+    ensures counted { Counted D.face state.old.sites.items state.new.sites.items result }
+    ensures power { SitesPower D.face plan.now
+        (cut_of (J.verdict watch.old.judge) plan.now (events_in state.old) step) (events_in state.old)
+        (events_in state.new) state.old.sites.items state.new.sites.items result }
+    ensures burns { OnOk result
+        (IfSome (step_cut (J.verdict watch.old.judge) plan.now (events_in state.old) step)
+        (SitesBurn D.face plan.now (events_in state.old) power.calls power.choice state.old.sites.items
+        state.new.sites.items)) }
     ensures pool { state.new.pool.now ≡ state.old.pool.now }
 {
     if room(state) == 0 {
@@ -370,23 +423,26 @@ fn reopen<R: Wait, D: CrashDisk>(
     rt: &R,
     pool: &BlockPool,
     plan: &Plan,
-    seats: &mut Vec<Seat<D>>,
+    sites: &mut Vec<Site<D>>,
     id: PeerId,
 ) -> Result<(), WorldFault>
-    requires ready { AreReady D.face pool.now (hosts_of seats.old.items) }
-    requires made { AreMade plan.now (hosts_of seats.old.items) }
-    ensures peers { OnOk result (peers_of D.face (hosts_of seats.new.items) ≡ peers_of D.face (hosts_of seats.old.items)) }
-    ensures on { OnOk result (HaveGoneOn D.face (hosts_of seats.old.items) (hosts_of seats.new.items)) }
-    ensures fallen { OnErr result (HaveFallen D.face (hosts_of seats.old.items) (peers_of D.face (hosts_of seats.old.items)) (hosts_of seats.new.items)) }
-    ensures counted { Counted D.face seats.old.items seats.new.items result }
-    ensures power { Powered D.face [] (id ∷ []) seats.old.items seats.new.items }
+    requires ready { AreReady D.face pool.now (hosts_of sites.old.items) }
+    requires made { AreMade plan.now (hosts_of sites.old.items) }
+    ensures peers { OnOk result
+        (peers_of D.face (hosts_of sites.new.items) ≡ peers_of D.face (hosts_of sites.old.items)) }
+    ensures on { OnOk result (HaveGoneOn D.face (hosts_of sites.old.items) (hosts_of sites.new.items)) }
+    ensures fallen { OnErr result
+        (HaveFallen D.face (hosts_of sites.old.items) (peers_of D.face (hosts_of sites.old.items))
+        (hosts_of sites.new.items)) }
+    ensures counted { Counted D.face sites.old.items sites.new.items result }
+    ensures power { Powered D.face [] (id ∷ []) sites.old.items sites.new.items }
 {
-    let Some(place) = place_of(seats, id) else {
+    let Some(place) = place_of(sites, id) else {
         return Ok(());
     };
-    match &mut seats[place] {
-        Seat::Host(host) => restart_as(rt, pool, plan, host),
-        Seat::Idle(_) => unreachable!(),
+    match &mut sites[place] {
+        Site::Host(host) => restart_as(rt, pool, plan, host),
+        Site::Idle(_) => unreachable!(),
     }
 }
 
@@ -404,13 +460,14 @@ pub fn crash<R: Wait, D: CrashDisk>(
     ensures err { OnErr result (state.new.history.items ≡ state.old.history.items) }
     ensures extends { Extends plan.now state.old.history.items state.new.history.items }
     ensures fallen { OnErr result (AreLeft D.face plan.now None state.new) }
-    ensures counted { Counted D.face state.old.seats.items state.new.seats.items result }
-    ensures power { SeatsPower D.face plan.now (peer ∷ []) (events_in state.old) (events_in state.new) state.old.seats.items state.new.seats.items result }
+    ensures counted { Counted D.face state.old.sites.items state.new.sites.items result }
+    ensures power { SitesPower D.face plan.now (peer ∷ []) (events_in state.old) (events_in state.new)
+        state.old.sites.items state.new.sites.items result }
     ensures pool { state.new.pool.now ≡ state.old.pool.now }
 {
     if room(state) == 0 {
         return Ok(());
     }
-    reopen(rt, state.pool, plan, &mut state.seats, peer)?;
+    reopen(rt, state.pool, plan, &mut state.sites, peer)?;
     Ok(other_events::crash(state, peer)?)
 }

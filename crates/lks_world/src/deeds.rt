@@ -2,10 +2,10 @@
 
 ghost use Rattle.std.specs.Prelude.{◌≡◌, IfOk, IfSome, slice_get};
 ghost use Rattle.std.specs.Option.{option_copied};
-ghost use Rattle.lks_law.specs.Entries.{carried, sender_of, receiver_of};
+ghost use Rattle.lks_law.specs.Entries.{carried_envelope, sender_of, receiver_of};
 ghost use Rattle.lks_law.specs.Facts.{IsHeard};
 ghost use Rattle.lks_inbox.specs.Received.{deed_by};
-ghost use Rattle.lks_law.specs.World.{delivered, own_deed_of, deed_of};
+ghost use Rattle.lks_law.specs.World.{delivers, own_deed_of, deed_of};
 ghost use Rattle.lks_world.specs.Cuts.{taker_of};
 
 use lks_base::{Envelope, Input, Judged, OutOfMemory, PeerId, PeerStep};
@@ -46,7 +46,7 @@ fn delivered(
     envelope: u32,
     judged: Judged,
 ) -> Result<Option<Deed>, OutOfMemory>
-    ensures deed { IfOk result (λ d. d ≡ delivered (slice_get bag.now envelope) judged) }
+    ensures deed { IfOk result (λ d. d ≡ delivers (slice_get bag.now envelope) judged) }
     ensures heard { IfOk result (λ d. IfSome d (λ d. IsHeard d.input)) }
 {
     match bag.get(envelope as usize) {
@@ -105,7 +105,7 @@ pub fn make_deed(alloc: Global, bag: &[Envelope], s: PeerStep) -> Result<Option<
 }
 
 fn carried(bag: &[Envelope], s: PeerStep) -> Option<&Envelope>
-    ensures { option_copied result ≡ carried bag.now s }
+    ensures { option_copied result ≡ carried_envelope bag.now s }
 {
     match s {
         PeerStep::Deliver { envelope, .. } => bag.get(envelope as usize),
@@ -124,8 +124,8 @@ fn carried(bag: &[Envelope], s: PeerStep) -> Option<&Envelope>
 
 /// The sender and the receiver of the envelope that a step delivers, or 0 and 0.
 pub fn ends_of(bag: &[Envelope], s: PeerStep) -> (PeerId, PeerId)
-    ensures from { result.0 ≡ sender_of (carried bag.now s) }
-    ensures to { result.1 ≡ receiver_of (carried bag.now s) }
+    ensures from { result.0 ≡ sender_of (carried_envelope bag.now s) }
+    ensures to { result.1 ≡ receiver_of (carried_envelope bag.now s) }
 {
     match carried(bag, s) {
         Some(e) => (e.from, e.to),

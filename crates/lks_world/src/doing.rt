@@ -11,7 +11,7 @@ ghost use Rattle.lks_watch.specs.Watching.{ears, Watching, Watches, WatchesBy};
 ghost use Rattle.lks_world.specs.Follows.{done, lost, delivered_again, next_event, spoken, Performs};
 ghost use Rattle.lks_script.specs.declared.steps.CutStep.{CutStep};
 ghost use Rattle.lks_world.specs.Cuts.{step_cut};
-ghost use Rattle.lks_world.specs.Seats.{Counted, SeatsBurn, SeatsPower};
+ghost use Rattle.lks_world.specs.Sites.{Counted, SitesBurn, SitesPower};
 ghost use Rattle.lks_world.specs.Spending.{loser_of};
 ghost use Rattle.lks_world.specs.Stopping.{HasStopped};
 ghost use Rattle.lks_world.specs.States.{IsStateOf, Becomes, Extends, events_in, next_of, AreLeft};
@@ -23,11 +23,10 @@ use crate::cutting::{Power, crash, cut};
 use crate::faults::WorldFault;
 use crate::settling::{Course, first_waiting, next, was_sent};
 use crate::states::State;
-use lks_alarm::Bell;
 use lks_base::{Due, MOST_EVENTS, OutOfMemory, Plan, Seq};
 use lks_disk::CrashDisk;
-use lks_effort::EffortJudge;
 use lks_message::encode;
+use lks_outside::{Bell, EffortJudge};
 use lks_saying::{Saying, what_is_said};
 use lks_script::Step;
 use lks_watch::Watch;
@@ -47,17 +46,33 @@ fn go_on<R: Threads + Wait + Sync, D: CrashDisk, J: EffortJudge, B: Bell, G: Gat
     course: Course,
     told: &mut usize,
 ) -> Result<(), WorldFault>
-    requires { (plan : Planned) × IsStateOf D.face plan state.old × (J.heard watch.old.judge ≡ questions plan (events_in state.old)) }
-    ensures becomes { (plan : Planned) → IsStateOf D.face plan state.old → J.heard watch.old.judge ≡ questions plan (events_in state.old) →
-        OnOk result (Becomes D.face plan (done (next_event (J.verdict watch.old.judge) (next_of course)) times plan (events_in state.old)) state.new) }
-    ensures watches { (plan : Planned) → IsStateOf D.face plan state.old → J.heard watch.old.judge ≡ questions plan (events_in state.old) →
-        OnOk result (WatchesBy (ears J.heard J.verdict B.rung B.limit) plan (events_in state.old) (events_in state.new) watch.old watch.new) }
-    ensures stops { (plan : Planned) → IsStateOf D.face plan state.old → J.heard watch.old.judge ≡ questions plan (events_in state.old) →
-        OnErr result (HasStopped D.face (ears J.heard J.verdict B.rung B.limit) plan (λ after. after ≡ done (next_event (J.verdict watch.old.judge) (next_of course)) times plan (events_in state.old)) (events_in state.old) watch.old state.new watch.new) }
-    ensures extends { (plan : Planned) → IsStateOf D.face plan state.old → J.heard watch.old.judge ≡ questions plan (events_in state.old) →
+    requires { (plan : Planned) × IsStateOf D.face plan state.old
+        × (J.heard watch.old.judge ≡ questions plan (events_in state.old)) }
+    ensures becomes { (plan : Planned) → IsStateOf D.face plan state.old
+        → J.heard watch.old.judge ≡ questions plan (events_in state.old) →
+        OnOk result
+        (Becomes D.face plan
+        (done (next_event (J.verdict watch.old.judge) (next_of course)) times plan (events_in state.old))
+        state.new) }
+    ensures watches { (plan : Planned) → IsStateOf D.face plan state.old
+        → J.heard watch.old.judge ≡ questions plan (events_in state.old) →
+        OnOk result
+        (WatchesBy (ears J.heard J.verdict B.rung B.limit) plan (events_in state.old) (events_in state.new)
+        watch.old watch.new) }
+    ensures stops { (plan : Planned) → IsStateOf D.face plan state.old
+        → J.heard watch.old.judge ≡ questions plan (events_in state.old) →
+        OnErr result
+        (HasStopped D.face (ears J.heard J.verdict B.rung B.limit) plan
+        (λ after. after
+        ≡ done (next_event (J.verdict watch.old.judge) (next_of course)) times plan (events_in state.old))
+        (events_in state.old) watch.old state.new watch.new) }
+    ensures extends { (plan : Planned) → IsStateOf D.face plan state.old
+        → J.heard watch.old.judge ≡ questions plan (events_in state.old) →
         Extends plan state.old.history.items state.new.history.items }
-    ensures counted { Counted D.face state.old.seats.items state.new.seats.items result }
-    ensures power { (plan : Planned) (who : List ℕ) → SeatsPower D.face plan who (events_in state.old) (events_in state.new) state.old.seats.items state.new.seats.items result }
+    ensures counted { Counted D.face state.old.sites.items state.new.sites.items result }
+    ensures power { (plan : Planned) (who : List ℕ)
+        → SitesPower D.face plan who (events_in state.old) (events_in state.new) state.old.sites.items
+        state.new.sites.items result }
     ensures pool { state.new.pool.now ≡ state.old.pool.now }
 {
     let mut beside = Vec::new(alloc);
@@ -76,9 +91,10 @@ fn go_on<R: Threads + Wait + Sync, D: CrashDisk, J: EffortJudge, B: Bell, G: Gat
 fn lose_first<D: CrashDisk>(state: &mut State<'_, D>) -> Result<(), OutOfMemory>
     ensures becomes { (plan : Planned) → IsStateOf D.face plan state.old →
         OnOk result (Becomes D.face plan (lost plan (events_in state.old)) state.new) }
-    ensures extends { (plan : Planned) → IsStateOf D.face plan state.old → Extends plan state.old.history.items state.new.history.items }
+    ensures extends { (plan : Planned) → IsStateOf D.face plan state.old
+        → Extends plan state.old.history.items state.new.history.items }
     ensures err { OnErr result (state.new.history.items ≡ state.old.history.items) }
-    ensures seats { state.new.seats.items ≡ state.old.seats.items }
+    ensures sites { state.new.sites.items ≡ state.old.sites.items }
     ensures pool { state.new.pool.now ≡ state.old.pool.now }
 {
     match first_waiting(state) {
@@ -95,17 +111,31 @@ fn deliver_again<R: Wait, D: CrashDisk, J: EffortJudge, B: Bell>(
     watch: &mut Watch<J, B>,
     envelope: u32,
 ) -> Result<(), WorldFault>
-    requires { (plan : Planned) × IsStateOf D.face plan state.old × (J.heard watch.old.judge ≡ questions plan (events_in state.old)) }
-    ensures becomes { (plan : Planned) → IsStateOf D.face plan state.old → J.heard watch.old.judge ≡ questions plan (events_in state.old) →
-        OnOk result (Becomes D.face plan (delivered_again (J.verdict watch.old.judge) envelope plan (events_in state.old)) state.new) }
-    ensures watches { (plan : Planned) → IsStateOf D.face plan state.old → J.heard watch.old.judge ≡ questions plan (events_in state.old) →
-        OnOk result (WatchesBy (ears J.heard J.verdict B.rung B.limit) plan (events_in state.old) (events_in state.new) watch.old watch.new) }
-    ensures stops { (plan : Planned) → IsStateOf D.face plan state.old → J.heard watch.old.judge ≡ questions plan (events_in state.old) →
-        OnErr result (HasStopped D.face (ears J.heard J.verdict B.rung B.limit) plan (λ after. after ≡ delivered_again (J.verdict watch.old.judge) envelope plan (events_in state.old)) (events_in state.old) watch.old state.new watch.new) }
-    ensures extends { (plan : Planned) → IsStateOf D.face plan state.old → J.heard watch.old.judge ≡ questions plan (events_in state.old) →
+    requires { (plan : Planned) × IsStateOf D.face plan state.old
+        × (J.heard watch.old.judge ≡ questions plan (events_in state.old)) }
+    ensures becomes { (plan : Planned) → IsStateOf D.face plan state.old
+        → J.heard watch.old.judge ≡ questions plan (events_in state.old) →
+        OnOk result
+        (Becomes D.face plan (delivered_again (J.verdict watch.old.judge) envelope plan (events_in state.old))
+        state.new) }
+    ensures watches { (plan : Planned) → IsStateOf D.face plan state.old
+        → J.heard watch.old.judge ≡ questions plan (events_in state.old) →
+        OnOk result
+        (WatchesBy (ears J.heard J.verdict B.rung B.limit) plan (events_in state.old) (events_in state.new)
+        watch.old watch.new) }
+    ensures stops { (plan : Planned) → IsStateOf D.face plan state.old
+        → J.heard watch.old.judge ≡ questions plan (events_in state.old) →
+        OnErr result
+        (HasStopped D.face (ears J.heard J.verdict B.rung B.limit) plan
+        (λ after. after ≡ delivered_again (J.verdict watch.old.judge) envelope plan (events_in state.old))
+        (events_in state.old) watch.old state.new watch.new) }
+    ensures extends { (plan : Planned) → IsStateOf D.face plan state.old
+        → J.heard watch.old.judge ≡ questions plan (events_in state.old) →
         Extends plan state.old.history.items state.new.history.items }
-    ensures counted { Counted D.face state.old.seats.items state.new.seats.items result }
-    ensures power { (plan : Planned) (who : List ℕ) → SeatsPower D.face plan who (events_in state.old) (events_in state.new) state.old.seats.items state.new.seats.items result }
+    ensures counted { Counted D.face state.old.sites.items state.new.sites.items result }
+    ensures power { (plan : Planned) (who : List ℕ)
+        → SitesPower D.face plan who (events_in state.old) (events_in state.new) state.old.sites.items
+        state.new.sites.items result }
     ensures pool { state.new.pool.now ≡ state.old.pool.now }
 {
     if !was_sent(state, envelope) {
@@ -127,7 +157,7 @@ fn speak<D: CrashDisk>(
     ensures extends { (plan : Planned) → IsStateOf D.face plan state.old → IfSome said.now (MayBeSaid plan) →
         Extends plan state.old.history.items state.new.history.items }
     ensures err { OnErr result (state.new.history.items ≡ state.old.history.items) }
-    ensures seats { state.new.seats.items ≡ state.old.seats.items }
+    ensures sites { state.new.sites.items ≡ state.old.sites.items }
     ensures pool { state.new.pool.now ≡ state.old.pool.now }
 {
     let Some(said) = said else {
@@ -149,12 +179,13 @@ fn say<D: CrashDisk>(
     requires saying { IsSaying step.now }
     requires state { IsStateOf D.face plan.now state.old }
     ensures state { OnOk result (IsStateOf D.face plan.now state.new) }
-    ensures performs { OnOk result (((verdict : Verdicts) → Performs verdict plan.now (events_in state.old) step.now (events_in state.new))
+    ensures performs { OnOk result
+        (((verdict : Verdicts) → Performs verdict plan.now (events_in state.old) step.now (events_in state.new))
         × ((x : Watching) → Watches plan.now (events_in state.old) (events_in state.new) x x)) }
     ensures quiet { OnOk result (IsQuiet plan.now (events_in state.old) (events_in state.new)) }
     ensures extends { Extends plan.now state.old.history.items state.new.history.items }
     ensures err { OnErr result (state.new.history.items ≡ state.old.history.items) }
-    ensures seats { state.new.seats.items ≡ state.old.seats.items }
+    ensures sites { state.new.sites.items ≡ state.old.sites.items }
     ensures pool { state.new.pool.now ≡ state.old.pool.now }
 {
     let said = what_is_said(alloc, plan, step)?;
@@ -174,16 +205,27 @@ fn do_step<R: Threads + Wait + Sync, D: CrashDisk, J: EffortJudge, B: Bell, G: G
 ) -> Result<(), WorldFault>
     requires good { plan_fault plan.now ≡ None }
     requires legal { is_step_of plan.now step.now ≡ true }
-    requires state { IsStateOf D.face plan.now state.old × (J.heard watch.old.judge ≡ questions plan.now (events_in state.old)) }
+    requires state { IsStateOf D.face plan.now state.old
+        × (J.heard watch.old.judge ≡ questions plan.now (events_in state.old)) }
     ensures state { OnOk result (IsStateOf D.face plan.now state.new) }
-    ensures performs { OnOk result (Performs (J.verdict watch.old.judge) plan.now (events_in state.old) step.now (events_in state.new)
-        × WatchesBy (ears J.heard J.verdict B.rung B.limit) plan.now (events_in state.old) (events_in state.new) watch.old watch.new) }
-    ensures stops { OnErr result (HasStopped D.face (ears J.heard J.verdict B.rung B.limit) plan.now (Performs (J.verdict watch.old.judge) plan.now (events_in state.old) step.now) (events_in state.old) watch.old state.new watch.new) }
+    ensures performs { OnOk result
+        (Performs (J.verdict watch.old.judge) plan.now (events_in state.old) step.now (events_in state.new)
+        × WatchesBy (ears J.heard J.verdict B.rung B.limit) plan.now (events_in state.old) (events_in state.new)
+        watch.old watch.new) }
+    ensures stops { OnErr result
+        (HasStopped D.face (ears J.heard J.verdict B.rung B.limit) plan.now
+        (Performs (J.verdict watch.old.judge) plan.now (events_in state.old) step.now) (events_in state.old)
+        watch.old state.new watch.new) }
     ensures extends { Extends plan.now state.old.history.items state.new.history.items }
-    ensures counted { Counted D.face state.old.seats.items state.new.seats.items result }
-    ensures power { SeatsPower D.face plan.now (loser_of (J.verdict watch.old.judge) plan.now (events_in state.old) step.now) (events_in state.old) (events_in state.new) state.old.seats.items state.new.seats.items result }
+    ensures counted { Counted D.face state.old.sites.items state.new.sites.items result }
+    ensures power { SitesPower D.face plan.now
+        (loser_of (J.verdict watch.old.judge) plan.now (events_in state.old) step.now) (events_in state.old)
+        (events_in state.new) state.old.sites.items state.new.sites.items result }
     ensures burns { (calls choice : ℕ) (given : CutStep) → step.now ≡ Step.Cut calls choice given →
-        OnOk result (IfSome (step_cut (J.verdict watch.old.judge) plan.now (events_in state.old) given) (SeatsBurn D.face plan.now (events_in state.old) calls choice state.old.seats.items state.new.seats.items)) }
+        OnOk result
+        (IfSome (step_cut (J.verdict watch.old.judge) plan.now (events_in state.old) given)
+        (SitesBurn D.face plan.now (events_in state.old) calls choice state.old.sites.items
+        state.new.sites.items)) }
     ensures pool { state.new.pool.now ≡ state.old.pool.now }
 {
     match step {
@@ -255,16 +297,27 @@ pub fn perform<R: Threads + Wait + Sync, D: CrashDisk, J: EffortJudge, B: Bell, 
 ) -> Result<(), WorldFault>
     requires good { plan_fault plan.now ≡ None }
     requires legal { is_step_of plan.now step.now ≡ true }
-    requires state { IsStateOf D.face plan.now state.old × (J.heard watch.old.judge ≡ questions plan.now (events_in state.old)) }
+    requires state { IsStateOf D.face plan.now state.old
+        × (J.heard watch.old.judge ≡ questions plan.now (events_in state.old)) }
     ensures state { OnOk result (IsStateOf D.face plan.now state.new) }
-    ensures performs { OnOk result (Performs (J.verdict watch.old.judge) plan.now (events_in state.old) step.now (events_in state.new)
-        × WatchesBy (ears J.heard J.verdict B.rung B.limit) plan.now (events_in state.old) (events_in state.new) watch.old watch.new) }
-    ensures stops { OnErr result (HasStopped D.face (ears J.heard J.verdict B.rung B.limit) plan.now (Performs (J.verdict watch.old.judge) plan.now (events_in state.old) step.now) (events_in state.old) watch.old state.new watch.new) }
+    ensures performs { OnOk result
+        (Performs (J.verdict watch.old.judge) plan.now (events_in state.old) step.now (events_in state.new)
+        × WatchesBy (ears J.heard J.verdict B.rung B.limit) plan.now (events_in state.old) (events_in state.new)
+        watch.old watch.new) }
+    ensures stops { OnErr result
+        (HasStopped D.face (ears J.heard J.verdict B.rung B.limit) plan.now
+        (Performs (J.verdict watch.old.judge) plan.now (events_in state.old) step.now) (events_in state.old)
+        watch.old state.new watch.new) }
     ensures extends { Extends plan.now state.old.history.items state.new.history.items }
-    ensures counted { Counted D.face state.old.seats.items state.new.seats.items result }
-    ensures power { SeatsPower D.face plan.now (loser_of (J.verdict watch.old.judge) plan.now (events_in state.old) step.now) (events_in state.old) (events_in state.new) state.old.seats.items state.new.seats.items result }
+    ensures counted { Counted D.face state.old.sites.items state.new.sites.items result }
+    ensures power { SitesPower D.face plan.now
+        (loser_of (J.verdict watch.old.judge) plan.now (events_in state.old) step.now) (events_in state.old)
+        (events_in state.new) state.old.sites.items state.new.sites.items result }
     ensures burns { (calls choice : ℕ) (given : CutStep) → step.now ≡ Step.Cut calls choice given →
-        OnOk result (IfSome (step_cut (J.verdict watch.old.judge) plan.now (events_in state.old) given) (SeatsBurn D.face plan.now (events_in state.old) calls choice state.old.seats.items state.new.seats.items)) }
+        OnOk result
+        (IfSome (step_cut (J.verdict watch.old.judge) plan.now (events_in state.old) given)
+        (SitesBurn D.face plan.now (events_in state.old) calls choice state.old.sites.items
+        state.new.sites.items)) }
     ensures pool { state.new.pool.now ≡ state.old.pool.now }
 {
     let mut told = state.history.len();

@@ -1,17 +1,18 @@
 //! What is due is given out, event by event or as a job, and results of jobs come back.
 
-ghost use Rattle.std.specs.Prelude.{◌≡◌, ◌++◌, ◌∷◌, [], ℕ, List, Some, None, IfOk, IfSome, OnOk, OnErr, find, option_map, slice_get};
+ghost use Rattle.std.specs.Prelude.{◌≡◌, ◌++◌, ◌∷◌, [], ℕ, List, Some, None, IfOk, IfSome, OnOk, OnErr, find};
+ghost use Rattle.std.specs.Prelude.{option_map, slice_get};
 ghost use Rattle.std.specs.List.{flat_map};
 ghost use Rattle.lks_blocks.specs.Block.{AllOf};
 ghost use Rattle.lks_work.specs.Names.{is_left, name_done, name_of, refs_of};
-ghost use Rattle.lks_world.specs.Beside.{unplaced_at, ArePooled, AreSameSeats, IsPooled};
-ghost use Rattle.lks_world.specs.Giving.{peer_named, seat_works, without};
+ghost use Rattle.lks_world.specs.Beside.{unplaced_at, ArePooled, AreSameSites, IsPooled};
+ghost use Rattle.lks_world.specs.Giving.{peer_named, site_works, without};
 ghost use Rattle.lks_base.specs.declared.plans.Plan.{Plan};
 ghost use Rattle.lks_world.specs.Handing.{Expects, IsExpectedAt, IsJobAt, IsNext, IsReadyAt};
 ghost use Rattle.lks_world.specs.States.{IsStateOf, events_in};
 
-use crate::seats::{Seat, place_of};
-use crate::settling::{Part, first_step, first_waiting};
+use crate::settling::{OwnSteps, first_step, first_waiting};
+use crate::sites::{Site, place_of};
 use crate::states::State;
 use lks_base::{Due, OutOfMemory, PeerId};
 use lks_disk::{CrashDisk, Disk};
@@ -45,14 +46,14 @@ pub enum Back {
     Late,
 }
 
-impl<D: Disk> Seat<D> {
+impl<D: Disk> Site<D> {
     /// The first work that is ready there and none of these jobs.
     fn work_left(&self, out: &[JobName]) -> Option<JobName>
-        ensures { result ≡ find (is_left out.now) (seat_works self.now) }
+        ensures { result ≡ find (is_left out.now) (site_works self.now) }
     {
         match self {
-            Seat::Host(host) => host.work_left(out),
-            Seat::Idle(_) => None,
+            Site::Host(host) => host.work_left(out),
+            Site::Idle(_) => None,
         }
     }
 
@@ -65,11 +66,11 @@ impl<D: Disk> Seat<D> {
         ensures of { (pool : List ℕ) → IsPooled pool self.old → IfOk result (λ j. AllOf pool (refs_of j)) }
     {
         match self {
-            Seat::Host(host) => match host.job(&name)? {
+            Site::Host(host) => match host.job(&name)? {
                 Some(job) => Ok(job),
                 None => unreachable!(),
             },
-            Seat::Idle(_) => unreachable!(),
+            Site::Idle(_) => unreachable!(),
         }
     }
 
@@ -79,19 +80,21 @@ impl<D: Disk> Seat<D> {
         ensures expected { IfOk result (IsExpectedAt done.now self.old) }
     {
         match self {
-            Seat::Host(host) => host.expected(done),
-            Seat::Idle(_) => Ok(None),
+            Site::Host(host) => host.expected(done),
+            Site::Idle(_) => Ok(None),
         }
     }
 }
 
 /// The first work, in the plan's order of peers, that is ready and none of these jobs, and where its peer sits.
-pub fn work_left<D: Disk>(seats: &[Seat<D>], out: &[JobName]) -> Option<(usize, JobName)>
-    ensures first { option_map (λ r. r.1) result ≡ find (is_left out.now) (flat_map seat_works seats.now) }
-    ensures there { IfSome result (λ r. (seat : Seat D) × (slice_get seats.now r.0 ≡ Some seat) × (find (is_left out.now) (seat_works seat) ≡ Some r.1)) }
+pub fn work_left<D: Disk>(sites: &[Site<D>], out: &[JobName]) -> Option<(usize, JobName)>
+    ensures first { option_map (λ r. r.1) result ≡ find (is_left out.now) (flat_map site_works sites.now) }
+    ensures there { IfSome result
+        (λ r. (site : Site D) × (slice_get sites.now r.0 ≡ Some site)
+        × (find (is_left out.now) (site_works site) ≡ Some r.1)) }
 {
-    for place in 0..seats.len() {
-        if let Some(name) = seats[place].work_left(out) {
+    for place in 0..sites.len() {
+        if let Some(name) = sites[place].work_left(out) {
             return Some((place, name));
         }
     }
@@ -100,21 +103,21 @@ pub fn work_left<D: Disk>(seats: &[Seat<D>], out: &[JobName]) -> Option<(usize, 
 
 /// Hands out the job of this work, for which the peer that sits there is ready.
 pub fn hand_out<D: Disk>(
-    seats: &mut Vec<Seat<D>>,
+    sites: &mut Vec<Site<D>>,
     out: &mut Vec<JobName>,
     place: usize,
     name: JobName,
 ) -> Result<Job, OutOfMemory>
-    requires ready { (seat : Seat D) × (slice_get seats.old.items place ≡ Some seat) × IsReadyAt name seat }
-    ensures same { AreSameSeats seats.old.items seats.new.items }
+    requires ready { (site : Site D) × (slice_get sites.old.items place ≡ Some site) × IsReadyAt name site }
+    ensures same { AreSameSites sites.old.items sites.new.items }
     ensures out { OnOk result (out.new.items ≡ out.old.items ++ name ∷ []) }
     ensures err { OnErr result (out.new.items ≡ out.old.items) }
     ensures name { IfOk result (λ j. name_of j ≡ name) }
-    ensures job { (seat : Seat D) → slice_get seats.old.items place ≡ Some seat → IfOk result (IsJobAt name seat) }
-    ensures of { (pool : List ℕ) → ArePooled pool seats.old.items → IfOk result (λ j. AllOf pool (refs_of j)) }
+    ensures job { (site : Site D) → slice_get sites.old.items place ≡ Some site → IfOk result (IsJobAt name site) }
+    ensures of { (pool : List ℕ) → ArePooled pool sites.old.items → IfOk result (λ j. AllOf pool (refs_of j)) }
 {
     out.reserve(1)?;
-    let job = seats[place].job(name)?;
+    let job = sites[place].job(name)?;
     out.push_reserved(name);
     Ok(job)
 }
@@ -136,10 +139,10 @@ pub fn next_beside_work<D: CrashDisk>(state: &State<'_, D>) -> Next
     if let Some(envelope) = first_waiting(state) {
         return Next::Due(Due::Delivery { envelope });
     }
-    if first_step(&state.seats, Part::Ready).is_some() {
+    if first_step(&state.sites, OwnSteps::Ready).is_some() {
         return Next::Work;
     }
-    match first_step(&state.seats, Part::Turns) {
+    match first_step(&state.sites, OwnSteps::Turns) {
         Some(due) => Next::Due(due),
         None => Next::Nothing,
     }
@@ -162,14 +165,14 @@ fn peer_of(name: JobName) -> PeerId
 
 /// Over which version the result would be taken now: none where its peer isn't ready for such work.
 pub fn expected<D: CrashDisk>(
-    seats: &mut Vec<Seat<D>>,
+    sites: &mut Vec<Site<D>>,
     done: &JobDone,
 ) -> Result<Option<PinTag>, OutOfMemory>
-    ensures same { AreSameSeats seats.old.items seats.new.items }
-    ensures expected { IfOk result (Expects D.face done.now seats.old.items) }
+    ensures same { AreSameSites sites.old.items sites.new.items }
+    ensures expected { IfOk result (Expects D.face done.now sites.old.items) }
 {
-    match place_of(seats, peer_of(done.name())) {
-        Some(place) => seats[place].expected(done),
+    match place_of(sites, peer_of(done.name())) {
+        Some(place) => sites[place].expected(done),
         None => Ok(None),
     }
 }

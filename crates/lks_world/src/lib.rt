@@ -1,4 +1,6 @@
 //! A world of peers: it does the steps of a script, one event at a time, and keeps their history.
+//!
+//! Its trials: `lks_run_trials`, `world`.
 #![tactic(auto)]
 
 mod adding;
@@ -13,8 +15,8 @@ mod giving;
 mod laws;
 mod marks;
 mod other_events;
-mod seats;
 mod settling;
+mod sites;
 mod states;
 mod worlds;
 

@@ -1,8 +1,8 @@
 //! What a world remembers of disks and bells, in proofs alone.
 
 use boxcar::tag::Names;
-use lks_alarm::Bell;
 use lks_disk::Disk;
+use lks_outside::Bell;
 
 /// The counts of faults of disks.
 pub struct Faults;

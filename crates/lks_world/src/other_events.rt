@@ -35,12 +35,16 @@ pub fn forge<D: CrashDisk>(
     bytes: Bytes,
 ) -> Result<(), OutOfMemory>
     requires few { length state.old.bag.items < 4294967295 }
-    ensures seats { state.new.seats.items ≡ state.old.seats.items }
+    ensures sites { state.new.sites.items ≡ state.old.sites.items }
     ensures pool { state.new.pool.now ≡ state.old.pool.now }
-    ensures world { OnOk result (world_in D.face state.new ≡ happens (world_in D.face state.old) (events.Forge from to bytes)) }
-    ensures history { OnOk result (state.new.history.items ≡ state.old.history.items ++ entry_of (world_in D.face state.old) (events.Forge from to bytes) ∷ []) }
+    ensures world { OnOk result
+        (world_in D.face state.new ≡ happens (world_in D.face state.old) (events.Forge from to bytes)) }
+    ensures history { OnOk result
+        (state.new.history.items
+        ≡ state.old.history.items ++ entry_of (world_in D.face state.old) (events.Forge from to bytes) ∷ []) }
     ensures err { OnErr result (state.new.history.items ≡ state.old.history.items) }
-    ensures pending { OnOk result (state.new.pending.items ≡ state.old.pending.items ++ length state.old.bag.items ∷ []) }
+    ensures pending { OnOk result
+        (state.new.pending.items ≡ state.old.pending.items ++ length state.old.bag.items ∷ []) }
 {
     let copy = bytes.clone()?;
     let envelope = Envelope {
@@ -56,10 +60,12 @@ pub fn forge<D: CrashDisk>(
 #[tactic(auto, unfolding(lks_law::specs::World::happens, lks_law::specs::Entries::entry_of))]
 pub fn tick<D: CrashDisk>(state: &mut State<'_, D>, by: u32) -> Result<(), OutOfMemory>
     requires fits { state.old.tick + by ≤ u32.MAX }
-    ensures seats { state.new.seats.items ≡ state.old.seats.items }
+    ensures sites { state.new.sites.items ≡ state.old.sites.items }
     ensures pool { state.new.pool.now ≡ state.old.pool.now }
     ensures world { OnOk result (world_in D.face state.new ≡ happens (world_in D.face state.old) (events.Tick by)) }
-    ensures history { OnOk result (state.new.history.items ≡ state.old.history.items ++ entry_of (world_in D.face state.old) (events.Tick by) ∷ []) }
+    ensures history { OnOk result
+        (state.new.history.items
+        ≡ state.old.history.items ++ entry_of (world_in D.face state.old) (events.Tick by) ∷ []) }
     ensures err { OnErr result (state.new.history.items ≡ state.old.history.items) }
     ensures pending { OnOk result (state.new.pending.items ≡ state.old.pending.items) }
 {
@@ -70,12 +76,16 @@ pub fn tick<D: CrashDisk>(state: &mut State<'_, D>, by: u32) -> Result<(), OutOf
 /// An envelope is lost, so it doesn't wait any more.
 #[tactic(auto, unfolding(lks_law::specs::World::happens, lks_law::specs::Entries::entry_of))]
 pub fn lose<D: CrashDisk>(state: &mut State<'_, D>, envelope: u32) -> Result<(), OutOfMemory>
-    ensures seats { state.new.seats.items ≡ state.old.seats.items }
+    ensures sites { state.new.sites.items ≡ state.old.sites.items }
     ensures pool { state.new.pool.now ≡ state.old.pool.now }
-    ensures world { OnOk result (world_in D.face state.new ≡ happens (world_in D.face state.old) (events.Lose envelope)) }
-    ensures history { OnOk result (state.new.history.items ≡ state.old.history.items ++ entry_of (world_in D.face state.old) (events.Lose envelope) ∷ []) }
+    ensures world { OnOk result
+        (world_in D.face state.new ≡ happens (world_in D.face state.old) (events.Lose envelope)) }
+    ensures history { OnOk result
+        (state.new.history.items
+        ≡ state.old.history.items ++ entry_of (world_in D.face state.old) (events.Lose envelope) ∷ []) }
     ensures err { OnErr result (state.new.history.items ≡ state.old.history.items) }
-    ensures pending { OnOk result (state.new.pending.items ≡ filter (λ i. not (i == envelope)) state.old.pending.items) }
+    ensures pending { OnOk result
+        (state.new.pending.items ≡ filter (λ i. not (i == envelope)) state.old.pending.items) }
 {
     forget(&mut state.pending, envelope);
     note_down(&mut state.history, Event::Lose { envelope }, 0)
@@ -84,10 +94,12 @@ pub fn lose<D: CrashDisk>(state: &mut State<'_, D>, envelope: u32) -> Result<(),
 /// A peer was reopened after its power failed.
 #[tactic(auto, unfolding(lks_law::specs::World::happens, lks_law::specs::Entries::entry_of))]
 pub fn crash<D: CrashDisk>(state: &mut State<'_, D>, peer: PeerId) -> Result<(), OutOfMemory>
-    ensures seats { state.new.seats.items ≡ state.old.seats.items }
+    ensures sites { state.new.sites.items ≡ state.old.sites.items }
     ensures pool { state.new.pool.now ≡ state.old.pool.now }
     ensures world { OnOk result (world_in D.face state.new ≡ happens (world_in D.face state.old) (events.Crash peer)) }
-    ensures history { OnOk result (state.new.history.items ≡ state.old.history.items ++ entry_of (world_in D.face state.old) (events.Crash peer) ∷ []) }
+    ensures history { OnOk result
+        (state.new.history.items
+        ≡ state.old.history.items ++ entry_of (world_in D.face state.old) (events.Crash peer) ∷ []) }
     ensures err { OnErr result (state.new.history.items ≡ state.old.history.items) }
     ensures pending { OnOk result (state.new.pending.items ≡ state.old.pending.items) }
 {

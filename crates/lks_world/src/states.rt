@@ -1,6 +1,7 @@
 //! The state of a world, and what an event does to it.
 
-ghost use Rattle.std.specs.Prelude.{◌≡◌, ◌≤◌, ◌<◌, ◌+◌, ◌++◌, ◌∷◌, [], Some, IfOk, IfSome, IsErrOf, OnOk, OnErr, ◌==◌, length, filter, map, not, List};
+ghost use Rattle.std.specs.Prelude.{◌≡◌, ◌≤◌, ◌<◌, ◌+◌, ◌++◌, ◌∷◌, [], Some, IfOk, IfSome, IsErrOf, OnOk, OnErr, ◌==◌};
+ghost use Rattle.std.specs.Prelude.{length, filter, map, not, List};
 ghost use Rattle.std.specs.List.{filter_map, range_with_len};
 ghost use Rattle.lks_base.specs.declared.events.Event.TheVariants as events;
 ghost use Rattle.lks_base.specs.declared.records.Record.{Record as Recorded};
@@ -13,38 +14,39 @@ ghost use Rattle.lks_host.specs.Working.{IsResultOf};
 ghost use Rattle.lks_journal.specs.Adding.{KeepsOrAdds};
 ghost use Rattle.lks_law.specs.Alarms.{alarms_by, alarm_noted};
 ghost use Rattle.lks_law.specs.Batches.{with_batch};
-ghost use Rattle.lks_law.specs.Entries.{carried, entry_for, notes_at, notes_of, entry_of};
-ghost use Rattle.lks_law.specs.World.{Standing, deed_of, reaction_at, with_records, peer_at, sent_by, actor_of, effect_of, peers_after, happens};
+ghost use Rattle.lks_law.specs.Entries.{carried_envelope, entry_for, notes_at, notes_of, entry_of};
+ghost use Rattle.lks_law.specs.World.{Standing, deed_of, reaction_at, with_records, peer_at, sent_by, actor_of};
+ghost use Rattle.lks_law.specs.World.{effect_of, peers_after, happens};
 ghost use Rattle.lks_law.specs.Facts.{IsHeard};
 ghost use Rattle.lks_law.specs.Table.{react_on};
 ghost use Rattle.lks_watch.specs.Watching.{ears, Hears};
 ghost use Rattle.lks_world.specs.Beside.{IsFor};
-ghost use Rattle.lks_world.specs.Hosts.{peer_in, peers_of, IsReady, AreReady, GoesOn, HaveGoneOn, HaveFallen, HasActed, KeepsPower, with_added};
-ghost use Rattle.lks_world.specs.Seats.{hosts_of, Counted, Powered};
+ghost use Rattle.lks_world.specs.Hosts.{peer_in, peers_of, IsReady, AreReady, GoesOn, HaveGoneOn, HaveFallen};
+ghost use Rattle.lks_world.specs.Hosts.{HasActed, KeepsPower, with_added};
+ghost use Rattle.lks_world.specs.Sites.{hosts_of, Counted, Powered};
 ghost use Rattle.lks_world.specs.States.{left_after, world_in, sends_in, HasNoted};
 
 use crate::deeds::{Deed, ends_of};
 use crate::faults::{WorldFault, blame};
-use crate::seats::{Seat, place_of};
-use lks_alarm::Bell;
+use crate::sites::{Site, place_of};
 use lks_base::{
     Entry, Envelope, Event, Input, Note, OutOfMemory, Outgoing, PeerId, PeerStep, Reaction, Seq,
 };
 use lks_blocks::BlockPool;
 use lks_disk::CrashDisk;
-use lks_effort::EffortJudge;
 use lks_host::{Host, HostFault};
+use lks_outside::{Bell, EffortJudge};
 use lks_watch::Watch;
 use lks_work::JobDone;
 use std::alloc::Global;
 use std::sync::Wait;
 
-/// The pool of all blocks, the seats of the peers in the plan's order, the bag with the numbers of the envelopes that wait,
-/// the clock, and what happened.
+/// The pool of all blocks, the sites of the peers in the plan's order, the bag with the numbers of the envelopes that
+/// wait, the clock, and what happened.
 #[derive(Drop)]
 pub struct State<'a, D: CrashDisk> {
     pub pool: &'a BlockPool,
-    pub seats: Vec<Seat<D>>,
+    pub sites: Vec<Site<D>>,
     pub bag: Vec<Envelope>,
     pub pending: Vec<u32>,
     pub history: Vec<Entry>,
@@ -80,13 +82,19 @@ fn react<R: Wait, D: CrashDisk>(
     requires can { CanStep D.face pool.now host.old }
     requires heard { IsHeard input.now }
     requires done { IfSome done (IsResultOf pool.now input.now) }
-    ensures stepped { Stepped D.face host.old host.new (react_on host.old.peer.own host.old.peer.state tick input.now) result }
-    ensures stands { D.face.told host.old.journal.disk → (batches : List (List Recorded)) → StandsFor D.face host.old batches →
+    ensures stepped { Stepped D.face host.old host.new
+        (react_on host.old.peer.own host.old.peer.state tick input.now) result }
+    ensures stands { D.face.told host.old.journal.disk → (batches : List (List Recorded))
+        → StandsFor D.face host.old batches →
         IfOk result (λ r. StandsFor D.face host.new (with_batch batches r.records)) }
-    ensures adds { D.face.told host.old.journal.disk → (batches : List (List Recorded)) → StandsFor D.face host.old batches →
+    ensures adds { D.face.told host.old.journal.disk → (batches : List (List Recorded))
+        → StandsFor D.face host.old batches →
         KeepsOrAdds D.face host.old.journal host.new.journal (bodies_of batches)
-        (bodies_of (with_batch batches (react_on host.old.peer.own host.old.peer.state tick input.now).records)) (as_journal result) }
-    ensures read { (IsErrOf result HostFault.Memory → ⊥) → IsWritten host.old.peer.own host.old.peer.state (react_on host.old.peer.own host.old.peer.state tick input.now).records }
+        (bodies_of (with_batch batches (react_on host.old.peer.own host.old.peer.state tick input.now).records))
+        (as_journal result) }
+    ensures read { (IsErrOf result HostFault.Memory → ⊥)
+        → IsWritten host.old.peer.own host.old.peer.state
+        (react_on host.old.peer.own host.old.peer.state tick input.now).records }
     ensures fresh { IsFresh result }
 {
     let Some(done) = done else {
@@ -113,11 +121,20 @@ fn act_as<R: Wait, D: CrashDisk>(
     requires heard { IsHeard input.now }
     requires done { IfSome done (IsResultOf pool.now input.now) }
     ensures sends { IfOk result (λ d. d.sends ≡ (reaction_at tick (Some (peer_in D.face host.old)) input.now).sends) }
-    ensures notes { IfOk result (λ d. d.notes ≡ notes_at (Some (peer_in D.face host.old)) (reaction_at tick (Some (peer_in D.face host.old)) input.now).records) }
-    ensures peer { OnOk result (peer_in D.face host.new ≡ with_added (peer_in D.face host.old) (reaction_at tick (Some (peer_in D.face host.old)) input.now).records) }
+    ensures notes { IfOk result
+        (λ d. d.notes
+        ≡ notes_at (Some (peer_in D.face host.old))
+        (reaction_at tick (Some (peer_in D.face host.old)) input.now).records) }
+    ensures peer { OnOk result
+        (peer_in D.face host.new
+        ≡ with_added (peer_in D.face host.old)
+        (reaction_at tick (Some (peer_in D.face host.old)) input.now).records) }
     ensures on { OnOk result (GoesOn D.face host.old host.new) }
     ensures falls { (batches : List (List Recorded)) → StandsFor D.face host.old batches →
-        OnErr result (Falls D.face batches (with_batch batches (reaction_at tick (Some (peer_in D.face host.old)) input.now).records) host.new.journal.disk) }
+        OnErr result
+        (Falls D.face batches
+        (with_batch batches (reaction_at tick (Some (peer_in D.face host.old)) input.now).records)
+        host.new.journal.disk) }
     ensures acted { HasActed D.face host.old host.new result }
     ensures power { KeepsPower D.face host.old.journal.disk host.new.journal.disk }
 {
@@ -133,28 +150,43 @@ fn act<R: Wait, D: CrashDisk>(
     alloc: Global,
     rt: &R,
     pool: &BlockPool,
-    seats: &mut Vec<Seat<D>>,
+    sites: &mut Vec<Site<D>>,
     tick: u32,
     deed: &Deed,
     done: Option<JobDone>,
 ) -> Result<Done, WorldFault>
-    requires ready { AreReady D.face pool.now (hosts_of seats.old.items) }
+    requires ready { AreReady D.face pool.now (hosts_of sites.old.items) }
     requires heard { IsHeard deed.now.input }
     requires done { IfSome done (IsResultOf pool.now deed.now.input) }
-    ensures sends { IfOk result (λ d. d.sends ≡ (reaction_at tick (peer_at deed.now.peer (peers_of D.face (hosts_of seats.old.items))) deed.now.input).sends) }
-    ensures notes { IfOk result (λ d. d.notes ≡ notes_at (peer_at deed.now.peer (peers_of D.face (hosts_of seats.old.items))) (reaction_at tick (peer_at deed.now.peer (peers_of D.face (hosts_of seats.old.items))) deed.now.input).records) }
-    ensures peers { OnOk result (peers_of D.face (hosts_of seats.new.items) ≡ with_records deed.now.peer (reaction_at tick (peer_at deed.now.peer (peers_of D.face (hosts_of seats.old.items))) deed.now.input).records (peers_of D.face (hosts_of seats.old.items))) }
-    ensures on { OnOk result (HaveGoneOn D.face (hosts_of seats.old.items) (hosts_of seats.new.items)) }
-    ensures fallen { OnErr result (HaveFallen D.face (hosts_of seats.old.items) (with_records deed.now.peer (reaction_at tick (peer_at deed.now.peer (peers_of D.face (hosts_of seats.old.items))) deed.now.input).records (peers_of D.face (hosts_of seats.old.items))) (hosts_of seats.new.items)) }
-    ensures counted { Counted D.face seats.old.items seats.new.items result }
-    ensures power { Powered D.face [] [] seats.old.items seats.new.items }
+    ensures sends { IfOk result
+        (λ d. d.sends
+        ≡ (reaction_at tick (peer_at deed.now.peer (peers_of D.face (hosts_of sites.old.items)))
+        deed.now.input).sends) }
+    ensures notes { IfOk result
+        (λ d. d.notes
+        ≡ notes_at (peer_at deed.now.peer (peers_of D.face (hosts_of sites.old.items)))
+        (reaction_at tick (peer_at deed.now.peer (peers_of D.face (hosts_of sites.old.items)))
+        deed.now.input).records) }
+    ensures peers { OnOk result
+        (peers_of D.face (hosts_of sites.new.items)
+        ≡ with_records deed.now.peer
+        (reaction_at tick (peer_at deed.now.peer (peers_of D.face (hosts_of sites.old.items)))
+        deed.now.input).records (peers_of D.face (hosts_of sites.old.items))) }
+    ensures on { OnOk result (HaveGoneOn D.face (hosts_of sites.old.items) (hosts_of sites.new.items)) }
+    ensures fallen { OnErr result
+        (HaveFallen D.face (hosts_of sites.old.items)
+        (with_records deed.now.peer
+        (reaction_at tick (peer_at deed.now.peer (peers_of D.face (hosts_of sites.old.items)))
+        deed.now.input).records (peers_of D.face (hosts_of sites.old.items))) (hosts_of sites.new.items)) }
+    ensures counted { Counted D.face sites.old.items sites.new.items result }
+    ensures power { Powered D.face [] [] sites.old.items sites.new.items }
 {
-    let Some(place) = place_of(seats, deed.peer) else {
+    let Some(place) = place_of(sites, deed.peer) else {
         return Ok(nothing_done(alloc));
     };
-    match &mut seats[place] {
-        Seat::Host(host) => act_as(rt, pool, host, tick, &deed.input, done),
-        Seat::Idle(_) => unreachable!(),
+    match &mut sites[place] {
+        Site::Host(host) => act_as(rt, pool, host, tick, &deed.input, done),
+        Site::Idle(_) => unreachable!(),
     }
 }
 
@@ -207,7 +239,8 @@ fn send(
 ) -> Result<(), OutOfMemory>
     requires { length bag.old.items + length sends ≤ 4294967295 }
     ensures bag { OnOk result (bag.new.items ≡ bag.old.items ++ map (sent_by from) sends) }
-    ensures pending { OnOk result (pending.new.items ≡ pending.old.items ++ range_with_len (length bag.old.items) (length sends)) }
+    ensures pending { OnOk result
+        (pending.new.items ≡ pending.old.items ++ range_with_len (length bag.old.items) (length sends)) }
 {
     for outgoing in sends.into_vec() {
         let Outgoing { to, bytes } = outgoing;
@@ -220,24 +253,29 @@ fn do_deed<R: Wait, D: CrashDisk>(
     alloc: Global,
     rt: &R,
     pool: &BlockPool,
-    seats: &mut Vec<Seat<D>>,
+    sites: &mut Vec<Site<D>>,
     tick: u32,
     deed: &Option<Deed>,
     done: Option<JobDone>,
 ) -> Result<Done, WorldFault>
-    requires ready { AreReady D.face pool.now (hosts_of seats.old.items) }
+    requires ready { AreReady D.face pool.now (hosts_of sites.old.items) }
     requires heard { IfSome deed.now (λ d. IsHeard d.input) }
     requires done { IfSome deed.now (λ d. IfSome done (IsResultOf pool.now d.input)) }
-    ensures sends { IfOk result (λ d. d.sends ≡ (effect_of tick (peers_of D.face (hosts_of seats.old.items)) deed.now).sends) }
-    ensures notes { IfOk result (λ d. d.notes ≡ notes_of tick (peers_of D.face (hosts_of seats.old.items)) deed.now) }
-    ensures peers { OnOk result (peers_of D.face (hosts_of seats.new.items) ≡ peers_after tick (peers_of D.face (hosts_of seats.old.items)) deed.now) }
-    ensures on { OnOk result (HaveGoneOn D.face (hosts_of seats.old.items) (hosts_of seats.new.items)) }
-    ensures fallen { OnErr result (HaveFallen D.face (hosts_of seats.old.items) (peers_after tick (peers_of D.face (hosts_of seats.old.items)) deed.now) (hosts_of seats.new.items)) }
-    ensures counted { Counted D.face seats.old.items seats.new.items result }
-    ensures power { Powered D.face [] [] seats.old.items seats.new.items }
+    ensures sends { IfOk result
+        (λ d. d.sends ≡ (effect_of tick (peers_of D.face (hosts_of sites.old.items)) deed.now).sends) }
+    ensures notes { IfOk result (λ d. d.notes ≡ notes_of tick (peers_of D.face (hosts_of sites.old.items)) deed.now) }
+    ensures peers { OnOk result
+        (peers_of D.face (hosts_of sites.new.items)
+        ≡ peers_after tick (peers_of D.face (hosts_of sites.old.items)) deed.now) }
+    ensures on { OnOk result (HaveGoneOn D.face (hosts_of sites.old.items) (hosts_of sites.new.items)) }
+    ensures fallen { OnErr result
+        (HaveFallen D.face (hosts_of sites.old.items)
+        (peers_after tick (peers_of D.face (hosts_of sites.old.items)) deed.now) (hosts_of sites.new.items)) }
+    ensures counted { Counted D.face sites.old.items sites.new.items result }
+    ensures power { Powered D.face [] [] sites.old.items sites.new.items }
 {
     match deed {
-        Some(deed) => act(alloc, rt, pool, seats, tick, deed, done),
+        Some(deed) => act(alloc, rt, pool, sites, tick, deed, done),
         None => Ok(nothing_done(alloc)),
     }
 }
@@ -262,14 +300,21 @@ pub fn note_step<D: CrashDisk, J: EffortJudge, B: Bell>(
     done: Done,
 ) -> Result<(), OutOfMemory>
     requires { length state.old.bag.items + length done.sends ≤ 4294967295 }
-    ensures seats { state.new.seats.items ≡ state.old.seats.items }
+    ensures sites { state.new.sites.items ≡ state.old.sites.items }
     ensures pool { state.new.pool.now ≡ state.old.pool.now }
     ensures tick { state.new.tick ≡ state.old.tick }
     ensures bag { OnOk result (state.new.bag.items ≡ state.old.bag.items ++ map (sent_by actor) done.sends) }
-    ensures pending { OnOk result (state.new.pending.items ≡ left_after s state.old.pending.items ++ range_with_len (length state.old.bag.items) (length done.sends)) }
-    ensures history { OnOk result (state.new.history.items ≡ state.old.history.items ++ entry_for event (carried state.old.bag.items s) done.notes (length done.sends) ∷ []) }
+    ensures pending { OnOk result
+        (state.new.pending.items
+        ≡ left_after s state.old.pending.items
+        ++ range_with_len (length state.old.bag.items) (length done.sends)) }
+    ensures history { OnOk result
+        (state.new.history.items
+        ≡ state.old.history.items
+        ++ entry_for event (carried_envelope state.old.bag.items s) done.notes (length done.sends) ∷ []) }
     ensures err { OnErr result (state.new.history.items ≡ state.old.history.items) }
-    ensures hears { Hears (ears J.heard J.verdict B.rung B.limit) (filter_map (alarm_noted actor state.old.tick) done.notes) watch.old watch.new result }
+    ensures hears { Hears (ears J.heard J.verdict B.rung B.limit)
+        (filter_map (alarm_noted actor state.old.tick) done.notes) watch.old watch.new result }
 {
     let (from, to) = ends_of(&state.bag, s);
     let Done { notes, sends } = done;
@@ -288,8 +333,8 @@ pub fn note_step<D: CrashDisk, J: EffortJudge, B: Bell>(
     Ok(())
 }
 
-/// One step of a peer, which is this to it: its records are in its journal before its messages go into the bag and its alarms
-/// are raised. After want of memory the state is that of no history.
+/// One step of a peer, which is this to it: its records are in its journal before its messages go into the bag and its
+/// alarms are raised. After want of memory the state is that of no history.
 #[tactic(auto, unfolding(lks_law::specs::World::happens, lks_law::specs::World::after_step, lks_law::specs::Entries::entry_of, crate::specs::States::sends_in))]
 pub fn step<R: Wait, D: CrashDisk, J: EffortJudge, B: Bell>(
     alloc: Global,
@@ -300,25 +345,33 @@ pub fn step<R: Wait, D: CrashDisk, J: EffortJudge, B: Bell>(
     deed: &Option<Deed>,
     done: Option<JobDone>,
 ) -> Result<(), WorldFault>
-    requires ready { AreReady D.face state.old.pool.now (hosts_of state.old.seats.items) }
+    requires ready { AreReady D.face state.old.pool.now (hosts_of state.old.sites.items) }
     requires few { length state.old.bag.items + sends_in (world_in D.face state.old) s ≤ 4294967295 }
     requires deed { deed.now ≡ deed_of state.old.bag.items s }
     requires heard { IfSome deed.now (λ d. IsHeard d.input) }
     requires done { IfSome done (IsFor state.old.pool.now s) }
     ensures world { OnOk result (world_in D.face state.new ≡ happens (world_in D.face state.old) (events.Step s)) }
-    ensures history { HasNoted (entry_of (world_in D.face state.old) (events.Step s)) state.old.history.items state.new.history.items result }
-    ensures pending { OnOk result (state.new.pending.items ≡ left_after s state.old.pending.items ++ range_with_len (length state.old.bag.items) (sends_in (world_in D.face state.old) s)) }
-    ensures on { OnOk result (HaveGoneOn D.face (hosts_of state.old.seats.items) (hosts_of state.new.seats.items)) }
-    ensures fallen { OnErr result (HaveFallen D.face (hosts_of state.old.seats.items) (happens (world_in D.face state.old) (events.Step s)).peers (hosts_of state.new.seats.items)) }
-    ensures counted { Counted D.face state.old.seats.items state.new.seats.items result × Powered D.face [] [] state.old.seats.items state.new.seats.items }
+    ensures history { HasNoted (entry_of (world_in D.face state.old) (events.Step s)) state.old.history.items
+        state.new.history.items result }
+    ensures pending { OnOk result
+        (state.new.pending.items
+        ≡ left_after s state.old.pending.items
+        ++ range_with_len (length state.old.bag.items) (sends_in (world_in D.face state.old) s)) }
+    ensures on { OnOk result (HaveGoneOn D.face (hosts_of state.old.sites.items) (hosts_of state.new.sites.items)) }
+    ensures fallen { OnErr result
+        (HaveFallen D.face (hosts_of state.old.sites.items)
+        (happens (world_in D.face state.old) (events.Step s)).peers (hosts_of state.new.sites.items)) }
+    ensures counted { Counted D.face state.old.sites.items state.new.sites.items result
+        × Powered D.face [] [] state.old.sites.items state.new.sites.items }
     ensures pool { state.new.pool.now ≡ state.old.pool.now }
-    ensures hears { Hears (ears J.heard J.verdict B.rung B.limit) (alarms_by (world_in D.face state.old) (events.Step s)) watch.old watch.new result }
+    ensures hears { Hears (ears J.heard J.verdict B.rung B.limit)
+        (alarms_by (world_in D.face state.old) (events.Step s)) watch.old watch.new result }
 {
     let done = do_deed(
         alloc,
         rt,
         state.pool,
-        &mut state.seats,
+        &mut state.sites,
         state.tick,
         deed,
         done,

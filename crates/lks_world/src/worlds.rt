@@ -1,6 +1,7 @@
 //! A world as its callers see it: a plan, and the history of the events that it kept.
 
-ghost use Rattle.std.specs.Prelude.{◌≡◌, ◌≤◌, ◌-◌, ◌++◌, [], ℕ, IsTrue, true, None, Some, IfOk, IfErr, IfSome, OnOk, OnErr, List, length, map, not, is_some, slice_get};
+ghost use Rattle.std.specs.Prelude.{◌≡◌, ◌≤◌, ◌-◌, ◌++◌, [], ℕ, IsTrue, true, None, Some, IfOk, IfErr, IfSome, OnOk};
+ghost use Rattle.std.specs.Prelude.{OnErr, List, length, map, not, is_some, slice_get};
 ghost use Rattle.lks_base.specs.Checking.{plan_fault};
 ghost use Rattle.lks_base.specs.declared.events.Event.{Event};
 ghost use Rattle.lks_law.specs.Entries.{entries};
@@ -13,9 +14,11 @@ ghost use Rattle.lks_world.specs.Cuts.{step_cut};
 ghost use Rattle.lks_world.specs.Held.{AreFresh, AreUnfused, HaveBatches, HaveBegunUpTo};
 ghost use Rattle.lks_world.specs.Powers.{power_of};
 ghost use Rattle.lks_world.specs.Stopping.{StopsIn};
-ghost use Rattle.lks_world.specs.Giving.{Gives, HasTurn, IsExpected, IsUsedUp, StaysAtFault, Takes, TakesTurn, GivesWork, AreWorksOut, GivesFresh};
+ghost use Rattle.lks_world.specs.Giving.{Gives, HasTurn, IsExpected, IsUsedUp, StaysAtFault, Takes, TakesTurn};
+ghost use Rattle.lks_world.specs.Giving.{GivesWork, AreWorksOut, GivesFresh};
 ghost use Rattle.lks_world.specs.Beside.{IsForDue};
-ghost use Rattle.lks_world.specs.Worlds.{AreSilent, Begins, HasWatched, HaveServed, PerformsIn, Remembers, SpendsPower, StandsAtFault, halted};
+ghost use Rattle.lks_world.specs.Worlds.{AreSilent, Begins, HasWatched, HaveServed, PerformsIn, Remembers};
+ghost use Rattle.lks_world.specs.Worlds.{SpendsPower, StandsAtFault, halted};
 ghost use Rattle.lks_blocks.specs.Block.{AllOf};
 ghost use Rattle.lks_base.specs.declared.events.Due.TheVariants as dues;
 ghost use Rattle.lks_law.specs.Due.{dues, next_to_settle, IsEventOf};
@@ -30,15 +33,14 @@ use crate::faults::WorldFault;
 use crate::giving;
 use crate::giving::{Back, Next, Taken, hand_out, next_beside_work, take_in, work_left};
 use crate::marks::{Faults, Limits};
-use crate::seats::{turn_round, unseat};
 use crate::settling::{Course, next};
+use crate::sites::{turn_round, unsite};
 use crate::states::State;
 use boxcar::tag::Tag;
-use lks_alarm::Bell;
 use lks_base::{Due, Entry, OutOfMemory, Plan};
 use lks_blocks::BlockPool;
 use lks_disk::CrashDisk;
-use lks_effort::EffortJudge;
+use lks_outside::{Bell, EffortJudge};
 use lks_peer::is_tag;
 use lks_script::Step;
 use lks_versions::PinTag;
@@ -49,8 +51,8 @@ use std::marker::Model;
 use std::sync::Wait;
 use std::thread::Threads;
 
-/// What a world gives back at its end: the history, all disks in the order in which they were handed in, the judge, and the
-/// bells that want more, in their order.
+/// What a world gives back at its end: the history, all disks in the order in which they were handed in, the judge, and
+/// the bells that want more, in their order.
 #[derive(Drop)]
 pub struct Parts<D, J = Box<dyn EffortJudge>, B = Box<dyn Bell>> {
     pub history: Vec<Entry>,
@@ -59,9 +61,10 @@ pub struct Parts<D, J = Box<dyn EffortJudge>, B = Box<dyn Bell>> {
     pub bells: Vec<B>,
 }
 
-/// A world of peers: its plan and all that happened in it. Contracts see the plan, the pool and what the world remembers of its
-/// beginning, the history of events, how many of them were turns, which jobs are out, the fault that stopped it, the disks, the
-/// judge, and the bells. The i-th disk is that of the i-th peer of the plan, and those of honest peers hold their journals.
+/// A world of peers: its plan and all that happened in it. Contracts see the plan, the pool and what the world
+/// remembers of its beginning, the history of events, how many of them were turns, which jobs are out, the fault that
+/// stopped it, the disks, the judge, and the bells. The i-th disk is that of the i-th peer of the plan, and those of
+/// honest peers hold their journals.
 #[derive(Drop)]
 pub struct World<'a, D: CrashDisk, J: EffortJudge = Box<dyn EffortJudge>, B: Bell = Box<dyn Bell>> {
     alloc: Global,
@@ -94,8 +97,9 @@ impl<'a, D: CrashDisk, J: EffortJudge, B: Bell> Model for World<'a, D, J, B> {
 impl<'a, D: CrashDisk + Drop, J: EffortJudge, B: Bell> World<'a, D, J, B> {
     ghost use Rattle.lks_world.specs.Begun.{disks_made, fault_made};
 
-    /// A world in which nothing happened yet. The plan is good, and there is a fresh disk for each of its peers; the pool takes
-    /// the blocks of all. The judge has heard nothing, and the bells, which rang for nothing yet and want to, hang in their order.
+    /// A world in which nothing happened yet. The plan is good, and there is a fresh disk for each of its peers; the
+    /// pool takes the blocks of all. The judge has heard nothing, and the bells, which rang for nothing yet and want
+    /// to, hang in their order.
     pub fn new<R: Wait>(
         alloc: Global,
         rt: &R,
@@ -110,8 +114,12 @@ impl<'a, D: CrashDisk + Drop, J: EffortJudge, B: Bell> World<'a, D, J, B> {
         requires fresh { AreFresh D.face disks.items }
         requires unasked { J.heard judge ≡ [] }
         requires silent { AreSilent (ears J.heard J.verdict B.rung B.limit) bells.items }
-        ensures begins { IfOk result (Begins (ears J.heard J.verdict B.rung B.limit) plan pool.now (map D.face.faults disks.items) judge bells.items) }
-        ensures refused { IfErr result (λ e. (e.0.history.items ≡ []) × AreUnfused D.face e.0.disks.items × (e.0.judge ≡ judge) × (e.0.bells.items ≡ bells.items)) }
+        ensures begins { IfOk result
+            (Begins (ears J.heard J.verdict B.rung B.limit) plan pool.now (map D.face.faults disks.items) judge
+            bells.items) }
+        ensures refused { IfErr result
+            (λ e. (e.0.history.items ≡ []) × AreUnfused D.face e.0.disks.items × (e.0.judge ≡ judge)
+            × (e.0.bells.items ≡ bells.items)) }
         ensures disks { ServesHonest D.face plan.peers disks.items (disks_made result) (fault_made result) }
         ensures made { OnErr result (HaveBegunUpTo D.face plan disks.items (disks_made result)) }
         ensures power { map (power_of D.face) (disks_made result) ≡ map (power_of D.face) disks.items }
@@ -147,8 +155,9 @@ impl<'a, D: CrashDisk + Drop, J: EffortJudge, B: Bell> World<'a, D, J, B> {
 
     /// Does one step of a script whole. After a fault the world takes no further step.
     ///
-    /// Where a step settles or finishes and no message waits, all votes and tallies that are ready are hashed side by side, each
-    /// once the gate let it begin; their events then come one after another. The gate is told of each entry that is kept.
+    /// Where a step settles or finishes and no message waits, all votes and tallies that are ready are hashed side by
+    /// side, each once the gate let it begin; their events then come one after another. The gate is told of each entry
+    /// that is kept.
     pub fn perform<R: Threads + Wait + Sync, G: Gate>(
         &mut self,
         rt: &R,
@@ -159,18 +168,20 @@ impl<'a, D: CrashDisk + Drop, J: EffortJudge, B: Bell> World<'a, D, J, B> {
         requires legal { is_step_of self.old.plan step.now ≡ true }
         ensures remembers { Remembers self.old self.new }
         ensures turns { (self.new.turns ≡ self.old.turns) × (self.new.out ≡ self.old.out) }
-        // The history goes on as the step says and as the judge says, who was asked what the new events ask; and the bells were
-        // rung for their alarms.
+        // The history goes on as the step says and as the judge says, who was asked what the new events ask; and the
+        // bells were rung for their alarms.
         ensures performs { OnOk result (PerformsIn (ears J.heard J.verdict B.rung B.limit) step.now self.old self.new) }
-        // At a fault it went on less far: to a front of such a history. The judge was asked what that asks, and what the step asks that
-        // was begun, if one was; the bells were rung for its alarms; and a crash leaves the journals of that history, or that of the
-        // peer which began the step with the step's batch.
-        ensures stops { OnErr result (StopsIn D.face (ears J.heard J.verdict B.rung B.limit) step.now self.old self.new) }
+        // At a fault it went on less far: to a front of such a history. The judge was asked what that asks, and what
+        // the step asks that was begun, if one was; the bells were rung for its alarms; and a crash leaves the journals
+        // of that history, or that of the peer which began the step with the step's batch.
+        ensures stops { OnErr result
+            (StopsIn D.face (ears J.heard J.verdict B.rung B.limit) step.now self.old self.new) }
         ensures front { (more : List Event) × (self.new.history ≡ self.old.history ++ more) }
         ensures stopped { self.new.stopped ≡ fault_in result }
         ensures disks { ServesHonest D.face self.old.plan.peers self.old.disks self.new.disks (fault_in result) }
-        // The honest peers' disks counted the fuses that burned and the cuts of their power in the new events, and besides at most one
-        // cut, at a fault or a full history, of the peer whose power the step cuts. A fuse is one of its calls and choice.
+        // The honest peers' disks counted the fuses that burned and the cuts of their power in the new events, and
+        // besides at most one cut, at a fault or a full history, of the peer whose power the step cuts. A fuse is one
+        // of its calls and choice.
         ensures power { SpendsPower D.face J.verdict step.now self.old self.new result }
     {
         let (plan, state, watch) = (&self.plan, &mut self.state, &mut self.watch);
@@ -183,8 +194,9 @@ impl<'a, D: CrashDisk + Drop, J: EffortJudge, B: Bell> World<'a, D, J, B> {
         }
     }
 
-    /// Gives out one thing that is due, while there are turns and room for an event: the job of ready work that isn't out, else it
-    /// does the first delivery or turn. After a fault, which leaves the history and the turns, the world takes no further step.
+    /// Gives out one thing that is due, while there are turns and room for an event: the job of ready work that isn't
+    /// out, else it does the first delivery or turn. After a fault, which leaves the history and the turns, the world
+    /// takes no further step.
     pub fn take_due<R: Wait>(&mut self, rt: &R) -> Result<Taken, WorldFault>
         requires running { self.old.stopped ≡ None }
         ensures remembers { Remembers self.old self.new }
@@ -202,8 +214,9 @@ impl<'a, D: CrashDisk + Drop, J: EffortJudge, B: Bell> World<'a, D, J, B> {
         }
     }
 
-    /// Takes back the result of a job. It is kept where its peer is ready for this work over the version that was hashed: its event
-    /// is a turn. After a fault, which leaves the history and the turns, the world takes no further step.
+    /// Takes back the result of a job. It is kept where its peer is ready for this work over the version that was
+    /// hashed: its event is a turn. After a fault, which leaves the history and the turns, the world takes no further
+    /// step.
     pub fn give_back<R: Wait>(&mut self, rt: &R, done: JobDone) -> Result<Back, WorldFault>
         requires running { self.old.stopped ≡ None }
         requires of { AllOf self.old.pool (refs_done done) }
@@ -248,7 +261,8 @@ impl<'a, D: CrashDisk + Drop, J: EffortJudge, B: Bell> World<'a, D, J, B> {
 
     /// A copy of the last entry: none exactly where the history is empty.
     pub fn last_entry(&self) -> Result<Option<Entry>, OutOfMemory>
-        ensures { IfOk result (λ o. o ≡ slice_get (entries self.now.plan self.now.history) (length self.now.history - 1)) }
+        ensures { IfOk result
+            (λ o. o ≡ slice_get (entries self.now.plan self.now.history) (length self.now.history - 1)) }
     {
         match self.state.history.as_slice().last() {
             Some(entry) => Ok(Some(copy_entry(self.alloc, entry)?)),
@@ -256,10 +270,13 @@ impl<'a, D: CrashDisk + Drop, J: EffortJudge, B: Bell> World<'a, D, J, B> {
         }
     }
 
-    /// What the type of a world says of it: unless a fault stopped it, its judge and its bells have watched its history; at a fault,
-    /// what it left of these and of the journals; and what became of its disks since the beginning.
+    /// What the type of a world says of it: unless a fault stopped it, its judge and its bells have watched its
+    /// history; at a fault, what it left of these and of the journals; and what became of its disks since the
+    /// beginning.
     pub fn known(&self)
-        ensures watched { self.now.stopped ≡ None → HasWatched (ears J.heard J.verdict B.rung B.limit) self.now.plan self.now.start.limits self.now.history self.now.judge self.now.bells }
+        ensures watched { self.now.stopped ≡ None
+            → HasWatched (ears J.heard J.verdict B.rung B.limit) self.now.plan self.now.start.limits
+            self.now.history self.now.judge self.now.bells }
         ensures halted { StandsAtFault D.face (ears J.heard J.verdict B.rung B.limit) self.now }
         ensures served { HaveServed D.face self.now.plan.peers self.now.start.faults self.now.disks self.now.stopped }
         ensures happened { IsHistory self.now.plan self.now.history }
@@ -290,18 +307,22 @@ impl<'a, D: CrashDisk + Drop, J: EffortJudge, B: Bell> World<'a, D, J, B> {
         self.stopped
     }
 
-    /// Gives all back, no disk with a fuse. Unless a fault stopped the world, the honest peers' disks hold their journals, and
-    /// the judge and the bells have watched the history.
+    /// Gives all back, no disk with a fuse. Unless a fault stopped the world, the honest peers' disks hold their
+    /// journals, and the judge and the bells have watched the history.
     pub fn into_parts(self) -> Parts<D, J, B>
         ensures history { result.history.items ≡ entries self.entry.plan self.entry.history }
         ensures happened { IsHistory self.entry.plan self.entry.history }
         ensures unfused { AreUnfused D.face result.disks.items }
         ensures disks { result.disks.items ≡ self.entry.disks }
         ensures watched { (result.judge ≡ self.entry.judge) × (result.bells.items ≡ self.entry.bells) }
-        ensures holds { self.entry.stopped ≡ None → HaveBatches D.face self.entry.plan self.entry.history self.entry.disks }
-        ensures heard { self.entry.stopped ≡ None → HasWatched (ears J.heard J.verdict B.rung B.limit) self.entry.plan self.entry.start.limits self.entry.history self.entry.judge self.entry.bells }
+        ensures holds { self.entry.stopped ≡ None
+            → HaveBatches D.face self.entry.plan self.entry.history self.entry.disks }
+        ensures heard { self.entry.stopped ≡ None
+            → HasWatched (ears J.heard J.verdict B.rung B.limit) self.entry.plan self.entry.start.limits
+            self.entry.history self.entry.judge self.entry.bells }
         ensures halted { StandsAtFault D.face (ears J.heard J.verdict B.rung B.limit) self.entry }
-        ensures served { HaveServed D.face self.entry.plan.peers self.entry.start.faults self.entry.disks self.entry.stopped }
+        ensures served { HaveServed D.face self.entry.plan.peers self.entry.start.faults self.entry.disks
+            self.entry.stopped }
     {
         let World {
             state,
@@ -309,8 +330,8 @@ impl<'a, D: CrashDisk + Drop, J: EffortJudge, B: Bell> World<'a, D, J, B> {
             rest: mut disks,
             ..
         } = self;
-        let State { seats, history, .. } = state;
-        unseat(seats, &mut disks);
+        let State { sites, history, .. } = state;
+        unsite(sites, &mut disks);
         turn_round(&mut disks);
         let (judge, bells) = watch.into_parts();
         Parts {
@@ -371,10 +392,10 @@ impl<'a, D: CrashDisk + Drop, J: EffortJudge, B: Bell> World<'a, D, J, B> {
         ensures same { OnErr result (StaysAtFault self.old self.new) }
         ensures stopped { self.new.stopped ≡ fault_in result }
     {
-        let Some((place, name)) = work_left(&self.state.seats, self.out.as_slice()) else {
+        let Some((place, name)) = work_left(&self.state.sites, self.out.as_slice()) else {
             return Ok(None);
         };
-        match hand_out(&mut self.state.seats, &mut self.out, place, name) {
+        match hand_out(&mut self.state.sites, &mut self.out, place, name) {
             Ok(job) => Ok(Some(job)),
             Err(OutOfMemory) => {
                 self.stopped = Some(WorldFault::Memory);
@@ -412,7 +433,7 @@ impl<'a, D: CrashDisk + Drop, J: EffortJudge, B: Bell> World<'a, D, J, B> {
         ensures same { OnErr result (StaysAtFault self.old self.new) }
         ensures stopped { self.new.stopped ≡ fault_in result }
     {
-        match giving::expected(&mut self.state.seats, done) {
+        match giving::expected(&mut self.state.sites, done) {
             Ok(expected) => Ok(expected),
             Err(OutOfMemory) => {
                 self.stopped = Some(WorldFault::Memory);

@@ -10,14 +10,16 @@ pub length-finding_text : (finding : Finding) → 0 < length (finding_text findi
 unfolding finding_text
 length-finding_text finding = omega (arith, length-append (finding_words finding) (10 ∷ []))
 
-pub nothing_added : (bytes piece : List ℕ) (after : Option (List ℕ)) → 0 < length piece → after ≡ Some bytes → AddsFront bytes piece after
+pub nothing_added : (bytes piece : List ℕ) (after : Option (List ℕ)) → 0 < length piece → after ≡ Some bytes
+    → AddsFront bytes piece after
 nothing_added bytes piece after some same = record {
   count = 0;
   within = some;
   taken = same ∙ ap Some (sym (append-nil bytes));
 }
 
-pub remembers_then : {D J B : Type 0} (old mid new : Seen D J B) → Remembers old mid → Remembers mid new → Remembers old new
+pub remembers_then : {D J B : Type 0} (old mid new : Seen D J B) → Remembers old mid → Remembers mid new
+    → Remembers old new
 remembers_then old mid new first next = record {
   plan = next.plan ∙ first.plan;
   pool = next.pool ∙ first.pool;

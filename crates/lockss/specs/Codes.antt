@@ -10,7 +10,8 @@ use Rattle.lockss.specs.declared.ends.Played.TheVariants.{Stopped, Told, Unmade,
 use Rattle.lockss.specs.declared.ends.Raced.TheVariants as raced
 use Rattle.lockss.specs.declared.ends.Unscripted.TheVariants.{Unread, Unsaid}
 use Rattle.lockss.specs.declared.statuses.Status.{Status}
-use Rattle.lockss.specs.declared.statuses.Status.TheVariants.{Done, Alarmed, Usage, BadScript, ReadFault, WriteFault, DiskFault, NoMemory, TooLong, Doubted}
+use Rattle.lockss.specs.declared.statuses.Status.TheVariants.{Done, Alarmed, Usage, BadScript, ReadFault, WriteFault}
+use Rattle.lockss.specs.declared.statuses.Status.TheVariants.{DiskFault, NoMemory, TooLong, Doubted}
 
 abbrev pub status_of : End → Status
 status_of end.Unnamed = Usage

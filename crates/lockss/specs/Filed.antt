@@ -10,7 +10,9 @@ use Rattle.lks_law.specs.Batches.{batches_at}
 -- the batches of each of these honest peers, of which the first has this place among all
 abbrev pub filed_from : Plan → List Event → ℕ → List PeerPlan → List Filed
 filed_from plan history place [] = []
-filed_from plan history place (p ∷ ps) = record { peer = p.id; bodies = bodies_of (batches_at place plan history) } ∷ filed_from plan history (place + 1) ps
+filed_from plan history place (p ∷ ps) =
+    record { peer = p.id; bodies = bodies_of (batches_at place plan history) }
+    ∷ filed_from plan history (place + 1) ps
 
 -- the lines of the plan, and behind them a line for the journal of each honest peer, in the plan's order
 unfoldable pub journals_text : Plan → List Event → List ℕ

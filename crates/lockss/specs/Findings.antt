@@ -22,7 +22,8 @@ why_words (why.Vote voter) = spaced (codes "vote" ∷ decimal voter ∷ [])
 -- that each replaced block has its evidence, and how many there are; or where and why one is doubted
 unfoldable pub finding_words : Finding → List ℕ
 finding_words (Yes replaced) = spaced (codes "evidence" ∷ codes "yes" ∷ decimal replaced ∷ [])
-finding_words (No doubt) = spaced (codes "evidence" ∷ codes "no" ∷ decimal doubt.peer ∷ decimal doubt.place ∷ why_words doubt.why ∷ [])
+finding_words (No doubt) =
+    spaced (codes "evidence" ∷ codes "no" ∷ decimal doubt.peer ∷ decimal doubt.place ∷ why_words doubt.why ∷ [])
 
 unfoldable pub finding_text : Finding → List ℕ
 finding_text finding = line (finding_words finding)

@@ -33,8 +33,8 @@ pub enum Raced {
     Stopped(WorldFault),
     /// All steps were done. A fault stopped it while threads took what was due.
     Halted(WorldFault),
-    /// All steps were done, threads took what was due to the end, and all was told, and whether an alarm was raised; or less than
-    /// all was told.
+    /// All steps were done, threads took what was due to the end, and all was told, and whether an alarm was raised; or
+    /// less than all was told.
     Told(Result<bool, WriteStop>),
 }
 

@@ -1,6 +1,7 @@
 //! Journals are read back from their disks, and told.
 
-ghost use Rattle.std.specs.Prelude.{◌≡◌, ◌≤◌, ◌<◌, ◌≢◌, ◌++◌, ◌∷◌, [], ℕ, List, Some, Err, IfOk, OnOk, IsErrOf, All, length, map, slice_get, vec_len, vec_capacity};
+ghost use Rattle.std.specs.Prelude.{◌≡◌, ◌≤◌, ◌<◌, ◌≢◌, ◌++◌, ◌∷◌, [], ℕ, List, Some, Err, IfOk, OnOk, IsErrOf, All};
+ghost use Rattle.std.specs.Prelude.{length, map, slice_get, vec_len, vec_capacity};
 ghost use Rattle.std.specs.List.{flat_map, insert};
 ghost use Rattle.lks_disk.specs.Counts.{Rose};
 ghost use Rattle.lks_field.specs.Frames.{HoldsBodies, AreBodies};
@@ -9,7 +10,7 @@ ghost use Rattle.lks_journal.specs.Faults.{IsOfDisk};
 ghost use Rattle.lks_print.specs.Scripts.{plan_text};
 ghost use Rattle.lks_report.specs.Alarms.{is_alarmed};
 ghost use Rattle.lks_world.specs.Counts.{fault_in};
-ghost use Rattle.lks_world.specs.Seats.{id_for};
+ghost use Rattle.lks_world.specs.Sites.{id_for};
 ghost use Rattle.lockss.specs.Promise.{Writes};
 ghost use Rattle.lockss.specs.ReadingBack.{AreOn, CanRead, IsJournal, IsReopened, IsReadAt, ReadsBack, TellsJournals};
 
@@ -67,7 +68,8 @@ pub fn begin_journals(alloc: Global, plan: &Plan, history: &[Entry]) -> Result<P
     })
 }
 
-/// What a refusal of a journal says of its peer's disk. It isn't cut off without a fuse, and isn't damaged where it holds bodies.
+/// What a refusal of a journal says of its peer's disk. It isn't cut off without a fuse, and isn't damaged where it
+/// holds bodies.
 fn blame(peer: PeerId, fault: JournalFault) -> WorldFault
     requires own { IsOfDisk {T = Unit {0}} (Err fault) }
     requires uncut { fault ≢ JournalFault.Cut }
@@ -85,7 +87,8 @@ fn read_back<D: CrashDisk>(alloc: Global, peer: PeerId, disk: D) -> (D, Result<F
     requires is { IsJournal D.face disk }
     ensures filed { IfOk result.1 (λ j. (j.peer ≡ peer) × HoldsBodies j.bodies (D.face.seen disk)) }
     ensures read { IsReopened D.face disk result.0 }
-    ensures cause { (id : ℕ) → IsErrOf result.1 (WorldFault.Disk id) → (peer ≡ id) × Rose (D.face.faults disk) (D.face.faults result.0) }
+    ensures cause { (id : ℕ) → IsErrOf result.1 (WorldFault.Disk id)
+        → (peer ≡ id) × Rose (D.face.faults disk) (D.face.faults result.0) }
 {
     match Journal::reopen(alloc, disk) {
         Ok((journal, bodies)) => {
@@ -151,7 +154,9 @@ fn put_each<D: CrashDisk + Drop>(
     disks: &mut Vec<D>,
 ) -> Result<(), WorldFault>
     requires can { CanRead D.face owners.now disks.old.items }
-    ensures lines { OnOk result ((journals : List Written) × AreOn D.face owners.now disks.old.items journals × AreFiles journals × (text.new.items ≡ text.old.items ++ flat_map journal_text journals)) }
+    ensures lines { OnOk result
+        ((journals : List Written) × AreOn D.face owners.now disks.old.items journals × AreFiles journals
+        × (text.new.items ≡ text.old.items ++ flat_map journal_text journals)) }
     ensures disks { ReadsBack D.face owners.now disks.old.items disks.new.items (fault_in result) }
 {
     let journals = read_each(alloc, owners, disks)?;
@@ -176,7 +181,8 @@ pub fn tell_journals<K: Sink, D: CrashDisk + Drop>(
     disks: &mut Vec<D>,
 ) -> Played
     requires can { CanRead D.face preface.owners.items disks.old.items }
-    ensures tells { TellsJournals D.face K.taken K.faults preface disks.old.items disks.new.items sink.old sink.new result }
+    ensures tells { TellsJournals D.face K.taken K.faults preface disks.old.items disks.new.items sink.old sink.new
+        result }
     ensures count { K.faults sink.old ≤ K.faults sink.new }
 {
     let Preface {

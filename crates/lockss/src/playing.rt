@@ -1,6 +1,7 @@
 //! A script is played on disks, and what is told of its history is written.
 
-ghost use Rattle.std.specs.Prelude.{◌≡◌, ◌≤◌, ◌++◌, [], ℕ, List, All, true, false, Some, None, IfOk, IfErr, OnOk, OnErr, IsErrOf, length};
+ghost use Rattle.std.specs.Prelude.{◌≡◌, ◌≤◌, ◌++◌, [], ℕ, List, All, true, false, Some, None, IfOk, IfErr, OnOk};
+ghost use Rattle.std.specs.Prelude.{OnErr, IsErrOf, length};
 ghost use Rattle.lks_base.specs.Checking.{plan_fault};
 ghost use Rattle.lks_base.specs.declared.events.Event.{Event};
 ghost use Rattle.lks_gather.specs.Texts.{IsSaidPlan};
@@ -24,15 +25,13 @@ ghost use Rattle.lockss.specs.ReadingBack.{CanRead};
 
 use crate::ends::Played;
 use crate::journals::{Preface, begin_journals, tell_journals};
-use lks_alarm::Bell;
 use lks_base::{Entry, Plan};
 use lks_blocks::BlockPool;
-use lks_command::Play;
 use lks_disk::CrashDisk;
-use lks_effort::EffortJudge;
-use lks_outside::{Sink, WriteStop};
+use lks_outside::{Bell, EffortJudge, Sink, WriteStop};
 use lks_report::{has_alarm, report, summary};
 use lks_script::{Script, Step};
+use lks_words::Play;
 use lks_work::Gate;
 use lks_world::{Parts, World, WorldFault};
 use std::alloc::Global;
@@ -60,14 +59,23 @@ pub fn perform_all<R: Threads + Wait + Sync, D: CrashDisk + Drop, J: EffortJudge
     requires legal { are_steps_of world.old.plan steps.now ≡ true }
     ensures remembers { Remembers world.old world.new }
     ensures turns { world.new.turns ≡ world.old.turns }
-    ensures follows { OnOk result (Follows (J.verdict world.old.judge) world.old.plan world.old.history steps.now world.new.history) }
-    ensures watches { OnOk result (Watches world.old.plan world.old.history world.new.history (watching (ears J.heard J.verdict B.rung B.limit) world.old.judge world.old.bells) (watching (ears J.heard J.verdict B.rung B.limit) world.new.judge world.new.bells)) }
-    ensures off { OnErr result (IsLeftOff D.face (ears J.heard J.verdict B.rung B.limit) steps.now world.old world.new) }
+    ensures follows { OnOk result
+        (Follows (J.verdict world.old.judge) world.old.plan world.old.history steps.now world.new.history) }
+    ensures watches { OnOk result
+        (Watches world.old.plan world.old.history world.new.history
+        (watching (ears J.heard J.verdict B.rung B.limit) world.old.judge world.old.bells)
+        (watching (ears J.heard J.verdict B.rung B.limit) world.new.judge world.new.bells)) }
+    ensures off { OnErr result
+        (IsLeftOff D.face (ears J.heard J.verdict B.rung B.limit) steps.now world.old world.new) }
     ensures stopped { world.new.stopped ≡ fault_in result }
     ensures serves { ServesHonest D.face world.old.plan.peers world.old.disks world.new.disks (fault_in result) }
     ensures power { CountsPower D.face world.old world.new (fault_in result) }
-    ensures spent { OnOk result (AreSpent D.face (J.verdict world.old.judge) world.old.plan world.old.history world.old.disks steps.now world.new.history world.new.disks) }
-    ensures spent_up_to { IfErr result (λ fault. AreSpentUpTo D.face (J.verdict world.old.judge) world.old.plan world.old.history world.old.disks steps.now fault world.new.history world.new.disks) }
+    ensures spent { OnOk result
+        (AreSpent D.face (J.verdict world.old.judge) world.old.plan world.old.history world.old.disks steps.now
+        world.new.history world.new.disks) }
+    ensures spent_up_to { IfErr result
+        (λ fault. AreSpentUpTo D.face (J.verdict world.old.judge) world.old.plan world.old.history world.old.disks
+        steps.now fault world.new.history world.new.disks) }
 {
     for step in steps {
         world.perform(rt, step, gate)?;
@@ -83,9 +91,11 @@ fn write<K: Sink>(
     sink: &mut K,
 ) -> Result<(), WriteStop>
     requires told { (deed_of command).reads_back ≡ false }
-    ensures whole { (events : List Event) → history.now ≡ entries plan.now events → (bytes : List ℕ) → K.taken sink.old ≡ Some bytes →
+    ensures whole { (events : List Event) → history.now ≡ entries plan.now events → (bytes : List ℕ)
+        → K.taken sink.old ≡ Some bytes →
         OnOk result (K.taken sink.new ≡ Some (bytes ++ (deed_of command).told plan.now events)) }
-    ensures part { (events : List Event) → history.now ≡ entries plan.now events → (bytes : List ℕ) → K.taken sink.old ≡ Some bytes →
+    ensures part { (events : List Event) → history.now ≡ entries plan.now events → (bytes : List ℕ)
+        → K.taken sink.old ≡ Some bytes →
         OnErr result (AddsFront bytes ((deed_of command).told plan.now events) (K.taken sink.new)) }
     ensures failed { IsErrOf result WriteStop.Failed → Rose (K.faults sink.old) (K.faults sink.new) }
     ensures count { K.faults sink.old ≤ K.faults sink.new }
@@ -105,7 +115,9 @@ pub fn tell<K: Sink, D: CrashDisk + Drop, J: EffortJudge, B: Bell>(
     sink: &mut K,
 ) -> Result<bool, WriteStop>
     requires told { (deed_of command).reads_back ≡ false }
-    ensures tells { Tells (senses D.face (ears J.heard J.verdict B.rung B.limit) K.taken K.faults) ((deed_of command).told world.now.plan world.now.history) (has_any (alarms world.now.plan world.now.history)) sink.old sink.new result }
+    ensures tells { Tells (senses D.face (ears J.heard J.verdict B.rung B.limit) K.taken K.faults)
+        ((deed_of command).told world.now.plan world.now.history)
+        (has_any (alarms world.now.plan world.now.history)) sink.old sink.new result }
     ensures count { K.faults sink.old ≤ K.faults sink.new }
 {
     let history = world.history();
@@ -122,7 +134,8 @@ fn tell_first<K: Sink, D: CrashDisk + Drop, J: EffortJudge, B: Bell>(
     world: &World<'_, D, J, B>,
     sink: &mut K,
 ) -> Course
-    ensures tells { TellsFirst (senses D.face (ears J.heard J.verdict B.rung B.limit) K.taken K.faults) command world.now.plan world.now.history sink.old sink.new result }
+    ensures tells { TellsFirst (senses D.face (ears J.heard J.verdict B.rung B.limit) K.taken K.faults) command
+        world.now.plan world.now.history sink.old sink.new result }
     ensures count { K.faults sink.old ≤ K.faults sink.new }
 {
     match command {
@@ -156,7 +169,8 @@ fn play_in<
     requires running { world.old.stopped ≡ None }
     requires legal { are_steps_of world.old.plan steps.now ≡ true }
     ensures plan { world.new.plan ≡ world.old.plan }
-    ensures comes { ComesIn (senses D.face (ears J.heard J.verdict B.rung B.limit) K.taken K.faults) command steps.now world.old world.new sink.old sink.new result }
+    ensures comes { ComesIn (senses D.face (ears J.heard J.verdict B.rung B.limit) K.taken K.faults) command
+        steps.now world.old world.new sink.old sink.new result }
     ensures count { K.faults sink.old ≤ K.faults sink.new }
 {
     match perform_all(rt, gate, world, steps) {
@@ -198,8 +212,8 @@ fn go_on<K: Sink, D: CrashDisk + Drop>(
     }
 }
 
-/// A world in which nothing happened yet, on disks that are taken out of their places, as are the judge and the bells. Where there
-/// is none, all are back.
+/// A world in which nothing happened yet, on disks that are taken out of their places, as are the judge and the bells.
+/// Where there is none, all are back.
 pub fn start<'a, D: CrashDisk + Drop, J: EffortJudge, B: Bell, R: Wait>(
     alloc: Global,
     rt: &R,
@@ -214,7 +228,9 @@ pub fn start<'a, D: CrashDisk + Drop, J: EffortJudge, B: Bell, R: Wait>(
     requires fresh { AreFresh D.face disks.old.items }
     requires unasked { (j : J) × (judge.old ≡ Some j) × (J.heard j ≡ []) }
     requires silent { All (IsSilent B.rung B.limit) bells.old.items }
-    ensures starts { IfOk result (Starts D.face (ears J.heard J.verdict B.rung B.limit) plan pool.now disks.old.items judge.old bells.old.items) }
+    ensures starts { IfOk result
+        (Starts D.face (ears J.heard J.verdict B.rung B.limit) plan pool.now disks.old.items judge.old
+        bells.old.items) }
     ensures refused { IfErr result (IsRefused D.face plan disks.old.items disks.new.items) }
     ensures back { OnErr result ((judge.new ≡ judge.old) × (bells.new.items ≡ bells.old.items)) }
 {
@@ -232,8 +248,8 @@ pub fn start<'a, D: CrashDisk + Drop, J: EffortJudge, B: Bell, R: Wait>(
     }
 }
 
-/// Plays a script on disks, which are back in their places afterwards, as are the judge and the bells that want more, and
-/// tells what happened.
+/// Plays a script on disks, which are back in their places afterwards, as are the judge and the bells that want more,
+/// and tells what happened.
 pub fn play<
     R: Threads + Wait + Sync,
     K: Sink,
@@ -255,8 +271,11 @@ pub fn play<
     requires good { plan_fault script.plan ≡ None }
     requires legal { are_steps_of script.plan script.steps ≡ true }
     requires said { (deed_of command).reads_back ≡ true → IsSaidPlan script.plan }
-    requires given { AreGiven (senses D.face (ears J.heard J.verdict B.rung B.limit) K.taken K.faults) (devices disks.old.items sink.old judge.old bells.old.items) }
-    ensures plays { PlaysTo (senses D.face (ears J.heard J.verdict B.rung B.limit) K.taken K.faults) (deed_of command) script (devices disks.old.items sink.old judge.old bells.old.items) (devices disks.new.items sink.new judge.new bells.new.items) result }
+    requires given { AreGiven (senses D.face (ears J.heard J.verdict B.rung B.limit) K.taken K.faults)
+        (devices disks.old.items sink.old judge.old bells.old.items) }
+    ensures plays { PlaysTo (senses D.face (ears J.heard J.verdict B.rung B.limit) K.taken K.faults)
+        (deed_of command) script (devices disks.old.items sink.old judge.old bells.old.items)
+        (devices disks.new.items sink.new judge.new bells.new.items) result }
     ensures count { K.faults sink.old ≤ K.faults sink.new }
 {
     let Ok(pool) = BlockPool::new(alloc) else {

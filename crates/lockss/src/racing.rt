@@ -11,14 +11,12 @@ ghost use Rattle.lockss.specs.Running.{ComesOut, EndsAs};
 
 use crate::ends::Raced;
 use crate::playing::{hand_back, perform_all, start, tell};
-use lks_alarm::Bell;
 use lks_blocks::BlockPool;
-use lks_command::Play;
 use lks_disk::CrashDisk;
-use lks_effort::EffortJudge;
-use lks_outside::Sink;
+use lks_outside::{Bell, EffortJudge, Sink};
 use lks_race::race;
 use lks_script::{Script, Step};
+use lks_words::Play;
 use lks_work::Gate;
 use lks_world::{World, WorldFault};
 use std::alloc::Global;
@@ -47,7 +45,8 @@ fn race_and_tell<
     requires running { world.stopped ≡ None }
     requires threads { (1 ≤ threads) × (threads ≤ 64) }
     ensures runs { Runs D.face (ears J.heard J.verdict B.rung B.limit) world.entry result.0 }
-    ensures ends { EndsAs (senses D.face (ears J.heard J.verdict B.rung B.limit) K.taken K.faults) result.0 sink.old sink.new result.1 }
+    ensures ends { EndsAs (senses D.face (ears J.heard J.verdict B.rung B.limit) K.taken K.faults) result.0 sink.old
+        sink.new result.1 }
     ensures count { K.faults sink.old ≤ K.faults sink.new }
 {
     let (world, end) = race(alloc, rt, world, pool, threads, gate);
@@ -81,7 +80,8 @@ fn race_in<
     requires legal { are_steps_of world.plan steps.now ≡ true }
     requires pool { pool.now ≡ world.pool }
     requires threads { (1 ≤ threads) × (threads ≤ 64) }
-    ensures comes { ComesOut (senses D.face (ears J.heard J.verdict B.rung B.limit) K.taken K.faults) steps.now world.entry result.0 sink.old sink.new result.1 }
+    ensures comes { ComesOut (senses D.face (ears J.heard J.verdict B.rung B.limit) K.taken K.faults) steps.now
+        world.entry result.0 sink.old sink.new result.1 }
     ensures count { K.faults sink.old ≤ K.faults sink.new }
 {
     match perform_all(rt, gate, &mut world, steps) {
@@ -90,8 +90,8 @@ fn race_in<
     }
 }
 
-/// Plays a script on disks, lets so many threads take what is due, and tells what happened. Disks, judge and the bells that want
-/// more are back in their places afterwards.
+/// Plays a script on disks, lets so many threads take what is due, and tells what happened. Disks, judge and the bells
+/// that want more are back in their places afterwards.
 pub fn race_script<
     R: Threads + Wait + Sync,
     K: Sink,
@@ -113,8 +113,11 @@ pub fn race_script<
     requires threads { (1 ≤ threads) × (threads ≤ 64) }
     requires good { plan_fault script.plan ≡ None }
     requires legal { are_steps_of script.plan script.steps ≡ true }
-    requires given { AreGiven (senses D.face (ears J.heard J.verdict B.rung B.limit) K.taken K.faults) (devices disks.old.items sink.old judge.old bells.old.items) }
-    ensures races { RacesTo (senses D.face (ears J.heard J.verdict B.rung B.limit) K.taken K.faults) script (devices disks.old.items sink.old judge.old bells.old.items) (devices disks.new.items sink.new judge.new bells.new.items) result }
+    requires given { AreGiven (senses D.face (ears J.heard J.verdict B.rung B.limit) K.taken K.faults)
+        (devices disks.old.items sink.old judge.old bells.old.items) }
+    ensures races { RacesTo (senses D.face (ears J.heard J.verdict B.rung B.limit) K.taken K.faults) script
+        (devices disks.old.items sink.old judge.old bells.old.items)
+        (devices disks.new.items sink.new judge.new bells.new.items) result }
     ensures count { K.faults sink.old ≤ K.faults sink.new }
 {
     let Ok(pool) = BlockPool::new(alloc) else {

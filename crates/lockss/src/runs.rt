@@ -2,7 +2,7 @@
 
 ghost use Rattle.std.specs.Prelude.{◌≡◌, ◌≤◌, ◌↔◌, true, None, Some, IfOk, IfErr, map, string_bytes};
 ghost use Rattle.lks_base.specs.Checking.{plan_fault};
-ghost use Rattle.lks_command.specs.Commands.{command_in, HasThreads};
+ghost use Rattle.lks_words.specs.Commands.{command_in, HasThreads};
 ghost use Rattle.lks_evidence.specs.Holding.{IsYes, SetHolds};
 ghost use Rattle.lks_evidence.specs.Search.{finding as finding_of};
 ghost use Rattle.lks_evidence.specs.Sizes.{IsSmall};
@@ -21,15 +21,13 @@ use crate::findings::tell_finding;
 use crate::playing::play;
 use crate::racing::race_script;
 use crate::statuses::Status;
-use lks_alarm::Bell;
-use lks_command::{Command, Play, parse};
 use lks_disk::CrashDisk;
 use lks_drill::drill;
-use lks_effort::EffortJudge;
 use lks_evidence::{Finding, examine};
 use lks_gather::{Gathered, read_set};
-use lks_outside::{Sink, Source, read_all};
+use lks_outside::{Bell, EffortJudge, Sink, Source, read_all};
 use lks_script::{Script, read_script};
+use lks_words::{Command, Play, parse};
 use lks_work::Gate;
 use std::alloc::Global;
 use std::sync::Wait;
@@ -40,10 +38,12 @@ const MOST_BYTES: usize = 16_777_216;
 
 /// The script that is played.
 fn find<S: Source>(alloc: Global, play: Play, source: &mut S) -> Result<Script, Unscripted>
-    ensures finds { IfOk result (λ s. Finds S.left S.faults source.old source.new (deed_of play).reads (deed_of play).script s) }
+    ensures finds { IfOk result
+        (λ s. Finds S.left S.faults source.old source.new (deed_of play).reads (deed_of play).script s) }
     ensures good { IfOk result (λ s. plan_fault s.plan ≡ None) }
     ensures legal { IfOk result (λ s. are_steps_of s.plan s.steps ≡ true) }
-    ensures none { IfErr result (λ none. FindsNone S.left S.faults source.old source.new (deed_of play).reads (deed_of play).script none) }
+    ensures none { IfErr result
+        (λ none. FindsNone S.left S.faults source.old source.new (deed_of play).reads (deed_of play).script none) }
     ensures count { S.faults source.old ≤ S.faults source.new }
 {
     match play {
@@ -98,8 +98,11 @@ fn obey_play<
     bells: &mut Vec<B>,
     gate: &G,
 ) -> End
-    requires given { AreGiven (senses D.face (ears J.heard J.verdict B.rung B.limit) K.taken K.faults) (devices disks.old.items sink.old judge.old bells.old.items) }
-    ensures comes { Comes S.left S.faults (senses D.face (ears J.heard J.verdict B.rung B.limit) K.taken K.faults) source.old source.new (devices disks.old.items sink.old judge.old bells.old.items) (devices disks.new.items sink.new judge.new bells.new.items) (Some (Command.Play told)) result }
+    requires given { AreGiven (senses D.face (ears J.heard J.verdict B.rung B.limit) K.taken K.faults)
+        (devices disks.old.items sink.old judge.old bells.old.items) }
+    ensures comes { Comes S.left S.faults (senses D.face (ears J.heard J.verdict B.rung B.limit) K.taken K.faults)
+        source.old source.new (devices disks.old.items sink.old judge.old bells.old.items)
+        (devices disks.new.items sink.new judge.new bells.new.items) (Some (Command.Play told)) result }
     ensures source_count { S.faults source.old ≤ S.faults source.new }
     ensures sink_count { K.faults sink.old ≤ K.faults sink.new }
 {
@@ -133,8 +136,11 @@ fn obey_race<
     gate: &G,
 ) -> End
     requires threads { (1 ≤ threads) × (threads ≤ 64) }
-    requires given { AreGiven (senses D.face (ears J.heard J.verdict B.rung B.limit) K.taken K.faults) (devices disks.old.items sink.old judge.old bells.old.items) }
-    ensures comes { Comes S.left S.faults (senses D.face (ears J.heard J.verdict B.rung B.limit) K.taken K.faults) source.old source.new (devices disks.old.items sink.old judge.old bells.old.items) (devices disks.new.items sink.new judge.new bells.new.items) (Some (Command.Race threads)) result }
+    requires given { AreGiven (senses D.face (ears J.heard J.verdict B.rung B.limit) K.taken K.faults)
+        (devices disks.old.items sink.old judge.old bells.old.items) }
+    ensures comes { Comes S.left S.faults (senses D.face (ears J.heard J.verdict B.rung B.limit) K.taken K.faults)
+        source.old source.new (devices disks.old.items sink.old judge.old bells.old.items)
+        (devices disks.new.items sink.new judge.new bells.new.items) (Some (Command.Race threads)) result }
     ensures source_count { S.faults source.old ≤ S.faults source.new }
     ensures sink_count { K.faults sink.old ≤ K.faults sink.new }
 {
@@ -168,8 +174,12 @@ fn obey<
     gate: &G,
 ) -> End
     requires threads { HasThreads command }
-    requires given { AreGivenFor (Some command) (senses D.face (ears J.heard J.verdict B.rung B.limit) K.taken K.faults) (devices disks.old.items sink.old judge.old bells.old.items) }
-    ensures comes { Comes S.left S.faults (senses D.face (ears J.heard J.verdict B.rung B.limit) K.taken K.faults) source.old source.new (devices disks.old.items sink.old judge.old bells.old.items) (devices disks.new.items sink.new judge.new bells.new.items) (Some command) result }
+    requires given { AreGivenFor (Some command)
+        (senses D.face (ears J.heard J.verdict B.rung B.limit) K.taken K.faults)
+        (devices disks.old.items sink.old judge.old bells.old.items) }
+    ensures comes { Comes S.left S.faults (senses D.face (ears J.heard J.verdict B.rung B.limit) K.taken K.faults)
+        source.old source.new (devices disks.old.items sink.old judge.old bells.old.items)
+        (devices disks.new.items sink.new judge.new bells.new.items) (Some command) result }
     ensures source_count { S.faults source.old ≤ S.faults source.new }
     ensures sink_count { K.faults sink.old ≤ K.faults sink.new }
 {
@@ -205,8 +215,13 @@ fn obey_words<
     bells: &mut Vec<B>,
     gate: &G,
 ) -> End
-    requires given { AreGivenFor (command_in (map string_bytes words.now)) (senses D.face (ears J.heard J.verdict B.rung B.limit) K.taken K.faults) (devices disks.old.items sink.old judge.old bells.old.items) }
-    ensures comes { Comes S.left S.faults (senses D.face (ears J.heard J.verdict B.rung B.limit) K.taken K.faults) source.old source.new (devices disks.old.items sink.old judge.old bells.old.items) (devices disks.new.items sink.new judge.new bells.new.items) (command_in (map string_bytes words.now)) result }
+    requires given { AreGivenFor (command_in (map string_bytes words.now))
+        (senses D.face (ears J.heard J.verdict B.rung B.limit) K.taken K.faults)
+        (devices disks.old.items sink.old judge.old bells.old.items) }
+    ensures comes { Comes S.left S.faults (senses D.face (ears J.heard J.verdict B.rung B.limit) K.taken K.faults)
+        source.old source.new (devices disks.old.items sink.old judge.old bells.old.items)
+        (devices disks.new.items sink.new judge.new bells.new.items) (command_in (map string_bytes words.now))
+        result }
     ensures source_count { S.faults source.old ≤ S.faults source.new }
     ensures sink_count { K.faults sink.old ≤ K.faults sink.new }
 {
@@ -217,15 +232,16 @@ fn obey_words<
     }
 }
 
-/// Does the command that the words name. `replay` reads a script from the source, plays it, and writes the report of its history to
-/// the sink; `race` and a number does so too, and once the steps are done lets so many threads take what is due, in whatever order
-/// they come, until nothing is due or the plan's turns are used up; `drill` and a seed plays the scenario of that seed, reads
-/// nothing, and writes one line; `journals` plays a script as `replay` does, reads the disks back, and writes the plan and the
-/// journals; `evidence` reads these from the source, examines them, and writes one line. The i-th disk is that of the script's i-th
-/// peer; those of honest peers hold their journals. All disks are fresh, and there are as many as a script may have peers. The judge
-/// says of each proof of effort whether it is accepted, and the bells ring for alarms; those that want no more are dropped.
-/// `evidence` asks nothing of disks, judge and bells. The gate stands before each vote and tally that is hashed beside the steps,
-/// and is told of each entry.
+/// Does the command that the words name. `replay` reads a script from the source, plays it, and writes the report of
+/// its history to the sink; `race` and a number does so too, and once the steps are done lets so many threads take what
+/// is due, in whatever order they come, until nothing is due or the plan's turns are used up; `drill` and a seed plays
+/// the scenario of that seed, reads nothing, and writes one line; `journals` plays a script as `replay` does, reads the
+/// disks back, and writes the plan and the journals; `evidence` reads these from the source, examines them, and writes
+/// one line. The i-th disk is that of the script's i-th peer; those of honest peers hold their journals. All disks are
+/// fresh, and there are as many as a script may have peers. The judge says of each proof of effort whether it is
+/// accepted, and the bells ring for alarms; those that want no more are dropped. `evidence` asks nothing of disks,
+/// judge and bells. The gate stands before each vote and tally that is hashed beside the steps, and is told of each
+/// entry.
 pub fn run<
     R: Threads + Wait + Sync,
     S: Source,
@@ -245,15 +261,22 @@ pub fn run<
     bells: &mut Vec<B>,
     gate: &G,
 ) -> Status
-    requires given { AreGivenFor (command_in (map string_bytes words.now)) (senses D.face (ears J.heard J.verdict B.rung B.limit) K.taken K.faults) (devices disks.old.items sink.old judge.old bells.old.items) }
-    ensures promise { Promise S.left S.faults (senses D.face (ears J.heard J.verdict B.rung B.limit) K.taken K.faults) source.old source.new (devices disks.old.items sink.old judge.old bells.old.items) (devices disks.new.items sink.new judge.new bells.new.items) (command_in (map string_bytes words.now)) result }
+    requires given { AreGivenFor (command_in (map string_bytes words.now))
+        (senses D.face (ears J.heard J.verdict B.rung B.limit) K.taken K.faults)
+        (devices disks.old.items sink.old judge.old bells.old.items) }
+    ensures promise { Promise S.left S.faults
+        (senses D.face (ears J.heard J.verdict B.rung B.limit) K.taken K.faults) source.old source.new
+        (devices disks.old.items sink.old judge.old bells.old.items)
+        (devices disks.new.items sink.new judge.new bells.new.items) (command_in (map string_bytes words.now))
+        result }
     // So where there is work, and no fault is counted, it is done.
     ensures complete { HasWork (command_in (map string_bytes words.now)) (S.left source.old)
         → (Rose (S.faults source.old) (S.faults source.new) → ⊥) → (Rose (K.faults sink.old) (K.faults sink.new) → ⊥)
         → NoneRose D.face disks.old.items disks.new.items → Completes result }
     // So where there are journals, it says whether they hold.
     ensures concludes { (work : HasJournals (command_in (map string_bytes words.now)) (S.left source.old))
-        → (Rose (S.faults source.old) (S.faults source.new) → ⊥) → (Rose (K.faults sink.old) (K.faults sink.new) → ⊥) → Concludes work.said result }
+        → (Rose (S.faults source.old) (S.faults source.new) → ⊥)
+        → (Rose (K.faults sink.old) (K.faults sink.new) → ⊥) → Concludes work.said result }
 {
     obey_words(alloc, rt, words, source, sink, disks, judge, bells, gate).status()
 }

@@ -11,7 +11,7 @@ TESTS = {"lks_peer": "a_peer_that_is_told_things", "lks_host": "a_host_over_a_di
 
 class Pages(unittest.TestCase):
     def test_each_example_is_a_test(self) -> None:
-        text = (TOP / "crates/lks_peer_trials/src/examples.rt").read_text()
+        text = (TOP / "crates/lks_run_trials/src/examples.rt").read_text()
         tests = dict(re.findall(r"^fn (\w+)\(rt: HostRuntime\)[^\n]* \{\n(.*?)^\}", text, re.DOTALL | re.MULTILINE))
         self.assertEqual(sorted(tests), sorted(TESTS.values()))
         for crate, name in TESTS.items():

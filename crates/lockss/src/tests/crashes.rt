@@ -156,8 +156,8 @@ poll 1 1 1 2 0 agreed
 end 14
 ";
 
-// Nothing waits at first, peer 2 is corrupt, envelope 9 is never sent, and envelope 3 is no message. A poll without a vote is
-// closed when it is shut, and a cut step sends nothing.
+// Nothing waits at first, peer 2 is corrupt, envelope 9 is never sent, and envelope 3 is no message. A poll without a
+// vote is closed when it is shut, and a cut step sends nothing.
 const ELSEWHERE: &str = "\
 cut 0 0 next
 open 1 1

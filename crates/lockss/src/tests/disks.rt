@@ -128,8 +128,8 @@ fn a_read_fails_at_the_reopening(rt: HostRuntime) -> Result<(), Fail> {
     Ok(())
 }
 
-// All steps are done by 30 calls. The 31st is that of reading the journal back, where a read may fail too: nothing is written, and
-// the disk holds its batches.
+// All steps are done by 30 calls. The 31st is that of reading the journal back, where a read may fail too: nothing is
+// written, and the disk holds its batches.
 #[test]
 fn a_journal_is_not_read_back(rt: HostRuntime) -> Result<(), Fail> {
     let alloc = rt.alloc();

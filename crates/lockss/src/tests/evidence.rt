@@ -10,7 +10,8 @@ const JOURNALS: &[&str] = &["journals"];
 
 const EVIDENCE: &[&str] = &["evidence"];
 
-/// The plan of a head as it is printed, and the journal of its one honest peer, which deposited its copy and did nothing.
+/// The plan of a head as it is printed, and the journal of its one honest peer, which deposited its copy and did
+/// nothing.
 const HEAD_PRINTED: &str = "\
 lockss 1
 rules inner 4 quorum 3 minority 1 outer 0 repairs 2 pace 0 refractory 0 overdue 100 unknown 100 debt 100 churn 0
@@ -98,8 +99,8 @@ fn edited(
     Ok(bytes)
 }
 
-/// Of a script, which piece of what `journals` writes for it is replaced by which, how many bytes are left out behind it, and what
-/// `evidence` then writes.
+/// Of a script, which piece of what `journals` writes for it is replaced by which, how many bytes are left out behind
+/// it, and what `evidence` then writes.
 const DOCTORED: [(&[&str], &str, &str, usize, &str); 10] = [
     (ONE, "", "", 0, "evidence yes 1\n"),
     (MANY, "", "", 0, "evidence yes 1\n"),
@@ -186,8 +187,8 @@ fn doctored_journals(rt: HostRuntime) -> Result<(), Fail> {
     Ok(())
 }
 
-/// The same where the text is bad: a second journal of a peer, one of a corrupt peer and one of a stranger, and a last byte that is
-/// missing. Line 11 has the journal.
+/// The same where the text is bad: a second journal of a peer, one of a corrupt peer and one of a stranger, and a last
+/// byte that is missing. Line 11 has the journal.
 const BAD: [(&str, &str, u32); 4] = [
     ("journal 1 ", "journal 1 00\njournal 1 ", 12),
     ("journal 1 ", "journal 2 ", 11),
@@ -243,8 +244,8 @@ fn examined(alloc: Global, bytes: &[u8]) -> Result<Status, Fail> {
     }
 }
 
-/// Each bit of a journal with a replaced block is turned. One of that block never passes, and the answer is always that of the
-/// reader and the checker.
+/// Each bit of a journal with a replaced block is turned. One of that block never passes, and the answer is always that
+/// of the reader and the checker.
 #[test]
 fn each_bit_turned(rt: HostRuntime) -> Result<(), Fail> {
     let alloc = rt.alloc();

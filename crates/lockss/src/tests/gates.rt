@@ -1,4 +1,5 @@
-//! What a gate is asked and told: the jobs of `settle` and `finish`, side by side where there is enough to hash, and each entry.
+//! What a gate is asked and told: the jobs of `settle` and `finish`, side by side where there is enough to hash, and
+//! each entry.
 
 use super::peers::PEERS;
 use super::*;

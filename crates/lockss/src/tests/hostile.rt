@@ -1,4 +1,5 @@
-//! What comes from outside at its worst: scripts that are cut off or too long, streams of a byte a call, calls that fail.
+//! What comes from outside at its worst: scripts that are cut off or too long, streams of a byte a call, calls that
+//! fail.
 
 use super::*;
 
@@ -83,7 +84,8 @@ fn narrow_streams(rt: HostRuntime) -> Result<(), Fail> {
     Ok(())
 }
 
-// A sink of seven bytes a call, up to the first run in which none fails. What was taken before a failure is a front of the report.
+// A sink of seven bytes a call, up to the first run in which none fails. What was taken before a failure is a front of
+// the report.
 #[test]
 fn each_write_fails(rt: HostRuntime) -> Result<(), Fail> {
     let alloc = rt.alloc();

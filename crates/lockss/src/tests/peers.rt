@@ -93,8 +93,8 @@ lockss report 1
 end 2
 ";
 
-// Peer 2 commits to its copy in the poll of peer 1, and then its block is replaced by a poll of its own. Its vote and its repair
-// are still those of the copy from before, so peer 1 takes over two bytes for its one.
+// Peer 2 commits to its copy in the poll of peer 1, and then its block is replaced by a poll of its own. Its vote and
+// its repair are still those of the copy from before, so peer 1 takes over two bytes for its one.
 const SNAPSHOT: &str = "\
 lockss 1
 rules inner 1 quorum 1 minority 0 outer 0 repairs 1 pace 0 refractory 0 overdue 100 unknown 100 debt 100 churn 0

@@ -114,8 +114,8 @@ const SECOND: JobName = JobName::Vote {
     poll: POLL,
 };
 
-/// Holds the second vote until the first one begins, and the first one until the second was kept and a block of peer 2 was
-/// replaced.
+/// Holds the second vote until the first one begins, and the first one until the second was kept and a block of peer 2
+/// was replaced.
 #[derive(Drop)]
 struct Crossing {
     first: AtomicU64,
@@ -218,7 +218,8 @@ next 12
 tally 2 1
 ";
 
-// No thread hashes both votes, the lock is free while a job is held, and the copy is repaired under the vote on its old version.
+// No thread hashes both votes, the lock is free while a job is held, and the copy is repaired under the vote on its old
+// version.
 #[test]
 fn two_hash_while_others_go_on(rt: HostRuntime) -> Result<(), Fail> {
     let gate = Crossing::new();

@@ -2,7 +2,8 @@
 
 use super::*;
 
-// Peer 1 joins a poll, commits, and only then repairs block 1: it votes over the version from before, and gives its block 1.
+// Peer 1 joins a poll, commits, and only then repairs block 1: it votes over the version from before, and gives its
+// block 1.
 const SNAPSHOT: &str = "\
 say 2 poll 1 7 1
 next

@@ -5,9 +5,8 @@ ghost use Rattle.lockss.specs.Handed.{IsSilent};
 
 use super::lists::{OVERDUE, OVERDUE_REPORT};
 use super::*;
-use lks_alarm::{Alarm, AlarmKind, Bell};
 use lks_base::Bytes;
-use lks_effort::{EffortJudge, ListJudge, Question};
+use lks_outside::{Alarm, AlarmKind, Bell, EffortJudge, ListJudge, Question};
 use std::marker::Model;
 
 const REFUSED_REPORT: &str = "\
@@ -155,7 +154,7 @@ struct CountingJudge {
 
 impl Model for CountingJudge {
     ghost use Rattle.std.specs.Prelude.{◌≡◌, length};
-    ghost use Rattle.lks_effort.specs.Scripted.{Scripted};
+    ghost use Rattle.lks_outside.specs.Scripted.{Scripted};
 
     ghost Value = { Scripted };
 
@@ -165,7 +164,7 @@ impl Model for CountingJudge {
 }
 
 impl EffortJudge for CountingJudge {
-    ghost use Rattle.lks_effort.specs.Verdicts.{verdict_at};
+    ghost use Rattle.lks_outside.specs.Verdicts.{verdict_at};
 
     ghost heard = { λ j. j.heard };
 
@@ -179,7 +178,8 @@ impl EffortJudge for CountingJudge {
 }
 
 impl CountingJudge {
-    /// What it says to one more question, with a proof that begins with 1; nothing where it has heard as many as it may.
+    /// What it says to one more question, with a proof that begins with 1; nothing where it has heard as many as it
+    /// may.
     fn ask(&mut self, alloc: Global) -> Result<Option<bool>, Fail> {
         if self.count >= 4096 {
             return Ok(None);

@@ -8,5 +8,8 @@ use Rattle.lks_audit.proofs.tallying.take.Goals as goal
 
 pub returns-then-is_same-clause-kept : goal.returns-then-is_same-clause-kept
 returns-then-is_same-clause-kept c =
-    ap (λ (s : Polled). kept_tallied c.args.own.now (copies_of c.args.copies.now) (poll_of c.args.poll.now) s.tally.kept) c.put_tally.ensures
-    ∙ kept_elsewhere c.args.own.now (copies_of c.args.copies.now) c.args.poll.now c.args.done c.requires.on (search rules) (search rules)
+    ap
+    (λ (s : Polled). kept_tallied c.args.own.now (copies_of c.args.copies.now) (poll_of c.args.poll.now)
+    s.tally.kept) c.put_tally.ensures
+    ∙ kept_elsewhere c.args.own.now (copies_of c.args.copies.now) c.args.poll.now c.args.done c.requires.on
+    (search rules) (search rules)

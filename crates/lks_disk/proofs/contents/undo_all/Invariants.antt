@@ -5,7 +5,8 @@ use Rattle.lks_disk.proofs.contents.undo_all.Given as goal
 abbrev pub invariant-back : goal.invariant-back
 invariant-back l =
     AllFit (reverse l.calls.items) l.bytes.items
-    × (all_undone (reverse l.calls.items) l.bytes.items ≡ all_undone (reverse l.initial.calls.items) l.initial.bytes.items)
+    × (all_undone (reverse l.calls.items) l.bytes.items
+    ≡ all_undone (reverse l.initial.calls.items) l.initial.bytes.items)
 
 abbrev pub decreases-back : goal.decreases-back
 decreases-back l = vec_len l.calls

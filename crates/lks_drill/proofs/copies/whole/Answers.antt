@@ -6,7 +6,9 @@ use Rattle.lks_drill.specs.Drill.{block_of, whole_copy}
 use Rattle.lks_drill.proofs.copies.whole.Goals as goal
 
 pub loop-i-preserved : goal.loop-i-preserved
-loop-i-preserved c = rw (map-range_with_len_more block_of 0 c.loop-i.i c.loop-i.i (omega arith)) (grind (arith, common_steps, c.in_ok-push.ensures.items))
+loop-i-preserved c =
+    rw (map-range_with_len_more block_of 0 c.loop-i.i c.loop-i.i (omega arith))
+    (grind (arith, common_steps, c.in_ok-push.ensures.items))
 
 pub returns : goal.returns
 unfolding whole_copy

@@ -6,7 +6,9 @@ use Rattle.lks_drill.proofs.Ranges.{flat_map_to}
 use Rattle.lks_drill.proofs.drills.add_audits.Goals as goal
 
 pub loop-au-preserved : goal.loop-au-preserved
-loop-au-preserved c = rw (flat_map_to (audit_of c.args.peer) c.loop-au.au (omega arith)) (grind (arith, common_steps, c.in_ok-push.ensures.items, c.in_ok-push-2.ensures.items))
+loop-au-preserved c =
+    rw (flat_map_to (audit_of c.args.peer) c.loop-au.au (omega arith))
+    (grind (arith, common_steps, c.in_ok-push.ensures.items, c.in_ok-push-2.ensures.items))
 
 pub returns : goal.returns
 unfolding audits_of

@@ -10,5 +10,6 @@ returns-clause-good c = ap plan_fault c.in_ok-plan.ensures ∙ good_plan c.args.
 
 pub returns-clause-steps : goal.returns-clause-steps
 returns-clause-steps c =
-    ap (λ plan. are_steps_of plan c.in_ok-steps.field-0) c.in_ok-plan.ensures ∙ ap (are_steps_of (plan_of c.args.seed)) c.in_ok-steps.ensures
+    ap (λ plan. are_steps_of plan c.in_ok-steps.field-0) c.in_ok-plan.ensures
+    ∙ ap (are_steps_of (plan_of c.args.seed)) c.in_ok-steps.ensures
     ∙ steps_stand c.args.seed

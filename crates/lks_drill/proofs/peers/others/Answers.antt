@@ -11,7 +11,13 @@ pub loop-id-preserved : goal.loop-id-preserved
 loop-id-preserved c =
     let some : 1 ≤ c.loop-id.id = omega arith in
     elim c.if-id-peer.branch [
-      | then-id-peer+in_ok-push w ↦ grind (arith, common_steps, other_kept c.args.peer c.loop-id.id some w.if-id-peer.true, w.in_ok-push.ensures.items)
+      | then-id-peer+in_ok-push w
+          ↦ grind (
+            arith,
+            common_steps,
+            other_kept c.args.peer c.loop-id.id some w.if-id-peer.true,
+            w.in_ok-push.ensures.items,
+          )
       | else-id-peer w ↦ grind (arith, common_steps, other_left c.args.peer c.loop-id.id some w.if-id-peer.false)
     ]
 

@@ -10,4 +10,5 @@ returns-clause-held c =
     subst (All P) (sym c.in_ok-push.ensures.items)
     (All-push P _ _ c.requires.held
     (held_from c.args.aus.now c.args.journal.now c.r.inside.au c.args.place c.count_deposited-count.result
-    (sym c.is_deposited.ensures ∙ c.if-not-is_deposited.false) (sym c.count_deposits.ensures ∙ c.if-count_deposits-ne1.false) c.count_deposited-count.ensures))
+    (sym c.is_deposited.ensures ∙ c.if-not-is_deposited.false)
+    (sym c.count_deposits.ensures ∙ c.if-count_deposits-ne1.false) c.count_deposited-count.ensures))

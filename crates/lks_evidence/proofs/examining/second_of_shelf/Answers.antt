@@ -15,7 +15,8 @@ loop-i-preserved c =
     let journal = c.as_slice-journal.result.now in
     let i = c.loop-i.i in
     let item = c.index-journal-i.result in
-    let next = take_more journal i item c.loop-i-test.true ∙ ap (λ x. take i journal ++ x ∷ []) (sym c.index-journal-i.is) in
+    let next = take_more journal i item c.loop-i-test.true
+    ∙ ap (λ x. take i journal ++ x ∷ []) (sym c.index-journal-i.is) in
     record {
       doubt = grind (arith, common_steps);
       last =
@@ -26,6 +27,7 @@ loop-i-preserved c =
       mark =
           subst (λ js. IsMark js c.after-mark.result) (sym next)
           (subst (IsMark (take i journal ++ item ∷ []))
-          (ap (λ n. mark_after n c.loop-i.mark item) (length-take-le i journal (omega (arith, c.loop-i-test.true))) ∙ sym c.after-mark.ensures)
+          (ap (λ n. mark_after n c.loop-i.mark item) (length-take-le i journal (omega (arith, c.loop-i-test.true)))
+          ∙ sym c.after-mark.ensures)
           (mark_on (take i journal) c.loop-i.mark item c.loop-i.invariant.mark));
     }

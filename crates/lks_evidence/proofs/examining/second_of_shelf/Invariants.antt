@@ -6,7 +6,8 @@ use Rattle.lks_evidence.proofs.examining.second_of_shelf.Given as goal
 
 abbrev pub invariant-loop-i : goal.invariant-loop-i
 invariant-loop-i l = record {
-  doubt : each (second_at l.plan l.set l.shelf) (take l.i l.journal) (drop l.i l.journal) ≡ each (second_at l.plan l.set l.shelf) [] l.journal;
+  doubt : each (second_at l.plan l.set l.shelf) (take l.i l.journal) (drop l.i l.journal)
+      ≡ each (second_at l.plan l.set l.shelf) [] l.journal;
   last : IsRecountIf l.plan l.set l.shelf.peer (take l.i l.journal) l.last;
   mark : IsMark (take l.i l.journal) l.mark;
 }

@@ -10,7 +10,12 @@ loop-i-preserved c =
     let b = c.args.b.now in
     let i = c.loop-i.i in
     let same : c.index-a-i.result ≡ c.index-b-i.result =
-    sym c.as_slice.ensures ∙ (bytes_decides c.as_slice.result.now c.as_slice-in-loop-i.result.now).0 (not_other _ c.if-ne.ensures) ∙ c.as_slice-in-loop-i.ensures in
-    take_more a i c.index-a-i.result (omega (arith, c.loop-i-test.true, c.if-n-a.false)) ∙ ap (λ x. take i a ++ x ∷ []) (sym c.index-a-i.is)
+    sym c.as_slice.ensures
+    ∙ (bytes_decides c.as_slice.result.now c.as_slice-in-loop-i.result.now).0 (not_other _ c.if-ne.ensures)
+    ∙ c.as_slice-in-loop-i.ensures in
+    take_more a i c.index-a-i.result (omega (arith, c.loop-i-test.true, c.if-n-a.false))
+    ∙ ap (λ x. take i a ++ x ∷ []) (sym c.index-a-i.is)
     ∙ (λ k. c.loop-i.invariant k ++ same k ∷ [])
-    ∙ sym (take_more b i c.index-b-i.result (omega (arith, c.loop-i-test.true, c.if-n-b.false)) ∙ ap (λ x. take i b ++ x ∷ []) (sym c.index-b-i.is))
+    ∙ sym
+    (take_more b i c.index-b-i.result (omega (arith, c.loop-i-test.true, c.if-n-b.false))
+    ∙ ap (λ x. take i b ++ x ∷ []) (sym c.index-b-i.is))

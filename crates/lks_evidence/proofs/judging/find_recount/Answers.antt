@@ -14,5 +14,6 @@ returns-in_ok-copy c =
     subst (λ w. IfOk c.recount_of.result (λ k. k ≡ w))
     ((λ i. recount_of plan set c.args.poller (c.recent-recent.ensures i) (c.in_ok-copy.ensures i) r)
     ∙ recent_is plan set c.args.poller (contents_of r.au before) r before c.args.mark c.requires.mark
-    ∙ ap (λ t. cond t c.args.last (recount_of plan set c.args.poller before (contents_of r.au before) r)) (sym (sym c.covers.ensures ∙ c.if-covers.false)))
+    ∙ ap (λ t. cond t c.args.last (recount_of plan set c.args.poller before (contents_of r.au before) r))
+    (sym (sym c.covers.ensures ∙ c.if-covers.false)))
     c.recount_of.ensures

@@ -10,9 +10,11 @@ returns-in-Some-clause-founded c =
     let v = c.args.vote.now in
     subst (λ t. IfOk c.start_over.result (λ s. s.founded ≡ t))
     (ap (λ blocks. is_over q blocks v) c.deref.ensures.value
-    ∙ borne c.args.aus.now q c.args.journal.now v c.in-Some.version.items (sym (ap (option_map (λ w. w.items)) c.in-Some.is) ∙ c.in_ok-version.ensures))
+    ∙ borne c.args.aus.now q c.args.journal.now v c.in-Some.version.items
+    (sym (ap (option_map (λ w. w.items)) c.in-Some.is) ∙ c.in_ok-version.ensures))
     c.start_over.ensures.founded
 
 pub returns-in-None-clause-founded : goal.returns-in-None-clause-founded
 returns-in-None-clause-founded c =
-    not_borne c.args.aus.now c.args.ballot.now c.args.journal.now c.args.vote.now (sym (ap (option_map (λ w. w.items)) c.in-None.is) ∙ c.in_ok-version.ensures)
+    not_borne c.args.aus.now c.args.ballot.now c.args.journal.now c.args.vote.now
+    (sym (ap (option_map (λ w. w.items)) c.in-None.is) ∙ c.in_ok-version.ensures)

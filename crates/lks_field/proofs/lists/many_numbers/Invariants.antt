@@ -5,4 +5,6 @@ use Rattle.lks_field.proofs.Counted.{with_front}
 use Rattle.lks_field.proofs.lists.many_numbers.Given as goal
 
 abbrev pub invariant-loop : goal.invariant-loop
-invariant-loop l = with_front (number_at w16) l.numbers.items (many_at (number_at w16) (l.count - l.counter) l.fields) ≡ many_at (number_at w16) l.count l.initial.fields
+invariant-loop l =
+    with_front (number_at w16) l.numbers.items (many_at (number_at w16) (l.count - l.counter) l.fields)
+    ≡ many_at (number_at w16) l.count l.initial.fields

@@ -17,8 +17,10 @@ returns-in_err-write-clause-front g c = λ told before begun.
     let was = c.loop-item.invariant in
     let bodies = bodies_of (before ++ map alone (take i c.args.records.now)) in
     on_err c.from_residual.result
-    (front_or_next g.D.Disk.face before c.args.records.now i r r c.write.new.journal.disk c.loop-item-test.true c.item-item.is
-    (λ b may. subst (λ (body : List ℕ). HoldsEither bodies (bodies ++ body ∷ []) b) (ap batch_spelling c.from_ref.ensures.value)
+    (front_or_next g.D.Disk.face before c.args.records.now i r r c.write.new.journal.disk c.loop-item-test.true
+    c.item-item.is
+    (λ b may. subst (λ (body : List ℕ). HoldsEither bodies (bodies ++ body ∷ []) b)
+    (ap batch_spelling c.from_ref.ensures.value)
     ((c.in_err-write.ensures.adds (was.told.0 told) bodies (was.settled told before begun)).crash b may)))
 
 pub loop-item-preserved : goal.loop-item-preserved
@@ -33,7 +35,8 @@ loop-item-preserved g c =
       settled = λ told before begun.
           let bodies = bodies_of (before ++ map alone (take i c.args.records.now)) in
           subst (IsSettled f c.write.new.journal)
-          (ap (λ (batch : List Record). bodies ++ batch_spelling batch ∷ []) c.from_ref.ensures.value ∙ next_front before c.args.records.now i r r c.loop-item-test.true c.item-item.is)
+          (ap (λ (batch : List Record). bodies ++ batch_spelling batch ∷ []) c.from_ref.ensures.value
+          ∙ next_front before c.args.records.now i r r c.loop-item-test.true c.item-item.is)
           (wrote.adds (was.told.0 told) bodies (was.settled told before begun)).ok;
       read = search rules;
       end = search rules;

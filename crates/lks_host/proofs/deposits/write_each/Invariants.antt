@@ -8,8 +8,10 @@ use Rattle.lks_host.proofs.deposits.write_each.Given as goal
 
 abbrev pub invariant-loop-item : goal.invariant-loop-item
 invariant-loop-item g l = record {
-  told : (g.D.Disk.face.told l.fn.journal.disk → g.D.Disk.face.told l.journal.disk) × (g.D.Disk.face.told l.journal.disk → g.D.Disk.face.told l.fn.journal.disk);
-  settled : g.D.Disk.face.told l.fn.journal.disk → (before : List (List Record)) → IsSettled g.D.Disk.face l.fn.journal (bodies_of before)
+  told : (g.D.Disk.face.told l.fn.journal.disk → g.D.Disk.face.told l.journal.disk)
+      × (g.D.Disk.face.told l.journal.disk → g.D.Disk.face.told l.fn.journal.disk);
+  settled : g.D.Disk.face.told l.fn.journal.disk → (before : List (List Record))
+      → IsSettled g.D.Disk.face l.fn.journal (bodies_of before)
       → IsSettled g.D.Disk.face l.journal (bodies_of (before ++ map alone (take l.item-index l.records)));
   read : AreRead (map alone (take l.item-index l.records));
   end : l.journal.end ≤ l.fn.journal.end + l.item-index * 8389645;

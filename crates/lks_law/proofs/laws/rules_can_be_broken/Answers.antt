@@ -1,4 +1,5 @@
-use Rattle.lks_law.proofs.Breaking.{lax_numbers, one_vote, one_voter, later_votes, strange_vote, strange_bytes, no_envelope}
+use Rattle.lks_law.proofs.Breaking.{lax_numbers, one_vote, one_voter, later_votes, strange_vote, strange_bytes}
+use Rattle.lks_law.proofs.Breaking.{no_envelope}
 use Rattle.lks_law.proofs.laws.rules_can_be_broken.Goals as goal
 
 pub returns-clause-few : goal.returns-clause-few

@@ -5,5 +5,7 @@ use Rattle.lks_lines.proofs.copy_lines.damage.Goals as goal
 pub returns : goal.returns
 returns c =
     rw (c.from_vec-2.ensures, sym c.into_vec-peers.ensures)
-    (damaged_at c.args.bytes c.args.id c.args.au c.args.b c.args.block c.into_vec-peers.result.items c.in-Some.at c.index_mut-peer.result.now
-    (rw c.deref.ensures.value at (sym c.holder.ensures ∙ c.in-Some.is)) c.index_mut-peer.ensures.value ∙ rw (rw c.replace-kept.ensures.value at c.in_ok-copies.ensures) refl)
+    (damaged_at c.args.bytes c.args.id c.args.au c.args.b c.args.block c.into_vec-peers.result.items c.in-Some.at
+    c.index_mut-peer.result.now
+    (rw c.deref.ensures.value at (sym c.holder.ensures ∙ c.in-Some.is)) c.index_mut-peer.ensures.value
+    ∙ rw (rw c.replace-kept.ensures.value at c.in_ok-copies.ensures) refl)

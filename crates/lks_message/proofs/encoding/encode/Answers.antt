@@ -8,9 +8,14 @@ use Rattle.lks_message.proofs.encoding.encode.Goals as goal
 
 pub returns-in-Ok-clause-read : goal.returns-in-Ok-clause-read
 returns-in-Ok-clause-read c =
-    ap decode_of (c.in-Ok.ensures.spelled ∙ ap (λ (front : List ℕ). front ++ spelling c.args.m.now) c.new-out.ensures.items) ∙ spelling_read c.args.m.now (c.requires, c.put_message.ensures.sized)
+    ap decode_of
+    (c.in-Ok.ensures.spelled
+    ∙ ap (λ (front : List ℕ). front ++ spelling c.args.m.now) c.new-out.ensures.items)
+    ∙ spelling_read c.args.m.now (c.requires, c.put_message.ensures.sized)
 
 pub returns-in-Ok-clause-short : goal.returns-in-Ok-clause-short
 returns-in-Ok-clause-short c =
-    let is = c.in-Ok.ensures.spelled ∙ ap (λ (front : List ℕ). front ++ spelling c.args.m.now) c.new-out.ensures.items in
-    subst (λ (bytes : List ℕ). length bytes ≤ MOST_FORGED_BYTES) (sym is) (short_spelling c.args.m.now (c.requires, c.put_message.ensures.sized))
+    let is = c.in-Ok.ensures.spelled
+    ∙ ap (λ (front : List ℕ). front ++ spelling c.args.m.now) c.new-out.ensures.items in
+    subst (λ (bytes : List ℕ). length bytes ≤ MOST_FORGED_BYTES) (sym is)
+    (short_spelling c.args.m.now (c.requires, c.put_message.ensures.sized))

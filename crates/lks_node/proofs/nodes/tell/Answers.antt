@@ -10,4 +10,6 @@ unfolding reply
 some_bytes r = omega arith
 
 pub returns-in-Err-clause-part : goal.returns-in-Err-clause-part
-returns-in-Err-clause-part g c = λ bytes told. record { count = 0; within = some_bytes c.args.reaction.now; taken = told ∙ ap Some (sym (append-nil bytes)) }
+returns-in-Err-clause-part g c =
+    λ bytes told.
+    record { count = 0; within = some_bytes c.args.reaction.now; taken = told ∙ ap Some (sym (append-nil bytes)) }

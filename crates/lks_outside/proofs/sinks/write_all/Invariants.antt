@@ -4,7 +4,8 @@ use Rattle.lks_outside.proofs.sinks.write_all.Given as goal
 
 abbrev pub invariant-turns : goal.invariant-turns
 invariant-turns g l = record {
-  written : (bytes : List ℕ) → g.K.Sink.taken l.fn.sink ≡ Some bytes → HasWritten l.fn.piece l.rest bytes (g.K.Sink.taken l.sink);
+  written : (bytes : List ℕ) → g.K.Sink.taken l.fn.sink ≡ Some bytes
+      → HasWritten l.fn.piece l.rest bytes (g.K.Sink.taken l.sink);
   empty : l.fn.piece ≡ [] → (l.rest ≡ []) × (l.sink ≡ l.fn.sink);
   count : g.K.Sink.faults l.fn.sink ≤ g.K.Sink.faults l.sink;
 }

@@ -9,13 +9,21 @@ use Rattle.lks_peer.proofs.known.end.Goals as goal
 pub agree-requires-clause-agreed : goal.agree-requires-clause-agreed
 agree-requires-clause-agreed c =
     agree_fits c.args.own.now c.args.pool.now c.args.known.now c.requires.tied c.args.number c.args.tick
-    (subst (λ (how : Outcome). Fits c.args.own.now (state_of c.args.known.now) (Closed c.args.number how c.args.tick)) c.in-Agreed.is c.requires.fits)
+    (subst
+    (λ (how : Outcome). Fits c.args.own.now (state_of c.args.known.now) (Closed c.args.number how c.args.tick))
+    c.in-Agreed.is c.requires.fits)
 
 pub returns-in-Inquorate-clause-tied : goal.returns-in-Inquorate-clause-tied
-returns-in-Inquorate-clause-tied c = tied_on c.args.own.now.id c.args.pool.now c.args.known.now c.close.new.known c.close.ensures.tied c.requires.tied
+returns-in-Inquorate-clause-tied c =
+    tied_on c.args.own.now.id c.args.pool.now c.args.known.now c.close.new.known c.close.ensures.tied
+    c.requires.tied
 
 pub returns-in-Split-clause-tied : goal.returns-in-Split-clause-tied
-returns-in-Split-clause-tied c = tied_on c.args.own.now.id c.args.pool.now c.args.known.now c.close-in-Split.new.known c.close-in-Split.ensures.tied c.requires.tied
+returns-in-Split-clause-tied c =
+    tied_on c.args.own.now.id c.args.pool.now c.args.known.now c.close-in-Split.new.known
+    c.close-in-Split.ensures.tied c.requires.tied
 
 pub returns-in-NoSupplier-clause-tied : goal.returns-in-NoSupplier-clause-tied
-returns-in-NoSupplier-clause-tied c = tied_on c.args.own.now.id c.args.pool.now c.args.known.now c.close-in-NoSupplier.new.known c.close-in-NoSupplier.ensures.tied c.requires.tied
+returns-in-NoSupplier-clause-tied c =
+    tied_on c.args.own.now.id c.args.pool.now c.args.known.now c.close-in-NoSupplier.new.known
+    c.close-in-NoSupplier.ensures.tied c.requires.tied

@@ -13,4 +13,10 @@ unfolding after
 returns-clause-state c =
     let blocks : ℕ → List (List ℕ) = λ au. blocks_at au (copies_of c.args.known.now.copies) in
     let joined = record_of.Joined c.args.poll c.args.au c.args.tick c.args.low c.args.repairs in
-    λ i. record (state_of c.args.known.now) { voter = (c.in_ok-join.ensures.state blocks ∙ ap (λ (own : Station). voter_after own.rules blocks joined (voter_of c.args.known.now.sessions)) c.own.view_is) i }
+    λ i.
+    record (state_of
+    c.args.known.now) {
+      voter = (c.in_ok-join.ensures.state blocks
+          ∙ ap (λ (own : Station). voter_after own.rules blocks joined (voter_of c.args.known.now.sessions))
+          c.own.view_is) i;
+    }

@@ -7,8 +7,10 @@ use Rattle.lks_peer.proofs.known.replace.Goals as goal
 
 pub returns-clause-tied : goal.returns-clause-tied
 returns-clause-tied g c id tied =
-    tied_replaced id c.args.pool.now c.args.au c.args.block c.args.bytes.now c.args.known.now _ c.answer.new.self (search rules) c.in_ok-replace.ensures.of c.answer.ensures.on (search rules) refl refl tied
+    tied_replaced id c.args.pool.now c.args.au c.args.block c.args.bytes.now c.args.known.now _ c.answer.new.self
+    (search rules) c.in_ok-replace.ensures.of c.answer.ensures.on (search rules) refl refl tied
 
 pub returns-clause-kept : goal.returns-clause-kept
 returns-clause-kept g c =
-    ap kept_of c.forget.ensures ∙ kept_forgotten c.args.au c.args.block c.answer.new.self ∙ ap (map (kept_before c.args.au c.args.block)) c.answer.ensures.kept
+    ap kept_of c.forget.ensures ∙ kept_forgotten c.args.au c.args.block c.answer.new.self
+    ∙ ap (map (kept_before c.args.au c.args.block)) c.answer.ensures.kept

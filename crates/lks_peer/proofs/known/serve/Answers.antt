@@ -6,4 +6,8 @@ use Rattle.lks_peer.proofs.known.serve.Goals as goal
 pub returns-clause-state : goal.returns-clause-state
 unfolding after
 returns-clause-state c =
-    λ i. record (state_of c.args.known.now) { voter = c.in_ok-serve.ensures.state c.args.own.now.rules (λ au. blocks_at au (copies_of c.args.known.now.copies)) i }
+    λ i.
+    record (state_of c.args.known.now) {
+      voter = c.in_ok-serve.ensures.state c.args.own.now.rules
+          (λ au. blocks_at au (copies_of c.args.known.now.copies)) i;
+    }

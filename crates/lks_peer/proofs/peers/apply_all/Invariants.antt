@@ -10,6 +10,8 @@ abbrev pub invariant-loop-r : goal.invariant-loop-r
 invariant-loop-r g l = record {
   well : IsWell l.own l.pool l.known;
   fits : AreFitting l.own (state_of l.known) (drop l.r-index l.records);
-  left : after_all l.own (state_of l.known) (drop l.r-index l.records) ≡ after_all l.own (state_of l.fn.known) l.records;
-  kept : kept_after_all l.own (state_of l.known) (drop l.r-index l.records) (kept_of l.known.polls) ≡ kept_after_all l.own (state_of l.fn.known) l.records (kept_of l.fn.known.polls);
+  left : after_all l.own (state_of l.known) (drop l.r-index l.records)
+      ≡ after_all l.own (state_of l.fn.known) l.records;
+  kept : kept_after_all l.own (state_of l.known) (drop l.r-index l.records) (kept_of l.known.polls)
+      ≡ kept_after_all l.own (state_of l.fn.known) l.records (kept_of l.fn.known.polls);
 }

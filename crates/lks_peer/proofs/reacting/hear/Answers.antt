@@ -14,6 +14,13 @@ returns-in-Vote-clause-reaction c =
     let id = c.args.own.now.id in
     let copies = copies_of c.args.known.now.copies in
     let on = subst (All (IsOn id copies)) (sym c.as_slice-polls.ensures) c.requires.tied.on in
-    let row = subst (λ (ss : List Polled). IfOk c.vote.result (λ r. r ≡ for_poll (poll_at c.in-Vote.number (polls_of ss)) (vote_in_poll c.args.from c.in-Vote.hashes c.args.judged copies)))
+    let row = subst
+    (λ (ss : List Polled). IfOk c.vote.result
+    (λ r. r
+    ≡ for_poll (poll_at c.in-Vote.number (polls_of ss))
+    (vote_in_poll c.args.from c.in-Vote.hashes c.args.judged copies)))
     c.as_slice-polls.ensures (c.vote.ensures id copies on) in
-    subst (λ m. IfOk c.vote.result (λ r. r ≡ receive_in c.args.own.now (state_of c.args.known.now) c.args.tick c.args.from m c.args.judged)) (sym c.in-Vote.is) row
+    subst
+    (λ m. IfOk c.vote.result
+    (λ r. r ≡ receive_in c.args.own.now (state_of c.args.known.now) c.args.tick c.args.from m c.args.judged))
+    (sym c.in-Vote.is) row

@@ -10,7 +10,9 @@ use Rattle.lks_race.proofs.races.race.Goals as goal
 pub returns-in-Err-clause-runs : goal.returns-in-Err-clause-runs
 returns-in-Err-clause-runs g c =
     let now = c.halt.new.self in
-    runs g.D.Disk.face (ears g.J.EffortJudge.heard g.J.EffortJudge.verdict g.B.Bell.rung g.B.Bell.limit) c.args.world now
+    runs g.D.Disk.face (ears g.J.EffortJudge.heard g.J.EffortJudge.verdict g.B.Bell.rung g.B.Bell.limit)
+    c.args.world now
     (goes_as (begin_of c.args.world) c.args.world now (goes_start c.args.world) (ap begin_of c.halt.ensures))
-    (λ none. let bad : Some Memory ≡ None = sym (ap (λ w. w.stopped) c.halt.ensures ∙ ap halted c.requires.running) ∙ none in absurd cc)
+    (λ none. let bad : Some Memory
+    ≡ None = sym (ap (λ w. w.stopped) c.halt.ensures ∙ ap halted c.requires.running) ∙ none in absurd cc)
     c.known.ensures.watched c.known.ensures.halted c.known.ensures.served

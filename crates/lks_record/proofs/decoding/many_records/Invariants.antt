@@ -5,4 +5,6 @@ use Rattle.lks_record.specs.Reading.{record_at}
 use Rattle.lks_record.proofs.decoding.many_records.Given as goal
 
 abbrev pub invariant-loop : goal.invariant-loop
-invariant-loop l = with_front record_at l.list.items (many_at record_at (l.count - l.counter) l.fields) ≡ many_at record_at l.count l.initial.fields
+invariant-loop l =
+    with_front record_at l.list.items (many_at record_at (l.count - l.counter) l.fields)
+    ≡ many_at record_at l.count l.initial.fields

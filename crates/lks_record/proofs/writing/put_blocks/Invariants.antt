@@ -5,4 +5,7 @@ use Rattle.lks_record.specs.Spelling.{content_bytes}
 use Rattle.lks_record.proofs.writing.put_blocks.Given as goal
 
 abbrev pub invariant-loop-block : goal.invariant-loop-block
-invariant-loop-block l = l.out.items ≡ l.fn.out.items ++ (to_be_bytes w16 (length l.blocks) ++ flat_map content_bytes (take l.block-index l.blocks))
+invariant-loop-block l =
+    l.out.items
+    ≡ l.fn.out.items
+    ++ (to_be_bytes w16 (length l.blocks) ++ flat_map content_bytes (take l.block-index l.blocks))

@@ -5,4 +5,5 @@ use Rattle.lks_report.proofs.lines.put_peer_polls.Given as goal
 
 abbrev pub invariant-loop-note : goal.invariant-loop-note
 invariant-loop-note l =
-    string_bytes l.out ≡ string_bytes l.initial.out ++ flat_map (opened_line l.peer.id l.notes) (take l.note-index l.notes)
+    string_bytes l.out
+    ≡ string_bytes l.initial.out ++ flat_map (opened_line l.peer.id l.notes) (take l.note-index l.notes)

@@ -5,4 +5,5 @@ use Rattle.lks_report.proofs.words.put_notes.Given as goal
 
 abbrev pub invariant-loop-note : goal.invariant-loop-note
 invariant-loop-note l =
-    string_bytes l.out ≡ string_bytes l.initial.out ++ flat_map (λ n. codes ", " ++ note_words n) (take l.note-index l.rest)
+    string_bytes l.out
+    ≡ string_bytes l.initial.out ++ flat_map (λ n. codes ", " ++ note_words n) (take l.note-index l.rest)

@@ -8,4 +8,5 @@ vote_with-requires-clause-few c =
     let own = c.args.own.now in
     let p = c.args.session.now in
     let job : IsJobOf own p p.refs c.args.done.job = search rules in
-    vote_count own p c.args.done.hashes (vote_seen own p c.args.done.job c.args.done.hashes job c.args.done.hashed) c.requires.counted
+    vote_count own p c.args.done.hashes (vote_seen own p c.args.done.job c.args.done.hashes job c.args.done.hashed)
+    c.requires.counted

@@ -10,4 +10,5 @@ returns-in_ok-push-in-None-clause-ok c =
     c.in_ok-push-in-None.ensures.items
     ∙ put_last c.args.mark c.args.marks.now.items
     (ap (λ f. position (λ (x : Mark). x.peer == f) c.args.marks.now.items) (sym peer)
-    ∙ (ap (position (λ (x : Mark). x.peer == c.mark.inside.peer)) (sym c.as_slice.ensures.value) ∙ (sym c.place_of_mark.ensures ∙ c.in-None.is)))
+    ∙ (ap (position (λ (x : Mark). x.peer == c.mark.inside.peer)) (sym c.as_slice.ensures.value)
+    ∙ (sym c.place_of_mark.ensures ∙ c.in-None.is)))

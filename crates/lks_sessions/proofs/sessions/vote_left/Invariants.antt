@@ -8,5 +8,7 @@ use Rattle.lks_sessions.proofs.sessions.vote_left.Given as goal
 
 abbrev pub invariant-loop-session : goal.invariant-loop-session
 invariant-loop-session l =
-    find (is_left l.out) (map (λ (p : Pinned). names.Vote l.id p.committed.joined.poll) (map pinned_of (drop l.session-index l.pinned)))
+    find (is_left l.out)
+    (map (λ (p : Pinned). names.Vote l.id p.committed.joined.poll)
+    (map pinned_of (drop l.session-index l.pinned)))
     ≡ find (is_left l.out) (map (λ (p : Pinned). names.Vote l.id p.committed.joined.poll) (map pinned_of l.pinned))

@@ -8,5 +8,8 @@ pub returns-in-Ok-clause-few : goal.returns-in-Ok-clause-few
 returns-in-Ok-clause-few c =
     let own = c.args.own.now in
     let p = c.args.session.now in
-    let job : IsJobOf own p p.refs c.job_of-job.result = subst (λ (blocks : List Block). IsJobOf own p blocks c.job_of-job.result) c.in_ok-clone.ensures.cases c.job_of-job.ensures.job in
-    vote_count own p c.in-Ok.done.hashes (vote_seen own p c.job_of-job.result c.in-Ok.done.hashes job c.in-Ok.ensures.hashes) c.requires.counted
+    let job : IsJobOf own p p.refs c.job_of-job.result = subst
+    (λ (blocks : List Block). IsJobOf own p blocks c.job_of-job.result) c.in_ok-clone.ensures.cases
+    c.job_of-job.ensures.job in
+    vote_count own p c.in-Ok.done.hashes
+    (vote_seen own p c.job_of-job.result c.in-Ok.done.hashes job c.in-Ok.ensures.hashes) c.requires.counted

@@ -1,4 +1,5 @@
-use Rattle.lks_words.proofs.Kept.{decimal_above, hex_above, text_above, blocks_above, answer_above, kind_above, hash_above}
+use Rattle.lks_words.proofs.Kept.{decimal_above, hex_above, text_above, blocks_above, answer_above, kind_above}
+use Rattle.lks_words.proofs.Kept.{hash_above}
 use Rattle.lks_words.proofs.laws.every_printed_value_is_a_word.Goals as goal
 
 pub returns-clause-numbers : goal.returns-clause-numbers

@@ -6,5 +6,6 @@ use Rattle.lks_work.proofs.hashing.hash_blocks.Given as goal
 abbrev pub invariant-loop-r : goal.invariant-loop-r
 invariant-loop-r g l = record {
   second : l.chain.second ≡ l.second;
-  hashes : l.hashes.items ++ hashes_of l.second l.chain.last (bytes_of (drop l.r-index l.refs)) ≡ hashes_of l.second l.fn.key (bytes_of l.refs);
+  hashes : l.hashes.items ++ hashes_of l.second l.chain.last (bytes_of (drop l.r-index l.refs))
+      ≡ hashes_of l.second l.fn.key (bytes_of l.refs);
 }

@@ -14,18 +14,26 @@ returns-in_ok-crash-clause-becomes g c = λ plan is honest.
     let did = c.in_ok-crash.ensures in
     let room : 0 < MOST_EVENTS - length s.history.items = omega (arith, c.if-room-gt0.true, c.room.ensures) in
     room_kept f plan s t (Crash c.args.peer) room
-    (became_crash f plan s t c.args.peer is (room_left f s room) honest (did.world ∙ crashed (world_in f s) c.args.peer) did.history did.pending (same_hosts f s t did.seats) did.pool)
+    (became_crash f plan s t c.args.peer is (room_left f s room) honest
+    (did.world ∙ crashed (world_in f s) c.args.peer) did.history did.pending (same_hosts f s t did.sites)
+    did.pool)
 
 pub returns-else-room-gt0-clause-becomes : goal.returns-else-room-gt0-clause-becomes
 returns-else-room-gt0-clause-becomes g c = λ plan is honest.
-    let full : MOST_EVENTS - length c.args.state.now.history.items ≤ 0 = omega (arith, c.if-room-gt0.false, c.room.ensures) in
+    let full : MOST_EVENTS - length c.args.state.now.history.items
+    ≤ 0 = omega (arith, c.if-room-gt0.false, c.room.ensures) in
     full_kept g.D.Disk.face plan c.args.state.now (Crash c.args.peer) full is
 
 pub returns-in_ok-crash-clause-extends : goal.returns-in_ok-crash-clause-extends
-returns-in_ok-crash-clause-extends g c = λ plan is honest. extends_kept g.D.Disk.face plan c.args.state.now c.crash.new.state (Crash c.args.peer) (returns-in_ok-crash-clause-becomes g c plan is honest)
+returns-in_ok-crash-clause-extends g c =
+    λ plan is honest. extends_kept g.D.Disk.face plan c.args.state.now c.crash.new.state (Crash c.args.peer)
+    (returns-in_ok-crash-clause-becomes g c plan is honest)
 
 pub returns-in_err-crash-clause-extends : goal.returns-in_err-crash-clause-extends
-returns-in_err-crash-clause-extends g c = λ plan is honest. extends_same g.D.Disk.face plan c.args.state.now c.crash.new.state.history.items is c.in_err-crash.ensures.err
+returns-in_err-crash-clause-extends g c =
+    λ plan is honest. extends_same g.D.Disk.face plan c.args.state.now c.crash.new.state.history.items is
+    c.in_err-crash.ensures.err
 
 pub returns-else-room-gt0-clause-extends : goal.returns-else-room-gt0-clause-extends
-returns-else-room-gt0-clause-extends g c = λ plan is honest. extends_same g.D.Disk.face plan c.args.state.now c.args.state.now.history.items is refl
+returns-else-room-gt0-clause-extends g c =
+    λ plan is honest. extends_same g.D.Disk.face plan c.args.state.now c.args.state.now.history.items is refl

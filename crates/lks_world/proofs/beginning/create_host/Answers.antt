@@ -6,12 +6,14 @@ use Rattle.lks_world.proofs.beginning.create_host.Goals as goal
 pub returns-in-Ok-clause-peer : goal.returns-in-Ok-clause-peer
 returns-in-Ok-clause-peer g c =
     let laws = g.met.D.CrashDisk g.world.𝓛 g.world.𝓜 g.world.𝓡 ((λ s x. x), (λ x. x), (λ x. x), λ x. x) in
-    (begins g.D.Disk.face c.args.pool.now c.args.plan.now (honest_peer c.args.id c.args.plan.now) c.in-Ok.host c.in-Ok.ensures.peer (c.in-Ok.ensures.stands (laws.tells c.args.disk))).peer
+    (begins g.D.Disk.face c.args.pool.now c.args.plan.now (honest_peer c.args.id c.args.plan.now) c.in-Ok.host
+    c.in-Ok.ensures.peer (c.in-Ok.ensures.stands (laws.tells c.args.disk))).peer
 
 pub returns-in-Ok-clause-begun : goal.returns-in-Ok-clause-begun
 returns-in-Ok-clause-begun g c =
     let laws = g.met.D.CrashDisk g.world.𝓛 g.world.𝓜 g.world.𝓡 ((λ s x. x), (λ x. x), (λ x. x), λ x. x) in
-    let is = begins g.D.Disk.face c.args.pool.now c.args.plan.now (honest_peer c.args.id c.args.plan.now) c.in-Ok.host c.in-Ok.ensures.peer (c.in-Ok.ensures.stands (laws.tells c.args.disk)) in
+    let is = begins g.D.Disk.face c.args.pool.now c.args.plan.now (honest_peer c.args.id c.args.plan.now)
+    c.in-Ok.host c.in-Ok.ensures.peer (c.in-Ok.ensures.stands (laws.tells c.args.disk)) in
     record {
       stands = is.stands;
       pooled = is.pooled;

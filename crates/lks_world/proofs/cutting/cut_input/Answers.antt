@@ -19,9 +19,13 @@ returns-in_ok-note_outcome-in-Ok-clause-ends g c =
     let ready = c.requires.ready in
     let did = c.in-Ok.ensures in
     let said = react_on h.peer.own h.peer.state c.args.tick c.args.input.now in
-    let cut = subst (λ (n : ℕ). CutsOff f ready.batches said n h k c.in-Ok.outcome) c.from-calls.ensures (did.cuts ready.batches ready.stands) in
-    subst (HostEnds f (reaction h.peer.own (journal_on f h.journal.disk) c.args.tick c.args.input.now) c.args.power.calls h k) (sym c.in_ok-note_outcome-in-Ok.ensures)
-    (host_ends f h k ready.batches ready.stands ready.written did.back.own c.args.tick c.args.input.now c.args.power.calls c.in-Ok.outcome did.written cut)
+    let cut = subst (λ (n : ℕ). CutsOff f ready.batches said n h k c.in-Ok.outcome) c.from-calls.ensures
+    (did.cuts ready.batches ready.stands) in
+    subst
+    (HostEnds f (reaction h.peer.own (journal_on f h.journal.disk) c.args.tick c.args.input.now)
+    c.args.power.calls h k) (sym c.in_ok-note_outcome-in-Ok.ensures)
+    (host_ends f h k ready.batches ready.stands ready.written did.back.own c.args.tick c.args.input.now
+    c.args.power.calls c.in-Ok.outcome did.written cut)
 
 pub returns-in_ok-note_outcome-in-Ok-clause-on : goal.returns-in_ok-note_outcome-in-Ok-clause-on
 returns-in_ok-note_outcome-in-Ok-clause-on g c =
@@ -35,7 +39,10 @@ returns-in_ok-note_outcome-in-Ok-clause-on g c =
       room = did.end;
       unfused = did.back.unfused ∙ sym ready.unfused;
       pool = did.back.pool;
-      stands = λ bs stood. stands_on f h k ready.batches ready.stands ready.written did.back.own c.args.tick c.args.input.now c.from-calls.result c.in-Ok.outcome bs (did.cuts ready.batches ready.stands) (did.cuts bs stood);
+      stands =
+          λ bs stood. stands_on f h k ready.batches ready.stands ready.written did.back.own c.args.tick
+          c.args.input.now c.from-calls.result c.in-Ok.outcome bs (did.cuts ready.batches ready.stands)
+          (did.cuts bs stood);
     }
 
 pub returns-in_err-note_outcome-in-Ok-clause-falls : goal.returns-in_err-note_outcome-in-Ok-clause-falls
@@ -45,12 +52,17 @@ returns-in_err-note_outcome-in-Ok-clause-falls g c = λ batches stood.
     let k = c.cut_step.new.host in
     let said = react_on h.peer.own h.peer.state c.args.tick c.args.input.now in
     err_then c.from_residual.result
-    (subst (λ (r : Reaction). Falls g.D.Disk.face batches (with_batch batches r.records) k.journal.disk) (reacts g.D.Disk.face h ready.batches ready.stands ready.written c.args.tick c.args.input.now)
-    (falls_ended g.D.Disk.face batches said c.from-calls.result h k c.in-Ok.outcome (c.in-Ok.ensures.cuts batches stood)))
+    (subst (λ (r : Reaction). Falls g.D.Disk.face batches (with_batch batches r.records) k.journal.disk)
+    (reacts g.D.Disk.face h ready.batches ready.stands ready.written c.args.tick c.args.input.now)
+    (falls_ended g.D.Disk.face batches said c.from-calls.result h k c.in-Ok.outcome
+    (c.in-Ok.ensures.cuts batches stood)))
 
 pub returns-in-Err-clause-falls : goal.returns-in-Err-clause-falls
 returns-in-Err-clause-falls g c = λ batches stood.
     let h = c.args.host.now in
     let ready = c.requires.ready in
-    subst (λ (r : Reaction). Falls g.D.Disk.face batches (with_batch batches r.records) c.cut_step.new.host.journal.disk) (reacts g.D.Disk.face h ready.batches ready.stands ready.written c.args.tick c.args.input.now)
+    subst
+    (λ (r : Reaction). Falls g.D.Disk.face batches (with_batch batches r.records)
+    c.cut_step.new.host.journal.disk)
+    (reacts g.D.Disk.face h ready.batches ready.stands ready.written c.args.tick c.args.input.now)
     (c.in-Err.ensures.falls batches stood)

@@ -13,10 +13,13 @@ returns-in-Some-clause-becomes g c = λ plan is.
 
 pub returns-in-Some-clause-extends : goal.returns-in-Some-clause-extends
 returns-in-Some-clause-extends g c = λ plan is.
-    c.add_loss.ensures.extends plan is (first_sent g.D.Disk.face plan c.args.state.now is c.in-Some.envelope (sym c.first_waiting.ensures ∙ c.in-Some.is))
+    c.add_loss.ensures.extends plan is
+    (first_sent g.D.Disk.face plan c.args.state.now is c.in-Some.envelope
+    (sym c.first_waiting.ensures ∙ c.in-Some.is))
 
 pub returns-in-None-clause-extends : goal.returns-in-None-clause-extends
-returns-in-None-clause-extends g c = λ plan is. extends_same g.D.Disk.face plan c.args.state.now c.args.state.now.history.items is refl
+returns-in-None-clause-extends g c =
+    λ plan is. extends_same g.D.Disk.face plan c.args.state.now c.args.state.now.history.items is refl
 
 pub returns-in-None-clause-becomes : goal.returns-in-None-clause-becomes
 returns-in-None-clause-becomes g c = λ plan is.

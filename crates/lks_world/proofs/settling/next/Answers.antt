@@ -6,7 +6,9 @@ use Rattle.lks_world.specs.States.{steps_there}
 use Rattle.lks_world.proofs.settling.next.Goals as goal
 
 pub returns-in-Some : goal.returns-in-Some
-returns-in-Some g c = λ plan is. delivers_first g.D.Disk.face plan c.args.state.now is c.args.course c.in-Some.envelope (sym c.first_waiting.ensures ∙ c.in-Some.is)
+returns-in-Some g c =
+    λ plan is. delivers_first g.D.Disk.face plan c.args.state.now is c.args.course c.in-Some.envelope
+    (sym c.first_waiting.ensures ∙ c.in-Some.is)
 
 pub returns-in-None : goal.returns-in-None
 returns-in-None g c = λ plan is.

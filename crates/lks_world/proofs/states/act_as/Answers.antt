@@ -18,7 +18,9 @@ use Rattle.lks_world.proofs.states.act_as.Goals as goal
 pub returns-clause-sends : goal.returns-clause-sends
 returns-clause-sends g c =
     let ready = c.requires.ready in
-    let same = c.in-Ok.ensures.stepped.reaction ∙ reacts g.D.Disk.face c.args.host.now ready.batches ready.stands ready.written c.args.tick c.args.input.now in
+    let same = c.in-Ok.ensures.stepped.reaction
+    ∙ reacts g.D.Disk.face c.args.host.now ready.batches ready.stands ready.written c.args.tick c.args.input.now
+    in
     ap (λ (r : Reaction). r.sends) same
 
 pub returns-clause-notes : goal.returns-clause-notes
@@ -29,11 +31,14 @@ returns-clause-notes g c =
     let k = c.react.new.host in
     let ready = c.requires.ready in
     let r = c.in-Ok.reaction in
-    let same = c.in-Ok.ensures.stepped.reaction ∙ reacts f h ready.batches ready.stands ready.written c.args.tick c.args.input.now in
-    let written = subst (λ (x : Reaction). IsWritten h.peer.own h.peer.state x.records) (sym c.in-Ok.ensures.stepped.reaction) (c.in-Ok.ensures.read (λ e. absurd cc)) in
+    let same = c.in-Ok.ensures.stepped.reaction
+    ∙ reacts f h ready.batches ready.stands ready.written c.args.tick c.args.input.now in
+    let written = subst (λ (x : Reaction). IsWritten h.peer.own h.peer.state x.records)
+    (sym c.in-Ok.ensures.stepped.reaction) (c.in-Ok.ensures.read (λ e. absurd cc)) in
     c.in_ok-notes.ensures
     ∙ ap (filter_map (note_with (has_inner_in k.peer.state))) c.as_slice.ensures
-    ∙ noted f h ready.batches ready.stands ready.written k r.records c.in-Ok.ensures.stepped.own (c.in-Ok.ensures.stands (laws.tells h.journal.disk) ready.batches ready.stands) written
+    ∙ noted f h ready.batches ready.stands ready.written k r.records c.in-Ok.ensures.stepped.own
+    (c.in-Ok.ensures.stands (laws.tells h.journal.disk) ready.batches ready.stands) written
     ∙ ap (λ (x : Reaction). filter_map (note_of (journal_on f h.journal.disk ++ x.records)) x.records) same
 
 pub returns-clause-peer : goal.returns-clause-peer
@@ -42,8 +47,10 @@ returns-clause-peer g c =
     let f = g.D.Disk.face in
     let h = c.args.host.now in
     let ready = c.requires.ready in
-    let same = c.in-Ok.ensures.stepped.reaction ∙ reacts f h ready.batches ready.stands ready.written c.args.tick c.args.input.now in
-    grown f h ready.batches ready.stands ready.written c.react.new.host c.in-Ok.reaction.records c.in-Ok.ensures.stepped.own (c.in-Ok.ensures.stands (laws.tells h.journal.disk) ready.batches ready.stands)
+    let same = c.in-Ok.ensures.stepped.reaction
+    ∙ reacts f h ready.batches ready.stands ready.written c.args.tick c.args.input.now in
+    grown f h ready.batches ready.stands ready.written c.react.new.host c.in-Ok.reaction.records
+    c.in-Ok.ensures.stepped.own (c.in-Ok.ensures.stands (laws.tells h.journal.disk) ready.batches ready.stands)
     ∙ ap (λ (x : Reaction). with_added (peer_in f h) x.records) same
 
 pub returns-clause-on : goal.returns-clause-on
@@ -62,7 +69,9 @@ returns-clause-on g c =
       pool = stepped.pool;
       stands = λ batches stood.
           subst (λ (rs : List Record). StandsFor f k (with_batch batches rs))
-          (sym (more f h ready.batches ready.stands ready.written k c.in-Ok.reaction.records stepped.own (stands ready.batches ready.stands)))
+          (sym
+          (more f h ready.batches ready.stands ready.written k c.in-Ok.reaction.records stepped.own
+          (stands ready.batches ready.stands)))
           (stands batches stood);
     }
 
@@ -71,7 +80,9 @@ returns-in-Err-clause-falls g c = λ batches stood.
     let laws = g.met.D.CrashDisk g.world.𝓛 g.world.𝓜 g.world.𝓡 ((λ s x. x), (λ x. x), (λ x. x), λ x. x) in
     let h = c.args.host.now in
     let ready = c.requires.ready in
-    subst (λ (r : Reaction). Falls g.D.Disk.face batches (with_batch batches r.records) c.react.new.host.journal.disk) (reacts g.D.Disk.face h ready.batches ready.stands ready.written c.args.tick c.args.input.now)
+    subst
+    (λ (r : Reaction). Falls g.D.Disk.face batches (with_batch batches r.records) c.react.new.host.journal.disk)
+    (reacts g.D.Disk.face h ready.batches ready.stands ready.written c.args.tick c.args.input.now)
     (record { leaves = (c.in-Err.ensures.adds (laws.tells h.journal.disk) batches stood).crash })
 
 pub returns-in_err-notes-clause-falls : goal.returns-in_err-notes-clause-falls
@@ -80,5 +91,9 @@ returns-in_err-notes-clause-falls g c = λ batches stood.
     let h = c.args.host.now in
     let ready = c.requires.ready in
     err_then c.from_residual.result
-    (subst (λ (r : Reaction). Falls g.D.Disk.face batches (with_batch batches r.records) c.react.new.host.journal.disk) (c.in-Ok.ensures.stepped.reaction ∙ reacts g.D.Disk.face h ready.batches ready.stands ready.written c.args.tick c.args.input.now)
-    (falls_whole g.D.Disk.face c.react.new.host batches (with_batch batches c.in-Ok.reaction.records) (c.in-Ok.ensures.stands (laws.tells h.journal.disk) batches stood)))
+    (subst
+    (λ (r : Reaction). Falls g.D.Disk.face batches (with_batch batches r.records) c.react.new.host.journal.disk)
+    (c.in-Ok.ensures.stepped.reaction
+    ∙ reacts g.D.Disk.face h ready.batches ready.stands ready.written c.args.tick c.args.input.now)
+    (falls_whole g.D.Disk.face c.react.new.host batches (with_batch batches c.in-Ok.reaction.records)
+    (c.in-Ok.ensures.stands (laws.tells h.journal.disk) batches stood)))

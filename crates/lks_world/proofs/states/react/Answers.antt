@@ -19,8 +19,10 @@ returns-in-Err-Stale-clause-adds g c =
     let mid = c.accept.new.self in
     let stale = rw c.in-Err-Stale.field-0-is at c.in-Err-Stale.ensures.stale in
     told_stands g.D.Disk.face old mid c.step-in-Err-Stale.new.self
-    (λ (h : Host g.row.D.Denot) (batches : List (List Record)). KeepsOrAdds g.D.Disk.face h.journal c.step-in-Err-Stale.new.self.journal (bodies_of batches)
-    (bodies_of (with_batch batches (react_on h.peer.own h.peer.state c.args.tick c.args.input.now).records)) (as_journal c.step-in-Err-Stale.result))
+    (λ (h : Host g.row.D.Denot) (batches : List (List Record)). KeepsOrAdds g.D.Disk.face h.journal
+    c.step-in-Err-Stale.new.self.journal (bodies_of batches)
+    (bodies_of (with_batch batches (react_on h.peer.own h.peer.state c.args.tick c.args.input.now).records))
+    (as_journal c.step-in-Err-Stale.result))
     (stale.1 ∙ ap (λ (p : Knowing). the_host old p) stale.0.same)
     (λ batches adds. adds)
     c.step-in-Err-Stale.ensures.adds

@@ -31,13 +31,18 @@ loop-outgoing-preserved c =
     let rest = c.next.new.self.rest.items in
     let left = c.in-Some.ensures.steps.0 in
     let put = c.in_ok-put.ensures in
-    let one : length c.put.new.bag.items ≡ length bag + 1 = omega (arith, ap length put.bag, length-append bag (send c.in-Some.outgoing ∷ [])) in (
+    let one : length c.put.new.bag.items
+    ≡ length bag + 1 = omega (arith, ap length put.bag, length-append bag (send c.in-Some.outgoing ∷ [])) in (
       tt,
       tt,
       record {
-        bag = ap (λ es. es ++ map send rest) put.bag ∙ append_assoc bag (send c.in-Some.outgoing ∷ []) (map send rest) ∙ ap (λ os. bag ++ map send os) (sym left) ∙ c.loop-outgoing.invariant.2.bag;
+        bag =
+            ap (λ es. es ++ map send rest) put.bag ∙ append_assoc bag (send c.in-Some.outgoing ∷ []) (map send rest)
+            ∙ ap (λ os. bag ++ map send os) (sym left) ∙ c.loop-outgoing.invariant.2.bag;
         pending =
-            (λ i. put.pending i ++ range_with_len (one i) (length rest)) ∙ append_assoc pending (length bag ∷ []) (range_with_len (length bag + 1) (length rest))
-            ∙ ap (λ os. pending ++ range_with_len (length bag) (length os)) (sym left) ∙ c.loop-outgoing.invariant.2.pending;
+            (λ i. put.pending i ++ range_with_len (one i) (length rest))
+            ∙ append_assoc pending (length bag ∷ []) (range_with_len (length bag + 1) (length rest))
+            ∙ ap (λ os. pending ++ range_with_len (length bag) (length os)) (sym left)
+            ∙ c.loop-outgoing.invariant.2.pending;
       },
     )

@@ -9,6 +9,8 @@ invariant-loop-outgoing l =
     (goal.iterator-loop-outgoing).can_next l.outgoing-iterator
     × (goal.iterator-loop-outgoing).is_finite l.outgoing-iterator
     × record {
-      bag : l.bag.items ++ map (sent_by l.from) l.outgoing-iterator.rest.items ≡ l.fn.bag.items ++ map (sent_by l.from) l.fn.sends;
-      pending : l.pending.items ++ range_with_len (length l.bag.items) (length l.outgoing-iterator.rest.items) ≡ l.fn.pending.items ++ range_with_len (length l.fn.bag.items) (length l.fn.sends);
+      bag : l.bag.items ++ map (sent_by l.from) l.outgoing-iterator.rest.items
+          ≡ l.fn.bag.items ++ map (sent_by l.from) l.fn.sends;
+      pending : l.pending.items ++ range_with_len (length l.bag.items) (length l.outgoing-iterator.rest.items)
+          ≡ l.fn.pending.items ++ range_with_len (length l.fn.bag.items) (length l.fn.sends);
     }

@@ -1,6 +1,6 @@
 use Rattle.std.proofs.Common.{◌+◌, ◌≤◌, length, List, ap, inr, subst, sym, ◌∙◌}
 use Rattle.std.specs.List.{filter_map}
-use Rattle.lks_alarm.specs.declared.alarms.Alarm.{Alarm}
+use Rattle.lks_outside.specs.declared.alarms.Alarm.{Alarm}
 use Rattle.lks_base.specs.declared.events.Event.TheVariants.{Step}
 use Rattle.lks_base.specs.declared.reactions.Outgoing.{Outgoing}
 use Rattle.lks_law.specs.Entries.{notes_of}
@@ -9,9 +9,9 @@ use Rattle.lks_watch.proofs.Noted.{noted}
 use Rattle.lks_law.specs.Alarms.{alarm_noted}
 use Rattle.lks_watch.specs.Watching.{Rings, ears, seen_by}
 use Rattle.lks_world.specs.Hosts.{HaveGoneOn, peers_of}
-use Rattle.lks_world.specs.Seats.{hosts_of}
+use Rattle.lks_world.specs.Sites.{hosts_of}
 use Rattle.lks_world.specs.States.{sends_in, world_in}
-use Rattle.lks_world.specs.declared.seats.Seat.{Seat}
+use Rattle.lks_world.specs.declared.sites.Site.{Site}
 use Rattle.lks_world.proofs.Fallen.{fallen_on}
 use Rattle.lks_world.proofs.Named.{result_of_step}
 use Rattle.lks_world.proofs.Stopped.{err_then}
@@ -23,12 +23,15 @@ unfolding sends_in
 note_step-requires-after_bounds g c κs within =
     let f = g.D.Disk.face in
     let s = c.args.state.now in
-    let sends = c.in_ok-done.ensures.sends ∙ ap (λ o. (effect_of s.tick (peers_of f (hosts_of s.seats.items)) o).sends) c.requires.deed in
+    let sends = c.in_ok-done.ensures.sends
+    ∙ ap (λ o. (effect_of s.tick (peers_of f (hosts_of s.sites.items)) o).sends) c.requires.deed in
     subst (λ (xs : List Outgoing). length s.bag.items + length xs ≤ 4294967295) (sym sends) c.requires.few
 
 pub returns-clause-on : goal.returns-clause-on
 returns-clause-on g c =
-    subst (λ (ss : List (Seat g.row.D.Denot)). HaveGoneOn g.D.Disk.face (hosts_of c.args.state.now.seats.items) (hosts_of ss)) (sym c.in_ok-note_step.ensures.seats) c.in_ok-done.ensures.on
+    subst
+    (λ (ss : List (Site g.row.D.Denot)). HaveGoneOn g.D.Disk.face (hosts_of c.args.state.now.sites.items)
+    (hosts_of ss)) (sym c.in_ok-note_step.ensures.sites) c.in_ok-done.ensures.on
 
 pub returns-clause-hears : goal.returns-clause-hears
 returns-clause-hears g c =
@@ -37,9 +40,10 @@ returns-clause-hears g c =
     let s = c.args.state.now in
     let deed = c.requires.deed in
     let actor = c.actor.ensures ∙ ap actor_of deed in
-    let notes = c.in_ok-done.ensures.notes ∙ ap (notes_of s.tick (peers_of f (hosts_of s.seats.items))) deed in
+    let notes = c.in_ok-done.ensures.notes ∙ ap (notes_of s.tick (peers_of f (hosts_of s.sites.items))) deed in
     subst (λ (raised : List Alarm). Rings raised (seen_by e c.args.watch.now) (seen_by e c.note_step.new.watch))
-    ((λ i. filter_map (alarm_noted (actor i) s.tick) (notes i)) ∙ noted (world_in f s) (deed_of s.bag.items c.args.s)) c.in_ok-note_step.ensures.hears
+    ((λ i. filter_map (alarm_noted (actor i) s.tick) (notes i))
+    ∙ noted (world_in f s) (deed_of s.bag.items c.args.s)) c.in_ok-note_step.ensures.hears
 
 pub returns-in_err-note_step-clause-fallen : goal.returns-in_err-note_step-clause-fallen
 unfolding happens after_step
@@ -48,18 +52,22 @@ returns-in_err-note_step-clause-fallen g c =
     let s = c.args.state.now in
     let deed = c.requires.deed in
     err_then c.from_residual-in_err-note_step.result
-    (subst (λ (ss : List (Seat g.row.D.Denot)). HaveFallen f (hosts_of s.seats.items) (happens (world_in f s) (Step c.args.s)).peers (hosts_of ss)) (sym c.in_err-note_step.ensures.seats)
-    (fallen_on f (hosts_of s.seats.items) (hosts_of c.do_deed.new.seats.items) _ c.in_ok-done.ensures.on (inr (c.in_ok-done.ensures.peers ∙ ap (peers_after s.tick (peers_of f (hosts_of s.seats.items))) deed))))
+    (subst
+    (λ (ss : List (Site g.row.D.Denot)). HaveFallen f (hosts_of s.sites.items)
+    (happens (world_in f s) (Step c.args.s)).peers (hosts_of ss)) (sym c.in_err-note_step.ensures.sites)
+    (fallen_on f (hosts_of s.sites.items) (hosts_of c.do_deed.new.sites.items) _ c.in_ok-done.ensures.on
+    (inr (c.in_ok-done.ensures.peers ∙ ap (peers_after s.tick (peers_of f (hosts_of s.sites.items))) deed))))
 
 pub returns-in_err-done-clause-fallen : goal.returns-in_err-done-clause-fallen
 unfolding happens after_step
 returns-in_err-done-clause-fallen g c =
     let f = g.D.Disk.face in
     let s = c.args.state.now in
-    let hosts = hosts_of s.seats.items in
+    let hosts = hosts_of s.sites.items in
     let deed = c.requires.deed in
     err_then c.from_residual.result
-    (subst (λ o. HaveFallen f hosts (peers_after s.tick (peers_of f hosts) o) (hosts_of c.do_deed.new.seats.items)) deed c.in_err-done.ensures.fallen)
+    (subst (λ o. HaveFallen f hosts (peers_after s.tick (peers_of f hosts) o) (hosts_of c.do_deed.new.sites.items))
+    deed c.in_err-done.ensures.fallen)
 
 pub do_deed-requires-clause-done : goal.do_deed-requires-clause-done
 do_deed-requires-clause-done g c = λ κs lives.

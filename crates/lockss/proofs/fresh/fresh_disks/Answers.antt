@@ -14,9 +14,20 @@ loop-count-init c = record {
 
 pub loop-count-preserved : goal.loop-count-preserved
 loop-count-preserved c = record {
-  count = omega (arith, ap length c.in_ok-push.ensures.items, length-append c.loop-count.disks.items (c.fresh_disk.result ∷ []), c.loop-count.invariant.count);
+  count =
+      omega (
+        arith,
+        ap length c.in_ok-push.ensures.items,
+        length-append c.loop-count.disks.items (c.fresh_disk.result ∷ []),
+        c.loop-count.invariant.count,
+      );
   fresh =
       subst (AreFresh mem_face) (sym c.in_ok-push.ensures.items)
-      (fresh_more mem_face c.loop-count.disks.items c.fresh_disk.result c.loop-count.invariant.fresh c.fresh_disk.ensures.fresh);
-  unfailing = subst (All NeverFails) (sym c.in_ok-push.ensures.items) (one_more_never_fails c.loop-count.disks.items c.fresh_disk.result c.loop-count.invariant.unfailing (subst (λ fail. Starts fail [] c.fresh_disk.result.control) c.new.ensures.items c.fresh_disk.ensures.fails));
+      (fresh_more mem_face c.loop-count.disks.items c.fresh_disk.result c.loop-count.invariant.fresh
+      c.fresh_disk.ensures.fresh);
+  unfailing =
+      subst (All NeverFails) (sym c.in_ok-push.ensures.items)
+      (one_more_never_fails c.loop-count.disks.items c.fresh_disk.result c.loop-count.invariant.unfailing
+      (subst (λ fail. Starts fail [] c.fresh_disk.result.control) c.new.ensures.items
+      c.fresh_disk.ensures.fails));
 }

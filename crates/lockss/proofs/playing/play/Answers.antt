@@ -15,36 +15,53 @@ start-requires-clause-enough g c = λ κs lives.
 
 pub go_on-requires-clause-can : goal.go_on-requires-clause-can
 go_on-requires-clause-can g c = λ κs lives.
-    let e = senses g.D.Disk.face (ears g.J.EffortJudge.heard g.J.EffortJudge.verdict g.B.Bell.rung g.B.Bell.limit) g.K.Sink.taken g.K.Sink.faults in
+    let e = senses g.D.Disk.face (ears g.J.EffortJudge.heard g.J.EffortJudge.verdict g.B.Bell.rung g.B.Bell.limit)
+    g.K.Sink.taken g.K.Sink.faults in
     let before = devices c.args.disks.now.items c.args.sink.now c.args.judge.now c.args.bells.now.items in
-    let mid = devices c.hand_back.new.disks.items c.play_in-course.new.sink c.hand_back.new.judge c.hand_back.new.bells.items in
+    let mid = devices c.hand_back.new.disks.items c.play_in-course.new.sink c.hand_back.new.judge
+    c.hand_back.new.bells.items in
     let starts = c.in-Ok-start.ensures.starts in
-    can_read_as e c.args.command c.args.script before mid c.in-Ok-start.world c.play_in-course.new.world c.as_slice.result.now starts.asked
+    can_read_as e c.args.command c.args.script before mid c.in-Ok-start.world c.play_in-course.new.world
+    c.as_slice.result.now starts.asked
     c.requires.good c.requires.given starts.is _ _ starts.begins c.as_slice.ensures c.play_in-course.ensures.plan
-    (c.hand_back.ensures.disks ∙ c.into_parts.ensures.disks) (c.hand_back.ensures.judge ∙ ap Some c.into_parts.ensures.watched.0) (c.hand_back.ensures.bells ∙ c.into_parts.ensures.watched.1)
-    starts.made starts.calm c.into_parts.ensures.happened c.into_parts.ensures.holds c.play_in-course.result c.play_in-course.ensures.comes
+    (c.hand_back.ensures.disks ∙ c.into_parts.ensures.disks)
+    (c.hand_back.ensures.judge ∙ ap Some c.into_parts.ensures.watched.0)
+    (c.hand_back.ensures.bells ∙ c.into_parts.ensures.watched.1)
+    starts.made starts.calm c.into_parts.ensures.happened c.into_parts.ensures.holds c.play_in-course.result
+    c.play_in-course.ensures.comes
     (subst (AreUnfused g.D.Disk.face) (sym c.hand_back.ensures.disks) c.into_parts.ensures.unfused)
 
 pub returns-clause-plays : goal.returns-clause-plays
 returns-clause-plays g c =
-    let e = senses g.D.Disk.face (ears g.J.EffortJudge.heard g.J.EffortJudge.verdict g.B.Bell.rung g.B.Bell.limit) g.K.Sink.taken g.K.Sink.faults in
+    let e = senses g.D.Disk.face (ears g.J.EffortJudge.heard g.J.EffortJudge.verdict g.B.Bell.rung g.B.Bell.limit)
+    g.K.Sink.taken g.K.Sink.faults in
     let before = devices c.args.disks.now.items c.args.sink.now c.args.judge.now c.args.bells.now.items in
-    let mid = devices c.hand_back.new.disks.items c.play_in-course.new.sink c.hand_back.new.judge c.hand_back.new.bells.items in
+    let mid = devices c.hand_back.new.disks.items c.play_in-course.new.sink c.hand_back.new.judge
+    c.hand_back.new.bells.items in
     let after = devices c.go_on.new.disks.items c.go_on.new.sink c.hand_back.new.judge c.hand_back.new.bells.items in
     let starts = c.in-Ok-start.ensures.starts in
-    played_as e c.args.command c.args.script before mid c.in-Ok-start.world c.play_in-course.new.world c.as_slice.result.now starts.asked
+    played_as e c.args.command c.args.script before mid c.in-Ok-start.world c.play_in-course.new.world
+    c.as_slice.result.now starts.asked
     c.requires.good c.requires.given starts.is _ _ starts.begins c.as_slice.ensures c.play_in-course.ensures.plan
-    (c.hand_back.ensures.disks ∙ c.into_parts.ensures.disks) (c.hand_back.ensures.judge ∙ ap Some c.into_parts.ensures.watched.0) (c.hand_back.ensures.bells ∙ c.into_parts.ensures.watched.1)
-    starts.made starts.calm c.into_parts.ensures.happened c.into_parts.ensures.holds after refl refl c.requires.said c.play_in-course.result c.play_in-course.ensures.comes c.go_on.result c.go_on.ensures.goes
+    (c.hand_back.ensures.disks ∙ c.into_parts.ensures.disks)
+    (c.hand_back.ensures.judge ∙ ap Some c.into_parts.ensures.watched.0)
+    (c.hand_back.ensures.bells ∙ c.into_parts.ensures.watched.1)
+    starts.made starts.calm c.into_parts.ensures.happened c.into_parts.ensures.holds after refl refl c.requires.said
+    c.play_in-course.result c.play_in-course.ensures.comes c.go_on.result c.go_on.ensures.goes
 
 pub returns-in_default-clause-plays : goal.returns-in_default-clause-plays
 returns-in_default-clause-plays g c =
-    none_made (senses g.D.Disk.face (ears g.J.EffortJudge.heard g.J.EffortJudge.verdict g.B.Bell.rung g.B.Bell.limit) g.K.Sink.taken g.K.Sink.faults) c.args.command c.args.script
-    (devices c.args.disks.now.items c.args.sink.now c.args.judge.now c.args.bells.now.items) c.requires.good c.requires.given
+    none_made
+    (senses g.D.Disk.face (ears g.J.EffortJudge.heard g.J.EffortJudge.verdict g.B.Bell.rung g.B.Bell.limit)
+    g.K.Sink.taken g.K.Sink.faults) c.args.command c.args.script
+    (devices c.args.disks.now.items c.args.sink.now c.args.judge.now c.args.bells.now.items) c.requires.good
+    c.requires.given
 
 pub returns-in-Err-clause-plays : goal.returns-in-Err-clause-plays
 returns-in-Err-clause-plays g c =
-    let e = senses g.D.Disk.face (ears g.J.EffortJudge.heard g.J.EffortJudge.verdict g.B.Bell.rung g.B.Bell.limit) g.K.Sink.taken g.K.Sink.faults in
+    let e = senses g.D.Disk.face (ears g.J.EffortJudge.heard g.J.EffortJudge.verdict g.B.Bell.rung g.B.Bell.limit)
+    g.K.Sink.taken g.K.Sink.faults in
     let before = devices c.args.disks.now.items c.args.sink.now c.args.judge.now c.args.bells.now.items in
     let after = devices c.start.new.disks.items c.args.sink.now c.start.new.judge c.start.new.bells.items in
-    never_begins e (deed_of c.args.command) c.args.script before after c.in-Err.fault c.requires.good c.in-Err.ensures.refused refl c.in-Err.ensures.back.0 c.in-Err.ensures.back.1
+    never_begins e (deed_of c.args.command) c.args.script before after c.in-Err.fault c.requires.good
+    c.in-Err.ensures.refused refl c.in-Err.ensures.back.0 c.in-Err.ensures.back.1

@@ -14,11 +14,14 @@ new-requires-3-clause-enough g c = λ κs lives.
     omega (arith, c.requires.enough, handed)
 
 pub new-requires-3-clause-fresh : goal.new-requires-3-clause-fresh
-new-requires-3-clause-fresh g c = λ κs lives. subst (AreFresh g.D.Disk.face) (sym (ap (λ v. v.items) c.replace-handed.ensures.value)) c.requires.fresh
+new-requires-3-clause-fresh g c =
+    λ κs lives. subst (AreFresh g.D.Disk.face) (sym (ap (λ v. v.items) c.replace-handed.ensures.value))
+    c.requires.fresh
 
 pub new-requires-3-clause-silent : goal.new-requires-3-clause-silent
 new-requires-3-clause-silent g c = λ κs lives.
-    subst (AreSilent (ears g.J.EffortJudge.heard g.J.EffortJudge.verdict g.B.Bell.rung g.B.Bell.limit)) (sym (ap (λ v. v.items) c.replace-hung.ensures.value))
+    subst (AreSilent (ears g.J.EffortJudge.heard g.J.EffortJudge.verdict g.B.Bell.rung g.B.Bell.limit))
+    (sym (ap (λ v. v.items) c.replace-hung.ensures.value))
     (silent_left g.B.Bell.rung g.B.Bell.limit c.args.bells.now.items c.requires.silent)
 
 pub returns-in-Ok-clause-starts : goal.returns-in-Ok-clause-starts
@@ -36,7 +39,8 @@ returns-in-Ok-clause-starts g c =
       is = sym c.take.ensures.value ∙ c.in-Some.is;
       begins =
           subst (λ disks. Begins e plan pool (map f.faults disks) asked c.args.bells.now.items world) handed
-          (subst (λ bells. Begins e plan pool (map f.faults c.replace-handed.result.items) asked bells world) hung c.in-Ok.ensures.begins);
+          (subst (λ bells. Begins e plan pool (map f.faults c.replace-handed.result.items) asked bells world) hung
+          c.in-Ok.ensures.begins);
       made = subst (λ disks. ServesHonest f plan.peers disks world.disks _) handed c.in-Ok.ensures.disks;
       calm = c.in-Ok.ensures.power ∙ ap (map (power_of f)) handed;
     }

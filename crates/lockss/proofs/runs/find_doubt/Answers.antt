@@ -10,5 +10,6 @@ returns-clause-finds g c =
       read,
       c.in_ok-gathered.ensures.finds,
       c.in_ok-examine.ensures.finding ∙ ap (finding_of read.plan) c.deref.ensures.value,
-      subst (λ (set : List Shelf). IsYes c.in_ok-examine.field-0 ↔ SetHolds read.plan set) c.deref.ensures.value c.in_ok-examine.ensures.yes,
+      subst (λ (set : List Shelf). IsYes c.in_ok-examine.field-0 ↔ SetHolds read.plan set) c.deref.ensures.value
+          c.in_ok-examine.ensures.yes,
     )

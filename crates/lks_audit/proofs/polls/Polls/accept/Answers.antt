@@ -9,4 +9,5 @@ pub returns-in-Some-clause-on : goal.returns-in-Some-clause-on
 returns-in-Some-clause-on c =
     let id = c.args.own.now.id in
     let copies = copies_of c.args.copies.now in
-    on_set id copies c.self.inside.list.items c.in-Some.i c.tally_done.new.poll c.tally_done.ensures.on (subst (All (IsOn id copies)) (sym c.self.view_is) c.requires.on)
+    on_set id copies c.self.inside.list.items c.in-Some.i c.tally_done.new.poll c.tally_done.ensures.on
+    (subst (All (IsOn id copies)) (sym c.self.view_is) c.requires.on)

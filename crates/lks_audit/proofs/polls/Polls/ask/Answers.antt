@@ -8,14 +8,18 @@ found c = search rules
 
 pub asked-requires-clause-ended : goal.asked-requires-clause-ended
 unfolding MayAsk
-asked-requires-clause-ended c = subst (λ (s : Polled). s.shut ≡ true) (found c) (c.requires c.in-Some.i c.index_mut.result.now (sym c.place.ensures ∙ c.in-Some.is)).0
+asked-requires-clause-ended c =
+    subst (λ (s : Polled). s.shut ≡ true) (found c)
+    (c.requires c.in-Some.i c.index_mut.result.now (sym c.place.ensures ∙ c.in-Some.is)).0
 
 pub asked-requires-clause-idle : goal.asked-requires-clause-idle
 unfolding MayAsk
 asked-requires-clause-idle c =
-    subst (λ (s : Polled). s.suppliers.waiting ≡ false) (found c) (c.requires c.in-Some.i c.index_mut.result.now (sym c.place.ensures ∙ c.in-Some.is)).1
+    subst (λ (s : Polled). s.suppliers.waiting ≡ false) (found c)
+    (c.requires c.in-Some.i c.index_mut.result.now (sym c.place.ensures ∙ c.in-Some.is)).1
 
 pub asked-requires-clause-within : goal.asked-requires-clause-within
 unfolding MayAsk
 asked-requires-clause-within c =
-    subst (λ (s : Polled). c.args.block < s.tally.ballot.count) (found c) (c.requires c.in-Some.i c.index_mut.result.now (sym c.place.ensures ∙ c.in-Some.is)).2
+    subst (λ (s : Polled). c.args.block < s.tally.ballot.count) (found c)
+    (c.requires c.in-Some.i c.index_mut.result.now (sym c.place.ensures ∙ c.in-Some.is)).2

@@ -10,9 +10,11 @@ found c = search rules
 pub voted-requires-clause-new : goal.voted-requires-clause-new
 unfolding MayVote
 voted-requires-clause-new c =
-    subst (λ (s : Polled). has_member s.voters c.args.voter ≡ false) (found c) (c.requires c.in-Some.i c.index_mut.result.now (sym c.place.ensures ∙ c.in-Some.is)).0
+    subst (λ (s : Polled). has_member s.voters c.args.voter ≡ false) (found c)
+    (c.requires c.in-Some.i c.index_mut.result.now (sym c.place.ensures ∙ c.in-Some.is)).0
 
 pub voted-requires-clause-whole : goal.voted-requires-clause-whole
 unfolding MayVote
 voted-requires-clause-whole c =
-    subst (λ (s : Polled). length c.args.hashes ≡ s.tally.ballot.count) (found c) (c.requires c.in-Some.i c.index_mut.result.now (sym c.place.ensures ∙ c.in-Some.is)).1
+    subst (λ (s : Polled). length c.args.hashes ≡ s.tally.ballot.count) (found c)
+    (c.requires c.in-Some.i c.index_mut.result.now (sym c.place.ensures ∙ c.in-Some.is)).1

@@ -10,6 +10,8 @@ returns-clause-time c told =
     let old = c.args.self.now.content in
     let P : Kept → Type 0 = λ k. Elapses (moment old) (moment k) (left_since old) (left_since k) (may_leave k) in
     elim c.if-matches.branch [
-      | then-matches w ↦ subst P (sym (ap (λ m. m.content) w.self-is)) (elapses_synced old w.sync.new.self w.sync.ensures.bytes w.sync.ensures.calls)
+      | then-matches w
+          ↦ subst P (sym (ap (λ m. m.content) w.self-is))
+          (elapses_synced old w.sync.new.self w.sync.ensures.bytes w.sync.ensures.calls)
       | else-matches w ↦ subst P (sym (ap (λ m. m.content) w.self-is)) (elapses_still old)
     ]

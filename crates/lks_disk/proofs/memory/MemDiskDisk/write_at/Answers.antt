@@ -10,8 +10,12 @@ returns-clause-crash c told =
     let old = c.args.self.now.content in
     let P : Kept → Type 0 = λ k. Follows (Torn c.args.at (length c.args.piece.now)) (may_leave old) (may_leave k) in
     elim c.if-matches.branch [
-      | then-matches+in_ok-write w ↦ subst P (sym (ap (λ m. m.content) w.self-is)) (follows_written old w.write.new.self c.args.at c.args.piece.now (c.requires.within tt) w.in_ok-write.ensures.ok)
-      | else-matches w ↦ subst P (sym (ap (λ m. m.content) w.self-is)) (follows_same old c.args.at (length c.args.piece.now))
+      | then-matches+in_ok-write w
+          ↦ subst P (sym (ap (λ m. m.content) w.self-is))
+          (follows_written old w.write.new.self c.args.at c.args.piece.now (c.requires.within tt)
+          w.in_ok-write.ensures.ok)
+      | else-matches w
+          ↦ subst P (sym (ap (λ m. m.content) w.self-is)) (follows_same old c.args.at (length c.args.piece.now))
     ]
 
 pub returns-clause-time : goal.returns-clause-time
@@ -19,6 +23,9 @@ returns-clause-time c told =
     let old = c.args.self.now.content in
     let P : Kept → Type 0 = λ k. Elapses (moment old) (moment k) (left_since old) (left_since k) (may_leave k) in
     elim c.if-matches.branch [
-      | then-matches+in_ok-write w ↦ subst P (sym (ap (λ m. m.content) w.self-is)) (elapses_written old w.write.new.self c.args.at c.args.piece.now (c.requires.within tt) w.in_ok-write.ensures.ok)
+      | then-matches+in_ok-write w
+          ↦ subst P (sym (ap (λ m. m.content) w.self-is))
+          (elapses_written old w.write.new.self c.args.at c.args.piece.now (c.requires.within tt)
+          w.in_ok-write.ensures.ok)
       | else-matches w ↦ subst P (sym (ap (λ m. m.content) w.self-is)) (elapses_still old)
     ]

@@ -6,7 +6,8 @@ use Rattle.lks_draw.proofs.draws.Draws.pick.Goals as goal
 
 pub returns-then-list-n-clause-law : goal.returns-then-list-n-clause-law
 unfolding picked
-returns-then-list-n-clause-law c = IsPickOf-by_key c.args.self.now.key c.args.self.now.place _ _ _ (grind (arith, common_steps))
+returns-then-list-n-clause-law c =
+    IsPickOf-by_key c.args.self.now.key c.args.self.now.place _ _ _ (grind (arith, common_steps))
 
 pub returns-clause-law : goal.returns-clause-law
 unfolding picked

@@ -12,6 +12,10 @@ loop-i-preserved c =
       place = c.next_place-at.ensures.moved ∙ ap (λ d. moved d 1) inv.place ∙ moved_on c.args.self.now c.loop-i._i 1;
       rest = omega (arith, c.remove.ensures.len, inv.rest);
       room = omega (arith, inv.room, c.put.ensures.len, c.put.ensures.room);
-      members = picked_one c.args.self.now c.loop-i.self c.loop-i._i c.args.n c.next_place-at.result c.remove.result c.loop-i.members.items c.loop-i.rest.items _ _ _
-          inv.place c.loop-i-test.true (c.next_place-at.ensures.word ∙ ap (scaled _) len_is) c.remove.ensures.value (omega (arith, c.next_place-at.ensures.below, len_is)) c.put.ensures.items c.remove.ensures.items inv.members;
+      members =
+          picked_one c.args.self.now c.loop-i.self c.loop-i._i c.args.n c.next_place-at.result c.remove.result
+          c.loop-i.members.items c.loop-i.rest.items _ _ _
+          inv.place c.loop-i-test.true (c.next_place-at.ensures.word ∙ ap (scaled _) len_is) c.remove.ensures.value
+          (omega (arith, c.next_place-at.ensures.below, len_is)) c.put.ensures.items c.remove.ensures.items
+          inv.members;
     }

@@ -8,6 +8,7 @@ invariant-loop-i l = record {
   place : l.self ≡ moved l.initial.self l._i;
   rest : vec_len l.rest + l._i ≡ vec_len l.initial.rest;
   room : vec_len l.members + (l.n - l._i) ≤ vec_capacity l.members;
-  members : l.members.items ++ taken (words_of l.initial.self.key) (l.initial.self.place + l._i) l.rest.items (l.n - l._i)
+  members : l.members.items
+      ++ taken (words_of l.initial.self.key) (l.initial.self.place + l._i) l.rest.items (l.n - l._i)
       ≡ l.initial.members.items ++ taken (words_of l.initial.self.key) l.initial.self.place l.initial.rest.items l.n;
 }

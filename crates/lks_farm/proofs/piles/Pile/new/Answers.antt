@@ -20,9 +20,18 @@ loop-place-preserved g c =
 
 pub invariant_of-result : goal.invariant_of-result
 invariant_of-result g c =
-    let asked : length c.args.jobs.items ≡ length g.N.Batch.asked = sym (length-map c.args.jobs.items asked_of) ∙ ap length c.requires in
+    let asked : length c.args.jobs.items
+    ≡ length g.N.Batch.asked = sym (length-map c.args.jobs.items asked_of) ∙ ap length c.requires in
     let many : length c.loop-place.done.items ≡ length g.N.Batch.asked =
-    omega (arith, c.loop-place.invariant.1, c.loop-place-test.false, c.loop-place.auto._place-end, c.len-place-end.ensures, c.args.jobs.ok, asked) in
+    omega (
+      arith,
+      c.loop-place.invariant.1,
+      c.loop-place-test.false,
+      c.loop-place.auto._place-end,
+      c.len-place-end.ensures,
+      c.args.jobs.ok,
+      asked,
+    ) in
     record {
       taken = [];
       left = append-nil _ ∙ c.requires;

@@ -5,7 +5,8 @@ use Rattle.lks_farm.proofs.piles.Pile.put.Goals as goal
 
 pub index_mut-requires : goal.index_mut-requires
 index_mut-requires g c =
-    let within = has_place c.self.inside.done.items g.N.Batch.asked c.args.place (asked_done c.args.done) c.requires c.self.invariant.places in
+    let within = has_place c.self.inside.done.items g.N.Batch.asked c.args.place (asked_done c.args.done) c.requires
+    c.self.invariant.places in
     omega (arith, within, c.self.inside.done.ok)
 
 pub invariant_of-self : goal.invariant_of-self

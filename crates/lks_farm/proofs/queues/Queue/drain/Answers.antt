@@ -16,7 +16,10 @@ loop-init g c =
     let count = moment_count c.count-count.result old c.requires.whole c.count-count.ensures.count in
     record {
       of = search rules;
-      got = same ∙ as_whole old c.requires.whole ∙ ap (λ (l : List _). known 128 old.pool old.put (old.got ++ map g.T.Entries.entry l)) (sym c.requires.empty);
+      got =
+          same ∙ as_whole old c.requires.whole
+          ∙ ap (λ (l : List _). known 128 old.pool old.put (old.got ++ map g.T.Entries.entry l))
+          (sym c.requires.empty);
       left = omega (arith, count, ap (λ (v : View). length v.got) same);
       many = ap (λ (l : List _). length l) c.requires.empty;
       room = omega arith;
@@ -38,5 +41,6 @@ returns g c =
     let v = c.loop.hand.knows in
     let w : View = known 128 old.pool old.put (old.got ++ map g.T.Entries.entry c.loop.out.items) in
     let put : length v.put ≡ length old.put = ap (λ (u : View). length u.put) {y = w} i.got in
-    let whole = moment_end c.count-left.result v (ap (λ (u : View). u.parts) {y = w} i.got) c.count-left.ensures.count (omega (arith, put, i.left)) in
+    let whole = moment_end c.count-left.result v (ap (λ (u : View). u.parts) {y = w} i.got)
+    c.count-left.ensures.count (omega (arith, put, i.left)) in
     subst (λ (u : View). IsPermutation u.put u.got) {y = w} i.got whole

@@ -7,7 +7,9 @@ abbrev pub invariant-loop : goal.invariant-loop
 invariant-loop g l =
     record {
       of : l.hand.table ≡ l.self.table;
-      got : l.hand.knows ≡ known 128 l.fn.hand.knows.pool l.fn.hand.knows.put (l.fn.hand.knows.got ++ map g.T.Entries.entry l.out.items);
+      got : l.hand.knows
+          ≡ known 128 l.fn.hand.knows.pool l.fn.hand.knows.put
+          (l.fn.hand.knows.got ++ map g.T.Entries.entry l.out.items);
       left : length l.fn.hand.knows.put + l.counter ≡ length l.hand.knows.got + l.count;
       many : length l.out.items ≡ l.counter;
       room : l.count ≤ vec_capacity l.out;

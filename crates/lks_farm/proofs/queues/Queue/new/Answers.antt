@@ -11,4 +11,5 @@ another-pass-requires-clause-rule g c =
     let pool = g.N.Naming.pool in
     let first = c.in_ok-line.first in
     let is : view first ≡ known 128 [] [] [] = search rules in
-    subst (λ (v : View). Forks (Ruled g.T.Entries.entry) first.id v (known 0 pool [] []) (known v.parts pool [] [])) (sym is) (names g.T.Entries.entry first.id pool)
+    subst (λ (v : View). Forks (Ruled g.T.Entries.entry) first.id v (known 0 pool [] []) (known v.parts pool [] []))
+    (sym is) (names g.T.Entries.entry first.id pool)

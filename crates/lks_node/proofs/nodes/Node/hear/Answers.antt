@@ -10,7 +10,13 @@ pub returns-in-Ok-clause-acted : goal.returns-in-Ok-clause-acted
 returns-in-Ok-clause-acted g c =
     let host = c.args.self.now.host in
     let judge = g.J.EffortJudge in
-    subst (λ (id : ℕ). Acted g.D.Disk.face c.args.self.now c.take_heard.new.self (reacts host.peer.own host.peer.state c.args.self.now.tick (deed_by (judge.verdict c.args.judge.now) id (judge.heard c.args.judge.now) (Hear c.args.from c.args.bytes.now))) c.take_heard.result)
+    subst
+    (λ (id : ℕ). Acted g.D.Disk.face c.args.self.now c.take_heard.new.self
+    (reacts host.peer.own host.peer.state c.args.self.now.tick
+    (deed_by (judge.verdict c.args.judge.now) id (judge.heard c.args.judge.now)
+    (Hear c.args.from c.args.bytes.now))) c.take_heard.result)
     c.id.ensures
-    (subst (λ (d : Option Deed). Acted g.D.Disk.face c.args.self.now c.take_heard.new.self (reacts host.peer.own host.peer.state c.args.self.now.tick d) c.take_heard.result)
+    (subst
+    (λ (d : Option Deed). Acted g.D.Disk.face c.args.self.now c.take_heard.new.self
+    (reacts host.peer.own host.peer.state c.args.self.now.tick d) c.take_heard.result)
     c.in-Ok.ensures.input (c.take_heard.ensures.acted c.id.result))

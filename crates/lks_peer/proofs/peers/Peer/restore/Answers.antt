@@ -9,5 +9,7 @@ use Rattle.lks_peer.proofs.peers.Peer.restore.Goals as goal
 
 pub begin-requires-clause-fit : goal.begin-requires-clause-fit
 begin-requires-clause-fit g c =
-    let found : find (is_honest_at c.args.id) c.args.plan.now.peers ≡ Some c.in-Some.planned.now = cc (c.in-Some.ensures, c.as_slice.ensures) in
-    subst (λ (own : Station). IsFit own (blank own)) (sym c.in_ok-own.ensures) (fit_blank c.args.plan.now (is_honest_at c.args.id) c.in-Some.planned.now c.requires.good found)
+    let found : find (is_honest_at c.args.id) c.args.plan.now.peers
+    ≡ Some c.in-Some.planned.now = cc (c.in-Some.ensures, c.as_slice.ensures) in
+    subst (λ (own : Station). IsFit own (blank own)) (sym c.in_ok-own.ensures)
+    (fit_blank c.args.plan.now (is_honest_at c.args.id) c.in-Some.planned.now c.requires.good found)

@@ -14,14 +14,16 @@ pub apply_all-requires-clause-fits : goal.apply_all-requires-clause-fits
 apply_all-requires-clause-fits g c =
     let own = c.self.inside.own in
     let r = c.in_ok-reaction.reaction in
-    let fits = adds_fit own c.self.inside.mark c.self.inside.known c.self.invariant c.args.tick (input_of c.args.done) r (heard_done c.args.done) (search rules) c.in_ok-reaction.ensures.reaction in
+    let fits = adds_fit own c.self.inside.mark c.self.inside.known c.self.invariant c.args.tick
+    (input_of c.args.done) r (heard_done c.args.done) (search rules) c.in_ok-reaction.ensures.reaction in
     subst (AreFitting own (state_of c.react_done.new.known)) (sym c.as_slice-records.ensures)
     (subst (λ (s : State). AreFitting own s r.records) (sym c.in_ok-reaction.ensures.seen) fits)
 
 pub returns-clause-fits : goal.returns-clause-fits
 returns-clause-fits g c =
     let r = c.in_ok-reaction.reaction in
-    let fits = adds_fit c.self.inside.own c.self.inside.mark c.self.inside.known c.self.invariant c.args.tick (input_of c.args.done) r (heard_done c.args.done) (search rules) c.in_ok-reaction.ensures.reaction in
+    let fits = adds_fit c.self.inside.own c.self.inside.mark c.self.inside.known c.self.invariant c.args.tick
+    (input_of c.args.done) r (heard_done c.args.done) (search rules) c.in_ok-reaction.ensures.reaction in
     subst (λ (k : Knowing). AreFitting k.own k.state r.records) c.self.view_is fits
 
 pub returns-clause-kept : goal.returns-clause-kept
@@ -30,7 +32,11 @@ returns-clause-kept g c =
     let known = c.self.inside.known in
     let r = c.in_ok-reaction.reaction in
     let new = kept_of c.apply_all.new.known.polls in
-    let after : new ≡ kept_after_all own (state_of known) r.records (kept_deciding own (state_of known) (input_of c.args.done) (kept_of known.polls)) =
-    c.in_ok-apply_all.ensures.kept ∙ (λ i. kept_after_all own (c.in_ok-reaction.ensures.seen i) (c.as_slice-records.ensures i) (c.in_ok-reaction.ensures.kept i)) in
+    let after : new
+    ≡ kept_after_all own (state_of known) r.records
+    (kept_deciding own (state_of known) (input_of c.args.done) (kept_of known.polls)) =
+    c.in_ok-apply_all.ensures.kept
+    ∙ (λ i. kept_after_all own (c.in_ok-reaction.ensures.seen i) (c.as_slice-records.ensures i)
+    (c.in_ok-reaction.ensures.kept i)) in
     subst (λ (k : Knowing). Keeps k.own k.state (input_of c.args.done) r.records k.kept new) c.self.view_is
     (keeps_step own known c.args.tick (input_of c.args.done) r new c.in_ok-reaction.ensures.reaction after)

@@ -7,4 +7,6 @@ use Rattle.lks_poller.proofs.sessions.PollSession.has_nominated.Goals as goal
 
 pub returns : goal.returns
 unfolding has_nominated_in
-returns c = c.names.ensures ∙ ap (λ ns. list_any (λ n. n.voter == c.args.from) ns) c.nominations.ensures ∙ sym (nominated_seen c.args.self.now.nominations c.args.from)
+returns c =
+    c.names.ensures ∙ ap (λ ns. list_any (λ n. n.voter == c.args.from) ns) c.nominations.ensures
+    ∙ sym (nominated_seen c.args.self.now.nominations c.args.from)

@@ -8,7 +8,8 @@ use Rattle.lks_poller.proofs.sessions.PollSession.silent.Goals as goal
 pub returns : goal.returns
 unfolding silent_in
 returns c =
-    let invited : c.extend_from_slice.new.self.items ≡ c.args.self.now.inner ++ unwrap_or c.args.self.now.outer [] = search rules in
+    let invited : c.extend_from_slice.new.self.items
+    ≡ c.args.self.now.inner ++ unwrap_or c.args.self.now.outer [] = search rules in
     c.from_vec.ensures
     ∙ filter_same _ _ _ (λ x b f' k. search rules) _ _ c.retain.ensures.filtered
     ∙ ap (filter (λ v. not (has_member c.args.self.now.voters v))) invited

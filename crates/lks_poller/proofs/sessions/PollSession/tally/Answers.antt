@@ -6,4 +6,6 @@ use Rattle.lks_poller.proofs.Soundness.{few_votes}
 use Rattle.lks_poller.proofs.sessions.PollSession.tally.Goals as goal
 
 pub returns-clause-few : goal.returns-clause-few
-returns-clause-few c = subst (λ (s : Polled). length s.tally.votes ≤ MOST_CIRCLE) c.self.view_is (few_votes (shown c.self.inside) c.self.invariant)
+returns-clause-few c =
+    subst (λ (s : Polled). length s.tally.votes ≤ MOST_CIRCLE) c.self.view_is
+    (few_votes (shown c.self.inside) c.self.invariant)

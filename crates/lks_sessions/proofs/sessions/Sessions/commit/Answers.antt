@@ -8,4 +8,6 @@ use Rattle.lks_law.specs.Fitting.{IsPinnedWell}
 pub returns-clause-sendable : goal.returns-clause-sendable
 returns-clause-sendable c = λ can.
     sends_pinned c.args.self.now _
-    (λ all. c.pin.ensures.sendable can (subst (λ (k : Kept). All IsPinnedWell (map pinned_of k.pinned)) (sym c.self.view_is) all)) (ap (λ (k : Kept). k.cast) c.self.view_is)
+    (λ all. c.pin.ensures.sendable can
+    (subst (λ (k : Kept). All IsPinnedWell (map pinned_of k.pinned)) (sym c.self.view_is) all))
+    (ap (λ (k : Kept). k.cast) c.self.view_is)

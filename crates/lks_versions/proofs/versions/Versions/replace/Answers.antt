@@ -10,5 +10,6 @@ invariant_of-self-2 c =
     let current = c.current-current.ensures ∙ ap current_of (sym c.self.view_is) in
     let lists = c.self.inside.deposit ∷ c.self.inside.later.items in
     whole_replaced c.self.inside.deposit c.self.inside.later.items _ _ c.set.new.self (search rules)
-    (count_set lists _ c.current-current.result c.in-Ok.list _ _ _ c.self.invariant (omega (arith, current)) (search rules) c.set.ensures)
+    (count_set lists _ c.current-current.result c.in-Ok.list _ _ _ c.self.invariant (omega (arith, current))
+    (search rules) c.set.ensures)
     (omega (arith, room)) c.self.invariant

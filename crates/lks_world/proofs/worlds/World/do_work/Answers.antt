@@ -11,5 +11,6 @@ pub do_turn-requires-clause-due : goal.do_turn-requires-clause-due
 do_turn-requires-clause-due g c κs within =
     let w = c.args.self.now in
     let taken : c.args.expected ≡ Some c.tag-found.result = search rules in
-    let due = expected_due w.plan w.history c.args.done c.tag-found.result (subst (IsExpected (world w.plan w.history) c.args.done) taken c.requires.expected) in
+    let due = expected_due w.plan w.history c.args.done c.tag-found.result
+    (subst (IsExpected (world w.plan w.history) c.args.done) taken c.requires.expected) in
     (due.0, due.1 ∙ ap (λ s. Some (Own s)) (sym (c.step.ensures ∙ ap step_named c.name.ensures)))

@@ -10,16 +10,21 @@ use Rattle.lks_world.proofs.worlds.World.halt.Goals as goal
 pub invariant_of-self : goal.invariant_of-self
 invariant_of-self g c =
     let a = c.self.inside in
-    kept_refused g.D.Disk.face (ears g.J.EffortJudge.heard g.J.EffortJudge.verdict g.B.Bell.rung g.B.Bell.limit) a c.self.invariant (none_there a.stopped c.if-is_none.ensures) a.state.seats a.out refl
+    kept_refused g.D.Disk.face (ears g.J.EffortJudge.heard g.J.EffortJudge.verdict g.B.Bell.rung g.B.Bell.limit) a
+    c.self.invariant (none_there a.stopped c.if-is_none.ensures) a.state.sites a.out refl
 
 pub returns-then-is_none : goal.returns-then-is_none
 returns-then-is_none g c =
     let a = c.self.inside in
-    subst (λ (v : Seen g.row.D.Denot g.row.J.Denot g.row.B.Denot). seen_in (record a { stopped = Some Memory }) ≡ record v { stopped = halted v.stopped }) c.self.view_is
-    (ap (λ (o : Option WorldFault). record (seen_in a) { stopped = halted o }) (sym (none_there a.stopped c.if-is_none.ensures)))
+    subst
+    (λ (v : Seen g.row.D.Denot g.row.J.Denot g.row.B.Denot). seen_in (record a { stopped = Some Memory })
+    ≡ record v { stopped = halted v.stopped }) c.self.view_is
+    (ap (λ (o : Option WorldFault). record (seen_in a) { stopped = halted o })
+    (sym (none_there a.stopped c.if-is_none.ensures)))
 
 pub returns-else-is_none : goal.returns-else-is_none
 returns-else-is_none g c =
     let w = c.args.self.now in
     let same = ap (λ (v : Seen g.row.D.Denot g.row.J.Denot g.row.B.Denot). v.stopped) c.self.view_is in
-    ap (λ (o : Option WorldFault). record w { stopped = o }) (halted_still w.stopped (ap is_some (sym same) ∙ c.if-is_none.ensures))
+    ap (λ (o : Option WorldFault). record w { stopped = o })
+    (halted_still w.stopped (ap is_some (sym same) ∙ c.if-is_none.ensures))

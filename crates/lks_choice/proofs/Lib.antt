@@ -1,0 +1,5 @@
+pub mod Asked
+pub mod Candidates
+pub mod Filling
+pub mod Members
+pub mod Shares

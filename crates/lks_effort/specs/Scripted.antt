@@ -1,8 +1,0 @@
--- What a judge with a list of verdicts is.
-use Rattle.std.specs.Prelude.{Bool, List}
-use Rattle.lks_effort.specs.declared.questions.Question.{Question}
-
--- the questions that it heard, in order, and its verdicts
-pub record Scripted : Type 0 where
-  pub heard : List Question
-  pub verdicts : List Bool

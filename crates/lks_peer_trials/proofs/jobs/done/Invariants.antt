@@ -1,5 +1,0 @@
-use Rattle.lks_peer_trials.proofs.jobs.done.Given as goal
-
--- the ledger that counts the links
-abbrev pub ghosts-hash_counted : goal.ghosts-hash_counted
-ghosts-hash_counted a = record { name = a.blank.name; parts = a.blank.parts }

@@ -1,4 +1,0 @@
-pub mod Candidates
-pub mod Filling
-pub mod Members
-pub mod Shares

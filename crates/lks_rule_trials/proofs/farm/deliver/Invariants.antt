@@ -1,0 +1,9 @@
+use Rattle.std.proofs.Common.{◌≡◌, Some}
+use Rattle.lks_farm.specs.Entries.{entry_done}
+use Rattle.lks_rule_trials.proofs.farm.deliver.Given as goal
+
+abbrev pub invariant-loop : goal.invariant-loop
+invariant-loop g l =
+    (goal.iterator-loop g).can_next l.iterator' × (goal.iterator-loop g).is_finite l.iterator'
+    × (l.seat.badge ≡ l.fn.seat.badge)
+    × (l.seat.held ≡ Some (entry_done l.done))

@@ -1,0 +1,12 @@
+use Rattle.std.proofs.Common.{◌≡◌, [], length}
+use Rattle.lks_tally.specs.Keeping.{IsReserved}
+use Rattle.lks_rule_trials.proofs.tally.tally_of.Given as goal
+
+abbrev pub invariant-loop-i : goal.invariant-loop-i
+invariant-loop-i g l = record {
+  reserved : IsReserved l.tally;
+  all : length l.tally.votes ≡ l.i;
+  count : l.tally.ballot.count ≡ l.count;
+  kept : l.tally.kept ≡ 0;
+  hashes : l.tally.hashes ≡ [];
+}

@@ -1,0 +1,5 @@
+//! Whom a peer samples, admits and asks.
+
+mod grades;
+mod lists;
+mod suppliers;

@@ -1,0 +1,3 @@
+pub mod FreshDisks
+pub mod Openings
+pub mod Pairs
