@@ -25,17 +25,17 @@ EXTREMES = ("least", "median", "most")
 Row = dict[str, str]
 
 
-def usage(processes: Iterable[int]) -> tuple[list[float], list[float]]:
+def usage(processes: Iterable[int]) -> dict[int, tuple[float, float]]:
     """The memory in MB and the open files of each of these processes that still runs."""
-    memory, opened = [], []
+    found = {}
     for process in processes:
         try:
             pages = int(pathlib.Path(f"/proc/{process}/statm").read_text().split()[1])
-            opened.append(float(len(os.listdir(f"/proc/{process}/fd"))))
-            memory.append(pages * os.sysconf("SC_PAGE_SIZE") / 1e6)
+            opened = len(os.listdir(f"/proc/{process}/fd"))
         except OSError:
             continue
-    return memory, opened
+        found[process] = pages * os.sysconf("SC_PAGE_SIZE") / 1e6, float(opened)
+    return found
 
 
 def extremes(values: Sequence[float]) -> tuple[float, float, float]:
@@ -58,20 +58,31 @@ class Watch:
         self.path, self.file = path, open(path, "w", encoding="ascii", newline="")
         self.rows = csv.writer(self.file, lineterminator="\n")
         self.count, self.last, self.measures = 0, "", list[str]()
+        # of each kind the memory that its processes had in their first two samples
+        self.first: dict[str, dict[int, list[float]]] = {}
 
     def add(self, second: int, counts: Mapping[str, int], kinds: Mapping[str, Sequence[int]]) -> None:
         """Measures the processes of each kind."""
         measures: dict[str, list[float]] = {}
         for kind, processes in kinds.items():
-            measures[f"memory of {kind}, MB"], measures[f"open files of {kind}"] = usage(processes)
+            found = usage(processes)
+            measures[f"memory of {kind}, MB"] = [memory for memory, _ in found.values()]
+            measures[f"growth of {kind}, kB"] = self.grown(kind, {it: memory for it, (memory, _) in found.items()})
+            measures[f"open files of {kind}"] = [opened for _, opened in found.values()]
         if self.count == 0:
             self.measures = list(measures)
             self.rows.writerow(["second", *COUNTS, *(f"{name} {it}" for name in measures for it in EXTREMES)])
-        found = [f"{it:.1f}" if values else "" for values in measures.values() for it in extremes(values or [0.0])]
-        self.rows.writerow([second, *(counts[name] for name in COUNTS), *found])
+        cells = [f"{it:.1f}" if values else "" for values in measures.values() for it in extremes(values or [0.0])]
+        self.rows.writerow([second, *(counts[name] for name in COUNTS), *cells])
         self.file.flush()
         self.count += 1
         self.last = f"{second} s: " + ", ".join(f"{counts[name]} {name}" for name in COUNTS)
+
+    def grown(self, kind: str, memory: Mapping[int, float]) -> list[float]:
+        """By how many kB each process grew since its second sample: in the first one it may not be done with its start."""
+        before = self.first.get(kind, {})
+        self.first[kind] = {it: [*before.get(it, []), now][:2] for it, now in memory.items()}
+        return [1000 * (now - before[it][1]) for it, now in memory.items() if len(before.get(it, [])) == 2]
 
     def progress(self, is_over: bool = False) -> None:
         """The line of progress, where standard error is a terminal."""

@@ -13,15 +13,26 @@ import unittest
 
 from lks.play import TOP
 
-COMMANDS = "sh dirname readlink find awk grep cat cp touch sort sed xargs getconf".split()
+COMMANDS = "sh dirname readlink find grep cat cp touch mkdir python3".split()
 PROGRAM = '#!/bin/sh\n[ $# -gt 0 ] || exit 2\ncat\necho "words $*"\nexit "${STATUS-0}"\n'
 # It proves a library, or proves and builds the program; or it fails at either.
 KIT = """#!/bin/sh
 [ "$1" != version ] || { echo kit 1; exit; }
 [ "$1" != "$BROKEN" ] || { echo the proof fails; exit 1; }
 echo logic=proved
-[ "$1" = run ] || { [ "${PWD##*/}" = low ] && exit; }
+[ "$1" = run ] || { [ "${PWD##*/}" != lockss ] && mkdir -p out && exit; }
 cp ../../made out/lockss && touch out/lockss.stamp && exec out/lockss
+"""
+# It says beside which built crates and parts of its own a library is proved, and proves it, one after another.
+BUILDER = """#!/bin/sh
+own=${PWD##*/}
+said="$own:"
+for it in ../*; do [ ! -d "$it/out/rlib" ] || [ "$it" = "../$own" ] || said="$said ${it#../}"; done
+for it in *; do said="$said $it"; done
+[ "$own" != "$BROKEN" ] || { echo "$said"; echo no proof; exit 1; }
+mkdir -p out/rlib
+echo "$said" >>out/said
+[ "$1" = lib ] || { echo "checked $own::one, 1 of 2"; echo "fn $own::one: proved"; echo "checked $own::two, 2 of 2"; }
 """
 FIRST = "lockss: proving and building the program first, 2 crates\n"
 NO_PROGRAM = "lockss: the program isn't built, or a source changed since, and "
@@ -43,8 +54,10 @@ class Launcher(unittest.TestCase):
         made = tempfile.TemporaryDirectory()
         self.addCleanup(made.cleanup)
         self.top = pathlib.Path(made.name).resolve()
-        for name in ("lockss", "proved"):
+        for name in ("lockss", "proved", "build-below", "dearest"):
             self.put(f"bin/{name}", (TOP / "bin" / name).read_text())
+        for name in ("dearest", "lanes", "rooms"):
+            self.put(f"tools/building/{name}.py", (TOP / f"tools/building/{name}.py").read_text())
         for name in COMMANDS:
             (self.top / "path").mkdir(exist_ok=True)
             (self.top / "path" / name).symlink_to(shutil.which(name) or name)
@@ -124,6 +137,35 @@ class Launcher(unittest.TestCase):
         self.program.unlink()
         proved = [f"lockss: {crate} is proved, crate {place} of 2" for place, crate in enumerate(("low", "lockss"), 1)]
         self.assertEqual(self.on_terminal("replay"), (0, "in\nwords replay\n", [FIRST.strip(), *proved]))
+
+    def test_below(self) -> None:
+        """Each crate is proved beside what was built below it, over what an earlier proof of it left, the longest chain first."""
+        self.put("crates.txt", "other:\nlow:\nmiddle may_wait=1: low sha2 # or not\nhigh: low middle other\n")
+        for name, lines in (("other", 2), ("low", 3), ("middle", 1), ("high", 9)):
+            self.put(f"crates/{name}/src/lib.rt", "\n" * lines)
+            self.put(f"crates/{name}/must-fail/a.edit", "")
+        self.put("path/rt", BUILDER)
+        build = lambda *words, **more: self.run_it(*words, "high", link="bin/build-below", **more)
+        self.assertEqual(build("--list"), (0, "low\nmiddle\nother\n", ""))
+        for again in ("", "out "):
+            self.assertEqual(sorted(build()[1].splitlines()), ["low is proved", "middle is proved", "other is proved"])
+            told = [(self.top / "crates" / name / "out/said").read_text().splitlines()[-1] for name in ("low", "middle", "other")]
+            self.assertEqual(told, [f"low: {again}src", f"middle: low {again}src", f"other: {again}src"])
+        status, out, _ = build(BROKEN="middle")
+        self.assertEqual((status, out.splitlines()[-2:]), (1, ["middle: low out src", "no proof"]))
+        self.assertEqual([it.name for it in self.top.iterdir() if it.name.startswith(".")], [])
+        self.assertEqual(self.run_it("none", link="bin/build-below"), (1, "", "build-below: crates.txt has no crate none\n"))
+
+    def test_dearest(self) -> None:
+        self.put("crates.txt", "low:\nhigh: low\n")
+        for name in ("low", "high"):
+            self.put(f"crates/{name}/src/lib.rt", "")
+        self.put("path/rt", BUILDER)
+        rows = "| function | processor seconds |\n|---|---|\n| `high::one` | 0 |\n| `high::two` | 0 |\n"
+        self.assertEqual(self.run_it("high", "--keep", self.top / "all", link="bin/dearest"), (0, rows, "low is proved\n"))
+        self.assertEqual((self.top / "all").read_text(), "high::one,0.0\nhigh::two,0.0\n")
+        ended = self.run_it("high", link="bin/dearest", BROKEN="high")
+        self.assertEqual(ended, (1, "", "low is proved\ndearest: high: low src\nno proof\n"))
 
     def test_no_kit(self) -> None:
         (self.top / "path/rt").unlink()

@@ -1,0 +1,90 @@
+"""Libraries proved and built side by side."""
+
+from __future__ import annotations
+
+import os
+import pathlib
+import re
+import shutil
+import sys
+from concurrent.futures import FIRST_COMPLETED, Future, ThreadPoolExecutor, wait
+from subprocess import Popen
+from typing import NamedTuple, TextIO
+
+from building.rooms import CRATES, held, room, started, stop
+
+# More jobs don't prove a crate faster. The crate on which the longest chain stands waits for no processor, and gets so many.
+MOST_JOBS, FIRST_JOBS = 4, 3
+# The memory, in kB, that one more job may need.
+EACH_KB = 3_000_000
+
+Task = NamedTuple("Task", [("crate", str), ("jobs", int)])
+
+
+def chains(needs: dict[str, list[str]]) -> dict[str, int]:
+    """How many lines of source the longest chain has that begins at a crate and goes up."""
+    found = dict[str, int]()
+    for crate in reversed(needs):
+        above = [found[it] for it in found if crate in needs[it]]
+        files = (CRATES / crate / "src").rglob("*.rt")
+        found[crate] = max(above, default=0) + sum(it.read_bytes().count(b"\n") for it in files)
+    return found
+
+
+def lanes() -> int:
+    """How many jobs may run at a time."""
+    free = re.search(r"MemAvailable:\s+(\d+)", pathlib.Path("/proc/meminfo").read_text())
+    return max(1, min(len(os.sched_getaffinity(0)), int(free[1]) // EACH_KB if free else 1))
+
+
+class Lanes:
+    """Libraries that are proved and built, each once those below it are, and where that is told."""
+
+    def __init__(self, needs: dict[str, list[str]], out: TextIO = sys.stdout) -> None:
+        self.needs, self.long, self.most = needs, chains(needs), lanes()
+        self.left, self.done = sorted(needs, key=lambda it: -self.long[it]), set[str]()
+        self.running: dict[Future[str | None], Task] = {}
+        self.processes: set[Popen[str]] = set()
+        self.out = out
+
+    def prove(self, task: Task) -> str | None:
+        """Proves and builds a library. It gives what rt said where that didn't go well."""
+        with held(task.crate), room(task.crate) as folder:
+            with started("rt", "lib", "--jobs", str(task.jobs), folder=folder) as process:
+                self.processes.add(process)
+                said = process.communicate()[0]
+                self.processes.remove(process)
+            if process.returncode:
+                return said
+            shutil.rmtree(CRATES / task.crate / "out", ignore_errors=True)
+            (folder / "out").rename(CRATES / task.crate / "out")
+            return None
+
+    def begin(self, pool: ThreadPoolExecutor) -> None:
+        """Begins what may be begun. A crate gets more than one job where no other waits for a processor."""
+        ready = [it for it in self.left if self.done.issuperset(self.needs[it])]
+        for at, crate in enumerate(ready):
+            tasks = self.running.values()
+            idle = self.most - sum(it.jobs for it in tasks)
+            is_first = self.most >= FIRST_JOBS and all(self.long[crate] > self.long[it.crate] for it in tasks)
+            if idle > 0 or is_first:
+                jobs = max(FIRST_JOBS if is_first else 1, min(MOST_JOBS, idle // (len(ready) - at)))
+                self.left.remove(crate)
+                self.running[pool.submit(self.prove, Task(crate, jobs))] = Task(crate, jobs)
+
+    def run(self) -> bool:
+        """Proves all, and prints a line for each crate. It ends at the first one that isn't proved."""
+        with ThreadPoolExecutor(self.most + 1) as pool:
+            try:
+                while self.left or self.running:
+                    self.begin(pool)
+                    for it in wait(self.running, return_when=FIRST_COMPLETED).done:
+                        crate, said = self.running.pop(it).crate, it.result()
+                        print(f"{crate} is proved" if said is None else said.rstrip(), file=self.out, flush=True)
+                        if said is not None:
+                            return False
+                        self.done.add(crate)
+                return True
+            finally:
+                for process in self.processes.copy():
+                    stop(process)

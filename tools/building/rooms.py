@@ -1,0 +1,91 @@
+"""Copies in which crates are proved. rt keeps others out of all crates below the one that it proves, so two proofs over the same
+crates wait for each other, but where each has a copy of them."""
+
+from __future__ import annotations
+
+import contextlib
+import fcntl
+import os
+import pathlib
+import re
+import shutil
+import signal
+import subprocess
+import tempfile
+from collections.abc import Iterator
+
+TOP = pathlib.Path(__file__).resolve().parent.parent.parent
+CRATES = TOP / "crates"
+# What rt reads of a library, beside what was built of it.
+PARTS = ("src", "specs", "proofs")
+
+
+class NoCrate(Exception):
+    """crates.txt has no crate of this name."""
+
+
+def below(name: str) -> dict[str, list[str]]:
+    """The crates of crates.txt below one, lowest first, and then that one, each with those of them on which it stands."""
+    rows = re.findall(r"^(\w+)[^\n:#]*:([^\n#]*)", (TOP / "crates.txt").read_text(), re.M)
+    needs, found = {crate: words.split() for crate, words in rows}, dict[str, list[str]]()
+    if name not in needs:
+        raise NoCrate(f"crates.txt has no crate {name}")
+
+    def visit(crate: str) -> None:
+        ours = [it for it in needs[crate] if it in needs]
+        for it in ours:
+            if it not in found:
+                visit(it)
+        found[crate] = ours
+
+    visit(name)
+    return found
+
+
+@contextlib.contextmanager
+def held(crate: str) -> Iterator[None]:
+    """Keeps every rt out of a crate's folder, as rt itself does."""
+    at = os.open(CRATES / crate, os.O_RDONLY)
+    try:
+        fcntl.flock(at, fcntl.LOCK_EX)
+        yield
+    finally:
+        os.close(at)
+
+
+def bring(crate: str, room: pathlib.Path, out: str) -> None:
+    """Copies the sources of a crate, and links what was built of it."""
+    for part in PARTS:
+        if (CRATES / crate / part).is_dir():
+            shutil.copytree(CRATES / crate / part, room / "crates" / crate / part)
+    if (CRATES / crate / out).is_dir():
+        shutil.copytree(CRATES / crate / out, room / "crates" / crate / out, copy_function=os.link)
+
+
+@contextlib.contextmanager
+def room(crate: str, out: str = "out") -> Iterator[pathlib.Path]:
+    """A copy of the sources of a crate and of those below it, with what was built of these, and with this folder of its own. It
+    gives the crate's folder there."""
+    with tempfile.TemporaryDirectory(prefix=".build-", dir=TOP) as made:
+        top = pathlib.Path(made)
+        shutil.copy(TOP / "crates.txt", top)
+        for it in below(crate):
+            bring(it, top, out if it == crate else "out/rlib")
+        yield top / "crates" / crate
+
+
+def stop(process: subprocess.Popen[str]) -> None:
+    """Ends a command that `started` began, and all that it began."""
+    with contextlib.suppress(ProcessLookupError):
+        os.killpg(process.pid, signal.SIGTERM)
+
+
+@contextlib.contextmanager
+def started(*words: str, folder: pathlib.Path) -> Iterator[subprocess.Popen[str]]:
+    """A command in a session of its own. Both end with this block."""
+    files = {"stdin": subprocess.DEVNULL, "stdout": subprocess.PIPE, "stderr": subprocess.STDOUT}
+    with subprocess.Popen(words, cwd=folder, text=True, start_new_session=True, **files) as process:
+        try:
+            yield process
+        finally:
+            stop(process)
