@@ -67,9 +67,10 @@ def room(crate: str, out: str = "out") -> Iterator[pathlib.Path]:
     """A copy of the sources of a crate and of those below it, with what was built of these, and with this folder of its own. It
     gives the crate's folder there."""
     with tempfile.TemporaryDirectory(prefix=".build-", dir=TOP) as made:
-        top = pathlib.Path(made)
-        shutil.copy(TOP / "crates.txt", top)
-        for it in below(crate):
+        top, needs = pathlib.Path(made), below(crate)
+        rows = (TOP / "crates.txt").read_text().splitlines(keepends=True)
+        (top / "crates.txt").write_text("".join(it for it in rows if re.split(r"[\s:]", it)[0] in needs))
+        for it in needs:
             bring(it, top, out if it == crate else "out/rlib")
         yield top / "crates" / crate
 

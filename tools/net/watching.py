@@ -14,6 +14,8 @@ from attack.picture import Point, picture
 
 # So many samples are enough to see what grows.
 ENOUGH = 300
+# In its first samples a process may not be done with its start, where the machine is busy.
+STARTING = 5
 # Points of a picture from left to right, and what it shows: counts, and then measures.
 SLOTS = 40
 SHOWN = {"nodes up": "up", "polls agreed": "agreed", "bad blocks": "bad blocks"}
@@ -58,7 +60,7 @@ class Watch:
         self.path, self.file = path, open(path, "w", encoding="ascii", newline="")
         self.rows = csv.writer(self.file, lineterminator="\n")
         self.count, self.last, self.measures = 0, "", list[str]()
-        # of each kind the memory that its processes had in their first two samples
+        # of each kind the memory that its processes had in their first samples
         self.first: dict[str, dict[int, list[float]]] = {}
 
     def add(self, second: int, counts: Mapping[str, int], kinds: Mapping[str, Sequence[int]]) -> None:
@@ -79,10 +81,10 @@ class Watch:
         self.last = f"{second} s: " + ", ".join(f"{counts[name]} {name}" for name in COUNTS)
 
     def grown(self, kind: str, memory: Mapping[int, float]) -> list[float]:
-        """By how many kB each process grew since its second sample: in the first one it may not be done with its start."""
+        """By how many kB each process grew since its start was over."""
         before = self.first.get(kind, {})
-        self.first[kind] = {it: [*before.get(it, []), now][:2] for it, now in memory.items()}
-        return [1000 * (now - before[it][1]) for it, now in memory.items() if len(before.get(it, [])) == 2]
+        self.first[kind] = {it: [*before.get(it, []), now][:STARTING] for it, now in memory.items()}
+        return [1000 * (now - before[it][-1]) for it, now in memory.items() if len(before.get(it, [])) == STARTING]
 
     def progress(self, is_over: bool = False) -> None:
         """The line of progress, where standard error is a terminal."""

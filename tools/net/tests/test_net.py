@@ -273,10 +273,10 @@ class Telling(unittest.TestCase):
                 watch.add(second, dict.fromkeys(COUNTS, second), {"nodes": nodes, "daemons": [os.getpid()]})
             watch.draw(top / "picture.svg", "a run")
             self.assertEqual((top / "picture.svg").read_text().count("open files of daemons"), 1)
-            # no node was there in three samples, one after another
+            # no node was there in two samples, one after another
             self.assertEqual((len(watch.growth()), len(list(watch.parts())), watch.last[:6]), (5, 38, "301 s:"))
-            samples = ({1: 5.0}, {1: 2.0, 2: 7.0}, {1: 2.5, 2: 7.5}, {2: 7.25}, {1: 9.0})
-            self.assertEqual([watch.grown("these", it) for it in samples], [[], [], [500.0], [-250.0], []])
+            samples = [{1: 5.0}] * 4 + [{1: 2.0, 2: 7.0}, {1: 2.5, 2: 7.5}, {2: 7.25}, {1: 9.0}]
+            self.assertEqual([watch.grown("these", it) for it in samples], [[]] * 5 + [[500.0], [], []])
             self.assertEqual(extremes_of(list(watch.samples(10, 21)), "agreed"), (11, 16, 21))
             # in an even second no node ran, and the columns of daemons are where they were
             found = [extremes_of(list(watch.samples(11, 12)), f"open files of {it}") for it in ("nodes", "daemons")]

@@ -29,6 +29,7 @@ own=${PWD##*/}
 said="$own:"
 for it in ../*; do [ ! -d "$it/out/rlib" ] || [ "$it" = "../$own" ] || said="$said ${it#../}"; done
 for it in *; do said="$said $it"; done
+for it in $(grep -o '^[a-z]*' ../../crates.txt); do [ -d "../$it" ] || said="$said no $it"; done
 [ "$own" != "$BROKEN" ] || { echo "$said"; echo no proof; exit 1; }
 mkdir -p out/rlib
 echo "$said" >>out/said
