@@ -7,6 +7,7 @@ import pathlib
 import re
 import shutil
 import sys
+import threading
 from concurrent.futures import FIRST_COMPLETED, Future, ThreadPoolExecutor, wait
 from subprocess import Popen
 from typing import NamedTuple, TextIO
@@ -45,13 +46,15 @@ class Lanes:
         self.left, self.done = sorted(needs, key=lambda it: -self.long[it]), set[str]()
         self.running: dict[Future[str | None], Task] = {}
         self.processes: set[Popen[str]] = set()
-        self.out = out
+        self.over, self.out = threading.Event(), out
 
     def prove(self, task: Task) -> str | None:
         """Proves and builds a library. It gives what rt said where that didn't go well."""
         with held(task.crate), room(task.crate) as folder:
             with started("rt", "lib", "--jobs", str(task.jobs), folder=folder) as process:
                 self.processes.add(process)
+                if self.over.is_set():
+                    stop(process)
                 said = process.communicate()[0]
                 self.processes.remove(process)
             if process.returncode:
@@ -86,5 +89,6 @@ class Lanes:
                         self.done.add(crate)
                 return True
             finally:
+                self.over.set()
                 for process in self.processes.copy():
                     stop(process)
