@@ -14,7 +14,8 @@ from typing import NamedTuple, TextIO
 
 from building.rooms import CRATES, held, room, started, stop
 
-# More jobs don't prove a crate faster. The crate on which the longest chain stands waits for no processor, and gets so many.
+# So many jobs a crate has at most, as rt itself gives it. The one on which the longest chain stands waits for no processor, and has
+# so many at least.
 MOST_JOBS, FIRST_JOBS = 4, 3
 # The memory, in kB, that one more job may need.
 EACH_KB = 3_000_000
