@@ -20,7 +20,7 @@ use Rattle.lks_poller.specs.declared.stages.Answer.{Answer}
 use Rattle.lks_poller.specs.declared.stages.Answer.TheVariants.{NotAsked}
 use Rattle.lks_poller.specs.declared.stages.Next.{Next}
 use Rattle.lks_poller.specs.declared.stages.Next.TheVariants.{Close, Ask}
-use Rattle.lks_choice.specs.Asking.{Asked, awaited}
+use Rattle.lks_choice.specs.Asking.{Asked, awaited_request}
 use Rattle.lks_tally.specs.Counting.{verdict_on, verdict_at, voters_for, voters_against}
 use Rattle.lks_tally.specs.Keeping.{IsCacheOf, IsSame}
 use Rattle.lks_tally.specs.Running.{first_unasked, supplied_by}
@@ -112,7 +112,7 @@ counted_still id blocks old new is same cache on = record {
   cache = cache;
   some = on.some;
   waits =
-      subst (λ (q : Asked). q.waiting ≡ true → is_some (awaited q) ≡ true)
+      subst (λ (q : Asked). q.waiting ≡ true → is_some (awaited_request q) ≡ true)
       (sym (ap (λ (s : Polled). s.suppliers) is)) on.waits;
   running = ap (λ (s : Polled). s.closed) is ∙ on.running;
 }

@@ -7,7 +7,7 @@ use Rattle.std.proofs.lemmas.List.Quantifiers.{position-Some}
 use Rattle.lks_base.specs.Checking.{has_member}
 use Rattle.lks_audit.proofs.Changing as changing
 use Rattle.lks_audit.proofs.Sessions.{found_poll, no_poll}
-use Rattle.lks_audit.specs.Kept.{Kept, kept_in, kept_of, kept_at, recounted, kept_changed, without_kept, kept_voted}
+use Rattle.lks_audit.specs.Kept.{Kept, kept_in, kept_of, kept_at, with_count, kept_changed, without_kept, kept_voted}
 use Rattle.lks_audit.specs.Kept.{kept_tallied, kept_by_tally}
 use Rattle.lks_audit.specs.Seen.{poll_of, polls_of}
 use Rattle.lks_law.specs.Polls.{Station}
@@ -70,9 +70,9 @@ gone_changed n k (x ∷ ks) named = by_test (eqb x.number n) refl (gone_changed 
 module _ (n : ℕ) (ss : List Polled) (i : ℕ) (old new : Polled)
     (at : position (λ (s : Polled). s.tally.ballot.poll.number == n) ss ≡ Some i) (here : old ≡ get_or ss i old)
   where
-    put : (f : ℕ → ℕ) → kept_in new ≡ recounted f (kept_in old)
+    put : (f : ℕ → ℕ) → kept_in new ≡ with_count f (kept_in old)
         → kept_of (slice_set ss i new) ≡ kept_changed n f (kept_of ss)
-    put f made = changing.put_first kept_in (λ (k : Kept). k.number == n) (recounted f) ss i old new at here made
+    put f made = changing.put_first kept_in (λ (k : Kept). k.number == n) (with_count f) ss i old new at here made
 
     pub kept_counted : (own : Station) (copies : List Copy) → poll_of new ≡ poll_of old
         → new.tally.kept ≡ kept_tallied own copies (poll_of old) old.tally.kept

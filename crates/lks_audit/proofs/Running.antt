@@ -3,7 +3,7 @@ use Rattle.std.proofs.Common.{◌≡◌, ◌∙◌, ap, sym, subst, ℕ, suc, Bo
 use Rattle.std.proofs.Common.{take, drop, ◌<◌, ◌≤◌}
 use Rattle.std.proofs.Common.{inl, inr}
 use Rattle.lks_audit.proofs.Sessions.{last_pushed}
-use Rattle.lks_choice.specs.Asking.{Asked, awaited}
+use Rattle.lks_choice.specs.Asking.{Asked, awaited_request}
 use Rattle.std.specs.Prelude.{Option, Some, IfSome, is_some, ◌⊎◌, ◌==◌, [], ◌∷◌, find, slice_set, All}
 use Rattle.std.specs.List.{position, remove}
 use Rattle.std.proofs.lemmas.List.Elements.{All-head, All-tail, All-set, All-append, All-take, All-drop}
@@ -32,11 +32,12 @@ unfolding RunsOn
 on_equal old new is id copies all = subst (All (IsOn id copies)) (sym is) all
 
 still_waits : (s old : Polled)
-    → (s.suppliers.waiting ≡ true → is_some (awaited s.suppliers) ≡ true) ⊎ (s.suppliers ≡ old.suppliers)
-    → (old.suppliers.waiting ≡ true → is_some (awaited old.suppliers) ≡ true) → s.suppliers.waiting ≡ true
-    → is_some (awaited s.suppliers) ≡ true
+    → (s.suppliers.waiting ≡ true → is_some (awaited_request s.suppliers) ≡ true) ⊎ (s.suppliers ≡ old.suppliers)
+    → (old.suppliers.waiting ≡ true → is_some (awaited_request old.suppliers) ≡ true) → s.suppliers.waiting ≡ true
+    → is_some (awaited_request s.suppliers) ≡ true
 still_waits s old (inl waits) was = waits
-still_waits s old (inr same) was = subst (λ (q : Asked). q.waiting ≡ true → is_some (awaited q) ≡ true) (sym same) was
+still_waits s old (inr same) was = subst
+    (λ (q : Asked). q.waiting ≡ true → is_some (awaited_request q) ≡ true) (sym same) was
 
 module _ (ss : List Polled) (i : ℕ) (old new : Polled) (low : i < length ss) (here : old ≡ get_or ss i old) where
   put : ((id : ℕ) (copies : List Copy) → IsOn id copies old → IsOn id copies new) → RunsOn ss (slice_set ss i new)
@@ -46,7 +47,7 @@ module _ (ss : List Polled) (i : ℕ) (old new : Polled) (low : i < length ss) (
 
   -- where the tally stays, and the poll runs on
   same : (s : Polled) → new ≡ s → s.tally ≡ old.tally → s.closed ≡ old.closed
-      → (s.suppliers.waiting ≡ true → is_some (awaited s.suppliers) ≡ true) ⊎ (s.suppliers ≡ old.suppliers)
+      → (s.suppliers.waiting ≡ true → is_some (awaited_request s.suppliers) ≡ true) ⊎ (s.suppliers ≡ old.suppliers)
       → RunsOn ss (slice_set ss i new)
   same s is tally closed waits = put (λ id copies was. subst (IsOn id copies) (sym is) (record {
     poller = ap (λ (t : Tallied). t.ballot.poll.poller) tally ∙ was.poller;

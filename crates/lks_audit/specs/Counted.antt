@@ -11,7 +11,7 @@ use Rattle.lks_poller.specs.declared.stages.Answer.{Answer}
 use Rattle.lks_poller.specs.declared.stages.Answer.TheVariants.{Replace, Bad, NotAsked}
 use Rattle.lks_poller.specs.declared.stages.Next.{Next}
 use Rattle.lks_poller.specs.declared.stages.Next.TheVariants.{Close, Ask}
-use Rattle.lks_choice.specs.Asking.{awaited}
+use Rattle.lks_choice.specs.Asking.{awaited_request}
 use Rattle.lks_tally.specs.Keeping.{IsCacheOf}
 use Rattle.lks_tally.specs.declared.ballots.Verdict.{Verdict}
 use Rattle.lks_tally.specs.declared.ballots.Verdict.TheVariants as verdict
@@ -22,7 +22,7 @@ pub record IsCountedOn (id : ℕ) (blocks : List (List ℕ)) (s : Polled) : Type
   pub count : s.tally.ballot.count ≡ length blocks
   pub cache : IsCacheOf s.tally blocks
   pub some : 1 ≤ length blocks
-  pub waits : s.suppliers.waiting ≡ true → is_some (awaited s.suppliers) ≡ true
+  pub waits : s.suppliers.waiting ≡ true → is_some (awaited_request s.suppliers) ≡ true
   pub running : s.closed ≡ false
 
 -- the votes were counted

@@ -27,12 +27,12 @@ abbrev pub kept_at : ℕ → List Kept → Option ℕ
 kept_at n ks = option_map (λ (k : Kept). k.count) (find (λ (k : Kept). k.number == n) ks)
 
 -- with another count
-abbrev pub recounted : (ℕ → ℕ) → Kept → Kept
-recounted f k = record k { count = f k.count }
+abbrev pub with_count : (ℕ → ℕ) → Kept → Kept
+with_count f k = record k { count = f k.count }
 
 -- the count of poll n changes
 abbrev pub kept_changed : ℕ → (ℕ → ℕ) → List Kept → List Kept
-kept_changed n f ks = changed_first (λ (k : Kept). k.number == n) (recounted f) ks
+kept_changed n f ks = changed_first (λ (k : Kept). k.number == n) (with_count f) ks
 
 -- poll n is gone
 abbrev pub without_kept : ℕ → List Kept → List Kept
@@ -44,7 +44,7 @@ kept_voted n inner ks = if inner then kept_changed n (λ count. 0) ks else ks
 
 -- block b of an AU changed: nothing is kept from there on
 abbrev pub kept_before : ℕ → ℕ → Kept → Kept
-kept_before au b k = if k.au == au then recounted (min b) k else k
+kept_before au b k = if k.au == au then with_count (min b) k else k
 
 -- how many a poll keeps once its votes were counted over these blocks, where they may be
 abbrev pub kept_over : Station → List (List ℕ) → Poll → ℕ → ℕ

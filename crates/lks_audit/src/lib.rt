@@ -22,7 +22,7 @@ pub mod voting;
 
 pub use audits::check_aus;
 pub use copies::{Copies, Held, count_held, find_copy, refer, version_of};
-pub use openings::{Opening, begin};
+pub use openings::begin;
 pub use polls::{Polls, find_poll};
 pub use samples::sample_inner;
 pub use stations::Station;

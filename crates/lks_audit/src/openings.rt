@@ -8,29 +8,10 @@ ghost use Rattle.lks_audit.specs.Counted.{IsCountedOn};
 ghost use Rattle.lks_audit.specs.Seen.{poll_of};
 
 use crate::stations::Station;
-use lks_base::{AuId, HashKind, Ids, Limits, OutOfMemory, PollName, Rules, Seq};
+use lks_base::{OutOfMemory, PollName, Rules};
+use lks_law::Opening;
 use lks_poller::PollSession;
 use std::alloc::Global;
-use std::marker::Model;
-
-/// What a poll keeps from its opening.
-#[derive(Drop)]
-pub struct Opening<'a> {
-    pub au: AuId,
-    pub nonce: &'a [u8; 32],
-    pub inner: &'a Ids,
-    pub limits: Option<Limits>,
-    pub kind: HashKind,
-}
-
-impl<'a> Model for Opening<'a> {
-    ghost use Rattle.lks_law.specs.Journal.{Opening as Opened};
-
-    ghost Value = { Opened };
-
-    ghost view = { λ o.
-        record { au = o.au; nonce = o.nonce.now; inner = o.inner.now; limits = o.limits; kind = o.kind } };
-}
 
 // The rules with the numbers of this poll.
 fn rules_for(rules: &Rules, opening: &Opening<'_>) -> Rules

@@ -18,9 +18,9 @@ use crate::copies::Copies;
 use crate::lists::change_held;
 use crate::reactions::no_reaction;
 use crate::stations::Station;
-use crate::tallies::{repair_held, tally_held};
+use crate::tallies::{SentBlock, repair_held, tally_held};
 use crate::tallying::{job_held, tally_done};
-use lks_base::{AuId, Bytes, Hashes, Ids, OutOfMemory, PeerId, Reaction};
+use lks_base::{AuId, Hashes, Ids, OutOfMemory, PeerId, Reaction};
 use lks_blocks::BlockPool;
 use lks_choice::References;
 use lks_poller::PollSession;
@@ -191,29 +191,18 @@ impl Polls {
         pool: &BlockPool,
         copies: &Copies,
         number: u32,
-        from: PeerId,
-        block: u16,
-        bytes: &Bytes,
+        sent: &SentBlock<'_>,
     ) -> Result<Reaction, OutOfMemory>
         requires of { All (IsOf pool.now) copies.now }
         requires on { All (IsOn own.now.id (copies_of copies.now)) self.old }
         ensures reaction { IfOk result
             (λ r. r
             ≡ for_poll (poll_at number (polls_of self.old))
-            (repair_in own.now from block bytes.now (copies_of copies.now))) }
+            (repair_in own.now sent.now.from sent.now.block sent.now.bytes.now (copies_of copies.now))) }
         ensures same { self.new ≡ self.old }
     {
         match self.place(number) {
-            Some(i) => repair_held(
-                alloc,
-                own,
-                pool,
-                copies,
-                &mut self.list[i],
-                from,
-                block,
-                bytes,
-            ),
+            Some(i) => repair_held(alloc, own, pool, copies, &mut self.list[i], sent),
             None => Ok(no_reaction(alloc)),
         }
     }

@@ -4,7 +4,7 @@ ghost use Rattle.std.specs.Prelude.{◌≡◌, ◌≤◌, IfOk, IfSome, option_m
 ghost use Rattle.lks_base.specs.declared.limits.TheConstants.{LAST_BLOCK};
 ghost use Rattle.lks_law.specs.Reaction.{asked_again, given_up};
 ghost use Rattle.lks_law.specs.Reacting.{nudge_in, give_up_in};
-ghost use Rattle.lks_choice.specs.Asking.{awaited};
+ghost use Rattle.lks_choice.specs.Asking.{awaited_request};
 ghost use Rattle.lks_audit.specs.Seen.{poll_of, request_of};
 
 use crate::letters::{invite, write};
@@ -33,7 +33,7 @@ fn ask_again(
 /// Invites who didn't vote yet again, or asks for the block again that the poll waits for.
 #[tactic(auto, unfolding(lks_law::specs::Reacting::nudge_in))]
 pub fn nudge(alloc: Global, poll: &PollSession) -> Result<Reaction, OutOfMemory>
-    requires { IfSome (awaited poll.now.suppliers) (λ r. r.0 ≤ LAST_BLOCK) }
+    requires { IfSome (awaited_request poll.now.suppliers) (λ r. r.0 ≤ LAST_BLOCK) }
     ensures { IfOk result (λ r. r ≡ nudge_in (poll_of poll.now)) }
 {
     let number = poll.poll().number;

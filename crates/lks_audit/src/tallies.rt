@@ -112,23 +112,30 @@ pub fn tally<C: Contents>(
     decide(alloc, own, poll, tick, verdict)
 }
 
+/// A block that came, and from whom.
+#[derive(Drop)]
+pub struct SentBlock<'a> {
+    pub from: PeerId,
+    pub block: u16,
+    pub bytes: &'a Bytes,
+}
+
 /// Tries a block that came: it is put in where the votes are for the copy with it.
 pub fn repair<C: Contents>(
     alloc: Global,
     own: &Station,
     poll: &mut PollSession,
     copy: &C,
-    from: PeerId,
-    block: u16,
-    bytes: &Bytes,
+    sent: &SentBlock<'_>,
 ) -> Result<Reaction, OutOfMemory>
     requires on { IsCountedOn own.now.id (C.blocks copy.now) poll.old }
     ensures reaction { IfOk result
-        (λ r. r ≡ repair_over own.now from block bytes.now (C.blocks copy.now) (poll_of poll.old)) }
+        (λ r. r ≡ repair_over own.now sent.now.from sent.now.block sent.now.bytes.now (C.blocks copy.now)
+        (poll_of poll.old)) }
     ensures same { poll.new ≡ poll.old }
 {
-    let answer = poll.answer_of(from, block, bytes.as_slice(), copy);
-    let reaction = answer_with(alloc, poll, from, block, bytes, answer)?;
+    let answer = poll.answer_of(sent.from, sent.block, sent.bytes.as_slice(), copy);
+    let reaction = answer_with(alloc, poll, sent.from, sent.block, sent.bytes, answer)?;
     Ok(reaction)
 }
 
@@ -196,16 +203,15 @@ pub fn repair_held(
     pool: &BlockPool,
     copies: &Copies,
     poll: &mut PollSession,
-    from: PeerId,
-    block: u16,
-    bytes: &Bytes,
+    sent: &SentBlock<'_>,
 ) -> Result<Reaction, OutOfMemory>
     requires of { All (IsOf pool.now) copies.now }
     requires on { IsOn own.now.id (copies_of copies.now) poll.old }
     ensures reaction { IfOk result
-        (λ r. r ≡ repair_in own.now from block bytes.now (copies_of copies.now) (poll_of poll.old)) }
+        (λ r. r
+        ≡ repair_in own.now sent.now.from sent.now.block sent.now.bytes.now (copies_of copies.now) (poll_of poll.old)) }
     ensures same { poll.new ≡ poll.old }
 {
     let copy = copies.read(pool, poll.au());
-    repair(alloc, own, poll, &copy, from, block, bytes)
+    repair(alloc, own, poll, &copy, sent)
 }

@@ -7,20 +7,20 @@ use Rattle.std.proofs.lemmas.List.Folds.{list_any_at}
 use Rattle.lks_base.specs.Checking.{has_member}
 use Rattle.lks_draw.proofs.Picking.{IsPickOf-by_key, picked_moved}
 use Rattle.lks_draw.proofs.Places.{moved_on}
-use Rattle.lks_draw.specs.Picks.{picked, words_taken, IsPickOf}
-use Rattle.lks_draw.specs.Words.{Drawn, words_of, moved}
+use Rattle.lks_draw.specs.Picks.{picked_members, words_taken, IsPickOf}
+use Rattle.lks_draw.specs.Words.{Drawn, words_of, draw_after}
 use Rattle.lks_choice.proofs.Candidates.{candidates-once, candidates-pass, All-candidates}
 use Rattle.lks_choice.proofs.Members.{AllPairs-append, has_at}
-use Rattle.lks_choice.specs.Circles.{candidates, Filled, filled, circle_of, is_nominee, IsOuterCircle}
+use Rattle.lks_choice.specs.Circles.{candidates, Filled, filled_circle, circle_of, is_nominee, IsOuterCircle}
 
 -- what a pick from a nomination makes of the circle
 pub filled-peers : (d draws : Drawn) (own : ℕ) (inner : List ℕ) (size share : ℕ) (c : Filled)
     (nominees peers those : List ℕ) (most : ℕ) (members : List ℕ)
-    → peers ≡ c.peers → draws ≡ moved d c.words → those ≡ candidates own inner peers nominees
+    → peers ≡ c.peers → draws ≡ draw_after d c.words → those ≡ candidates own inner peers nominees
     → most ≡ min share (size - length peers)
-    → members ≡ picked (words_of draws.key) draws.place those most
-    → peers ++ members ≡ (filled d own inner size share c nominees).peers
-unfolding filled
+    → members ≡ picked_members (words_of draws.key) draws.place those most
+    → peers ++ members ≡ (filled_circle d own inner size share c nominees).peers
+unfolding filled_circle
 filled-peers d draws own inner size share c nominees peers those most members peers_is draws_is those_is most_is
     members_is =
     let those_now : those
@@ -28,9 +28,10 @@ filled-peers d draws own inner size share c nominees peers those most members pe
     let most_now : most
     ≡ min share (size - length c.peers) = most_is ∙ ap (λ ps. min share (size - length ps)) peers_is in
     let picked_now : members
-    ≡ picked (words_of (moved d c.words).key) (moved d c.words).place (candidates own inner c.peers nominees)
+    ≡ picked_members (words_of (draw_after d c.words).key) (draw_after d c.words).place
+    (candidates own inner c.peers nominees)
     (min share (size - length c.peers)) =
-    members_is ∙ (λ i. picked (words_of (draws_is i).key) (draws_is i).place (those_now i) (most_now i)) in
+    members_is ∙ (λ i. picked_members (words_of (draws_is i).key) (draws_is i).place (those_now i) (most_now i)) in
     λ i. peers_is i
     ++ (picked_now
     ∙ picked_moved d c.words (candidates own inner c.peers nominees) (min share (size - length c.peers))) i
@@ -38,28 +39,28 @@ filled-peers d draws own inner size share c nominees peers those most members pe
 -- and of the draw
 pub filled-words : (d draws : Drawn) (own : ℕ) (inner : List ℕ) (size share : ℕ) (c : Filled)
     (nominees peers those : List ℕ) (most : ℕ)
-    → peers ≡ c.peers → draws ≡ moved d c.words → those ≡ candidates own inner peers nominees
+    → peers ≡ c.peers → draws ≡ draw_after d c.words → those ≡ candidates own inner peers nominees
     → most ≡ min share (size - length peers)
-    → moved draws (words_taken those most) ≡ moved d (filled d own inner size share c nominees).words
-unfolding filled
+    → draw_after draws (words_taken those most) ≡ draw_after d (filled_circle d own inner size share c nominees).words
+unfolding filled_circle
 filled-words d draws own inner size share c nominees peers those most peers_is draws_is those_is most_is =
     let those_now : those
     ≡ candidates own inner c.peers nominees = those_is ∙ ap (λ ps. candidates own inner ps nominees) peers_is in
     let most_now : most
     ≡ min share (size - length c.peers) = most_is ∙ ap (λ ps. min share (size - length ps)) peers_is in
-    (λ i. moved (draws_is i) (words_taken (those_now i) (most_now i))) ∙ moved_on d c.words _
+    (λ i. draw_after (draws_is i) (words_taken (those_now i) (most_now i))) ∙ moved_on d c.words _
 
 -- a nomination that is picked from leaves an outer circle one
 filled_kept : (d : Drawn) (own : ℕ) (inner : List ℕ) (nominated : List (List ℕ)) (size share : ℕ) (c : Filled)
     (nominees : List ℕ)
     → All (λ p. is_nominee nominated p ≡ true) nominees
     → IsOuterCircle own inner nominated size c.peers
-    → IsOuterCircle own inner nominated size (filled d own inner size share c nominees).peers
-unfolding filled
+    → IsOuterCircle own inner nominated size (filled_circle d own inner size share c nominees).peers
+unfolding filled_circle
 filled_kept d own inner nominated size share c nominees named is =
     let those = candidates own inner c.peers nominees in
     let most = min share (size - length c.peers) in
-    let new = picked (words_of d.key) (d.place + c.words) those most in
+    let new = picked_members (words_of d.key) (d.place + c.words) those most in
     let pick : IsPickOf those most new = IsPickOf-by_key d.key (d.place + c.words) those most new refl in
     let each : (P : ℕ → Type 0) → All P those → All P new =
     λ P all. All-weaker (Contains those) P (λ p here. All-contains P those p all here) new pick.members in
@@ -84,11 +85,11 @@ fold_kept : (d : Drawn) (own : ℕ) (inner : List ℕ) (nominated : List (List �
     (nominations : List (List ℕ))
     → All (λ nominees. All (λ p. is_nominee nominated p ≡ true) nominees) nominations
     → IsOuterCircle own inner nominated size c.peers
-    → IsOuterCircle own inner nominated size (fold (filled d own inner size share) c nominations).peers
+    → IsOuterCircle own inner nominated size (fold (filled_circle d own inner size share) c nominations).peers
 fold_kept d own inner nominated size share c [] named is = is
 fold_kept d own inner nominated size share c (n ∷ ns) named is =
     let P : List ℕ → Type 0 = λ nominees. All (λ p. is_nominee nominated p ≡ true) nominees in
-    fold_kept d own inner nominated size share (filled d own inner size share c n) ns (All-tail P n ns named)
+    fold_kept d own inner nominated size share (filled_circle d own inner size share c n) ns (All-tail P n ns named)
     (filled_kept d own inner nominated size share c n (All-head P n ns named) is)
 
 -- each member of a nomination is a nominee

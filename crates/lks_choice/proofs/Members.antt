@@ -9,7 +9,7 @@ use Rattle.std.proofs.lemmas.List.Elements.{All-append, All-push, All-filter}
 use Rattle.std.proofs.lemmas.List.Kept.{AllPairs-cons, AllPairs-filter}
 use Rattle.std.proofs.lemmas.List.Quantifiers.{all_pairs_push}
 use Rattle.lks_base.specs.Checking.{has_member}
-use Rattle.lks_choice.specs.Lists.{without, joined, all_joined, list_after, IsReferenceList}
+use Rattle.lks_choice.specs.Lists.{without_peers, joined_by, all_joined, list_after, IsReferenceList}
 
 -- a list has the member at each place
 pub has_at : (list : List ℕ) (k d p : ℕ) → k < length list → get_or list k d ≡ p → has_member list p ≡ true
@@ -39,7 +39,7 @@ AllPairs-append (x ∷ xs) ys once_x once_y apart =
     (AllPairs-append xs ys (AllPairs-tail ◌≢◌ x xs once_x) once_y rest)
 
 -- a peer that joins a reference list leaves it one
-joined_kept : (own : ℕ) (list : List ℕ) (p : ℕ) → IsReferenceList own list → IsReferenceList own (joined own list p)
+joined_kept : (own : ℕ) (list : List ℕ) (p : ℕ) → IsReferenceList own list → IsReferenceList own (joined_by own list p)
 joined_kept own list p is = by_test (eqb p own) (has_member list p) refl refl where
   by_test : (a b : Bool) → eqb p own ≡ a → has_member list p ≡ b
       → IsReferenceList own (if a || b then list else list ++ p ∷ [])
@@ -53,7 +53,7 @@ joined_kept own list p is = by_test (eqb p own) (has_member list p) refl refl wh
 all_joined_kept : (own : ℕ) (list peers : List ℕ) → IsReferenceList own list
     → IsReferenceList own (all_joined own list peers)
 all_joined_kept own list [] is = is
-all_joined_kept own list (p ∷ ps) is = all_joined_kept own (joined own list p) ps (joined_kept own list p is)
+all_joined_kept own list (p ∷ ps) is = all_joined_kept own (joined_by own list p) ps (joined_kept own list p is)
 
 -- an agreed poll leaves a reference list one
 pub list_after_kept : (own : ℕ) (list against joining picked : List ℕ) → IsReferenceList own list
@@ -61,7 +61,7 @@ pub list_after_kept : (own : ℕ) (list against joining picked : List ℕ) → I
 unfolding list_after
 list_after_kept own list against joining picked is =
     let test : ℕ → Bool = λ p. not (has_member against p) in
-    let stayed : IsReferenceList own (without against list) = record {
+    let stayed : IsReferenceList own (without_peers against list) = record {
       once = AllPairs-filter ◌≢◌ test list is.once;
       others = All-filter test (λ q. q ≢ own) list is.others;
     } in

@@ -15,5 +15,5 @@ abbrev pub next_at : List (ℕ × ℕ) → ℕ → List ℕ → Option ℕ
 next_at asked b against = find (λ voter. not (was_asked asked b voter)) against
 
 -- the block and the voter that are waited for
-abbrev pub awaited : Asked → Option (ℕ × ℕ)
-awaited s = cond s.waiting (slice_get s.asked (length s.asked - 1)) None
+abbrev pub awaited_request : Asked → Option (ℕ × ℕ)
+awaited_request s = cond s.waiting (slice_get s.asked (length s.asked - 1)) None

@@ -4,8 +4,8 @@ use Rattle.std.specs.Prelude.{◌++◌, length, take, filter, fold, All, AllPair
 use Rattle.std.specs.Int.{div_ceil}
 use Rattle.std.specs.List.{list_any}
 use Rattle.lks_base.specs.Checking.{has_member}
-use Rattle.lks_draw.specs.Picks.{picked, words_taken}
-use Rattle.lks_draw.specs.Words.{Drawn, moved, words_of}
+use Rattle.lks_draw.specs.Picks.{picked_members, words_taken}
+use Rattle.lks_draw.specs.Words.{Drawn, draw_after, words_of}
 
 -- the members of a list in order, each at its first place
 abbrev pub each_once : List ℕ → List ℕ
@@ -31,19 +31,19 @@ pub record Filled : Type 0 where
   pub words : ℕ
 
 -- a nomination's candidates are picked from: at most its share, and at most what the circle still wants
-unfoldable pub filled : Drawn → ℕ → List ℕ → ℕ → ℕ → Filled → List ℕ → Filled
-filled d own inner size share circle nominees =
+unfoldable pub filled_circle : Drawn → ℕ → List ℕ → ℕ → ℕ → Filled → List ℕ → Filled
+filled_circle d own inner size share circle nominees =
     let those = candidates own inner circle.peers nominees in
     let most = min share (size - length circle.peers) in
     record {
-      peers = circle.peers ++ picked (words_of d.key) (d.place + circle.words) those most;
+      peers = circle.peers ++ picked_members (words_of d.key) (d.place + circle.words) those most;
       words = circle.words + words_taken those most;
     }
 
 -- the circle after these nominations, each with this share
 abbrev pub filled_by : Drawn → ℕ → List ℕ → ℕ → ℕ → List (List ℕ) → Filled
 filled_by d own inner size share nominations =
-    fold (filled d own inner size share) (record { peers = []; words = 0 }) nominations
+    fold (filled_circle d own inner size share) (record { peers = []; words = 0 }) nominations
 
 -- the nominations of a circle are gone through in order, by the words of one draw
 unfoldable pub circle_of : Drawn → ℕ → List ℕ → List (List ℕ) → ℕ → Filled
@@ -54,7 +54,7 @@ pub record HasComeTo (d : Drawn) (own : ℕ) (inner : List ℕ) (nominated : Lis
     (draws : Drawn) : Type 0 where
   pub count : ℕ
   pub after : draws
-      ≡ moved d (filled_by d own inner size (div_ceil size (length nominated)) (take count nominated)).words
+      ≡ draw_after d (filled_by d own inner size (div_ceil size (length nominated)) (take count nominated)).words
 
 -- some nomination names this peer
 abbrev pub is_nominee : List (List ℕ) → ℕ → Bool

@@ -1,7 +1,7 @@
 //! Whether a poller is let take part.
 
 ghost use Rattle.std.specs.Prelude.{◌≡◌, ◌≤◌, true, false, IfSome, if◌then◌else◌};
-ghost use Rattle.lks_draw.specs.Words.{moved};
+ghost use Rattle.lks_draw.specs.Words.{draw_after};
 ghost use Rattle.lks_choice.specs.Grading as grading;
 ghost use Rattle.lks_choice.specs.Grading.{is_admitted, is_drawn, is_low, is_refractory};
 
@@ -18,7 +18,7 @@ pub fn admits(g: Grade, rules: &Rules, last_low: Option<u32>, tick: u32, draws: 
     ensures admitted { result ≡ is_admitted g rules.now last_low tick draws.old }
     ensures in_good_standing { is_low g ≡ false → result ≡ true }
     ensures refractory { is_low g ≡ true → is_refractory rules.now.refractory last_low tick ≡ true → result ≡ false }
-    ensures draws { draws.new ≡ (if is_drawn g rules.now last_low tick then moved draws.old 1 else draws.old) }
+    ensures draws { draws.new ≡ (if is_drawn g rules.now last_low tick then draw_after draws.old 1 else draws.old) }
 {
     if !is_drawn(g, rules, last_low, tick) {
         return !is_low(g);

@@ -4,7 +4,7 @@ ghost use Rattle.std.specs.Prelude.{◌≡◌, ◌<◌, IfOk, OnOk, OnErr, not, 
 ghost use Rattle.std.specs.Int.{div_ceil};
 ghost use Rattle.lks_base.specs.Checking.{has_member};
 ghost use Rattle.lks_draw.specs.Picks.{picked_by, words_taken};
-ghost use Rattle.lks_draw.specs.Words.{moved};
+ghost use Rattle.lks_draw.specs.Words.{draw_after};
 ghost use Rattle.lks_choice.specs.Circles as circles;
 ghost use Rattle.lks_choice.specs.Circles.{circle_of, HasComeTo, IsLeastShare, IsOuterCircle};
 
@@ -26,7 +26,7 @@ pub fn outer_circle(
     ensures circle { IfOk result (λ ids. ids ≡ (circle_of draws.old own inner.now nominated.now size).peers) }
     ensures law { IfOk result (λ ids. IsOuterCircle own inner.now nominated.now size ids) }
     ensures draws { OnOk result
-        (draws.new ≡ moved draws.old (circle_of draws.old own inner.now nominated.now size).words) }
+        (draws.new ≡ draw_after draws.old (circle_of draws.old own inner.now nominated.now size).words) }
     ensures err { OnErr result (HasComeTo draws.old own inner.now nominated.now size draws.new) }
 {
     let mut peers = Vec::new(alloc);
@@ -104,7 +104,7 @@ fn pick(
     n: usize,
 ) -> Result<Vec<PeerId>, OutOfMemory>
     ensures picked { IfOk result (λ v. v.items ≡ picked_by draws.old list.now n) }
-    ensures moved { OnOk result (draws.new ≡ moved draws.old (words_taken list.now n)) }
+    ensures moved { OnOk result (draws.new ≡ draw_after draws.old (words_taken list.now n)) }
     ensures err { OnErr result (draws.new ≡ draws.old) }
 {
     match draws.pick(alloc, list, n) {

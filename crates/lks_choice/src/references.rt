@@ -2,7 +2,7 @@
 
 ghost use Rattle.std.specs.Prelude.{◌≡◌, ◌++◌, OnOk, OnErr, IfOk};
 ghost use Rattle.lks_choice.specs.Lists as lists;
-ghost use Rattle.lks_choice.specs.Lists.{without, joined, all_joined, list_after, IsReferenceList};
+ghost use Rattle.lks_choice.specs.Lists.{without_peers, joined_by, all_joined, list_after, IsReferenceList};
 
 use lks_base::{Ids, OutOfMemory, PeerId, has_member};
 use std::alloc::Global;
@@ -79,7 +79,7 @@ impl References {
 
 // The list without these peers.
 fn others(alloc: Global, list: &[PeerId], out: &[PeerId]) -> Result<Vec<PeerId>, OutOfMemory>
-    ensures { IfOk result (λ v. v.items ≡ without out.now list.now) }
+    ensures { IfOk result (λ v. v.items ≡ without_peers out.now list.now) }
 {
     let kept = list
         .iter()
@@ -90,7 +90,7 @@ fn others(alloc: Global, list: &[PeerId], out: &[PeerId]) -> Result<Vec<PeerId>,
 }
 
 fn join_one(list: &mut Vec<PeerId>, own: PeerId, peer: PeerId) -> Result<(), OutOfMemory>
-    ensures { OnOk result (list.new.items ≡ joined own list.old.items peer) }
+    ensures { OnOk result (list.new.items ≡ joined_by own list.old.items peer) }
 {
     if peer != own && !has_member(list, peer) {
         list.push(peer)?;

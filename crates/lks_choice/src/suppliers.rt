@@ -3,7 +3,7 @@
 ghost use Rattle.std.specs.Prelude.{◌≡◌, ◌↔◌, ◌<◌, [], ◌∷◌, ◌++◌, true, false, IsTrue, IsNone, OnOk, OnErr, length};
 ghost use Rattle.std.specs.List.{list_all};
 ghost use Rattle.lks_choice.specs.Asking as asking;
-ghost use Rattle.lks_choice.specs.Asking.{next_at, awaited};
+ghost use Rattle.lks_choice.specs.Asking.{next_at, awaited_request};
 
 use lks_base::{OutOfMemory, PeerId};
 use std::alloc::Global;
@@ -60,7 +60,7 @@ impl Suppliers {
 
     /// The block and the voter that are waited for, or `None` where nothing is.
     pub fn unanswered(&self) -> Option<(u16, PeerId)>
-        ensures last { result ≡ awaited self.now }
+        ensures last { result ≡ awaited_request self.now }
         ensures none { IsNone result ↔ (self.now.waiting ≡ false) }
     {
         if self.waiting {

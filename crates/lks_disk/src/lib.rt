@@ -15,6 +15,7 @@ mod laws;
 mod memory;
 mod ranges;
 
+pub use controls::Setting;
 pub use disks::{CrashDisk, Disk, DiskFail};
 pub use laws::a_fuse_burns_behind_its_calls;
 pub use memory::MemDisk;

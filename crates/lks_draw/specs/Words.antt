@@ -27,13 +27,13 @@ place_after place zero = place
 place_after place (suc words) = (place + suc words) % 2 ^ 68
 
 -- a draw after so many words more
-abbrev pub moved : Drawn → ℕ → Drawn
-moved d words = record d { place = place_after d.place words }
+abbrev pub draw_after : Drawn → ℕ → Drawn
+draw_after d words = record d { place = place_after d.place words }
 
 -- a word brought below n
-abbrev pub scaled : ℕ → ℕ → ℕ
-scaled word n = word * n / 2 ^ 32
+abbrev pub scaled_word : ℕ → ℕ → ℕ
+scaled_word word n = word * n / 2 ^ 32
 
 -- what a draw gives next, below n
 abbrev pub next_of : Drawn → ℕ → ℕ
-next_of d n = scaled (words_of d.key d.place) n
+next_of d n = scaled_word (words_of d.key d.place) n

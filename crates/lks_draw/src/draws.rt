@@ -2,8 +2,8 @@
 
 ghost use Rattle.std.specs.Prelude.{◌≡◌, ◌+◌, ◌^◌, ◌<◌, ◌≤◌, [], ◌∷◌, ◌++◌, length, vec_len, vec_capacity, IfOk, OnOk};
 ghost use Rattle.std.specs.Prelude.{OnErr};
-ghost use Rattle.lks_draw.specs.Picks.{picked_by, taken, words_taken, IsPickOf};
-ghost use Rattle.lks_draw.specs.Words.{drawn_from, next_of, words_of, moved};
+ghost use Rattle.lks_draw.specs.Picks.{picked_by, members_taken, words_taken, IsPickOf};
+ghost use Rattle.lks_draw.specs.Words.{drawn_from, next_of, words_of, draw_after};
 
 use crate::memory::OutOfMemory;
 use rand_chacha::ChaCha20Rng;
@@ -50,7 +50,7 @@ impl Draws {
         requires { 1 ≤ n }
         ensures word { result ≡ next_of self.old n }
         ensures below { result < n }
-        ensures moved { self.new ≡ moved self.old 1 }
+        ensures moved { self.new ≡ draw_after self.old 1 }
     {
         self.next_place(n as usize) as u32
     }
@@ -61,7 +61,7 @@ impl Draws {
         requires { 1 ≤ len }
         ensures word { result ≡ next_of self.old len }
         ensures below { result < len }
-        ensures moved { self.new ≡ moved self.old 1 }
+        ensures moved { self.new ≡ draw_after self.old 1 }
     {
         let word = self.words.next_word();
         ((u128::from(word) * len as u128) >> 32) as usize
@@ -69,11 +69,11 @@ impl Draws {
 
     /// At most `n` members of a list: a list of at most `n` is taken whole, in its order and without a word. Else `n`
     /// times the member at the place `next(length)` is taken out, and the rest keeps its order.
-    #[tactic(auto, unfolding(crate::specs::Picks::picked, crate::specs::Picks::words_taken))]
+    #[tactic(auto, unfolding(crate::specs::Picks::picked_members, crate::specs::Picks::words_taken))]
     pub fn pick(&mut self, alloc: Global, list: &[u16], n: usize) -> Result<Vec<u16>, OutOfMemory>
         ensures picked { IfOk result (λ v. v.items ≡ picked_by self.old list.now n) }
         ensures law { IfOk result (λ v. IsPickOf list.now n v.items) }
-        ensures moved { OnOk result (self.new ≡ moved self.old (words_taken list.now n)) }
+        ensures moved { OnOk result (self.new ≡ draw_after self.old (words_taken list.now n)) }
         ensures err { OnErr result (self.new ≡ self.old) }
     {
         let mut rest = list.to_vec(alloc)?;
@@ -90,8 +90,8 @@ impl Draws {
         requires enough { n ≤ vec_len rest.old }
         requires room { vec_len members.old + n ≤ vec_capacity members.old }
         ensures members { members.new.items
-            ≡ members.old.items ++ taken (words_of self.old.key) self.old.place rest.old.items n }
-        ensures moved { self.new ≡ moved self.old n }
+            ≡ members.old.items ++ members_taken (words_of self.old.key) self.old.place rest.old.items n }
+        ensures moved { self.new ≡ draw_after self.old n }
     {
         for _i in 0..n {
             let at = self.next_place(rest.len());

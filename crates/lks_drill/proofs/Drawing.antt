@@ -1,7 +1,7 @@
 -- Copies that are drawn one after another.
 use Rattle.std.proofs.Common.{◌≡◌, ◌+◌, ◌-◌, ◌*◌, ◌≤◌, ◌∙◌, ap, sym, refl, ℕ, zero, suc, [], ◌∷◌, map, length, arith}
 use Rattle.std.proofs.lemmas.List.FromFn.{length-map-range_with_len}
-use Rattle.lks_draw.specs.Words.{Drawn, moved}
+use Rattle.lks_draw.specs.Words.{Drawn, draw_after}
 use Rattle.lks_draw.proofs.Places.{moved_on}
 use Rattle.lks_drill.specs.Drill.{au_numbers, block_of, whole_copy, holding_of, after_copy, draw_before, draw_of}
 use Rattle.lks_drill.specs.Drill.{copies_of}
@@ -11,7 +11,7 @@ pub whole_has_128 : length whole_copy ≡ 128
 unfolding whole_copy
 whole_has_128 = length-map-range_with_len block_of 0 128
 
-pub moved_twice : (d : Drawn) → moved (moved d 1) 1 ≡ moved d 2
+pub moved_twice : (d : Drawn) → draw_after (draw_after d 1) 1 ≡ draw_after d 2
 moved_twice d = moved_on d 1 1
 
 pub none_before : (d : Drawn) → draw_before d 0 ≡ d

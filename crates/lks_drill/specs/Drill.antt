@@ -10,7 +10,7 @@ use Rattle.lks_base.specs.declared.plans.Holding.{Holding}
 use Rattle.lks_base.specs.declared.plans.PeerPlan.{PeerPlan}
 use Rattle.lks_base.specs.declared.plans.Plan.{Plan}
 use Rattle.lks_base.specs.declared.plans.Rules.{Rules}
-use Rattle.lks_draw.specs.Words.{Drawn, drawn_from, next_of, moved}
+use Rattle.lks_draw.specs.Words.{Drawn, drawn_from, next_of, draw_after}
 use Rattle.lks_script.specs.declared.steps.Script.{Script}
 use Rattle.lks_script.specs.declared.steps.Step.{Step}
 use Rattle.lks_script.specs.declared.steps.Step.TheVariants.{Peer, Finish}
@@ -39,11 +39,11 @@ is_damaged d = next_of d 8 == 0
 -- the blocks of a peer's copy: the second word says which block of a damaged one is the byte 200 + peer
 unfoldable pub blocks_of : ℕ → Drawn → List (List ℕ)
 blocks_of peer d =
-    if is_damaged d then slice_set whole_copy (next_of (moved d 1) 128) (block_of (200 + peer)) else whole_copy
+    if is_damaged d then slice_set whole_copy (next_of (draw_after d 1) 128) (block_of (200 + peer)) else whole_copy
 
 -- a damaged copy takes two words of the draw, and another takes one
 unfoldable pub after_copy : Drawn → Drawn
-after_copy d = if is_damaged d then moved d 2 else moved d 1
+after_copy d = if is_damaged d then draw_after d 2 else draw_after d 1
 
 -- the draw before the copy of this number, where copies are numbered from 0
 unfoldable pub draw_before : Drawn → ℕ → Drawn

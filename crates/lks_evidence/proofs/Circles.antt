@@ -11,7 +11,7 @@ use Rattle.lks_tally.proofs.Voters.{few_voters}
 use Rattle.lks_tally.specs.declared.ballots.Vote.{Vote}
 use Rattle.lks_tally.specs.Distinct.{AreDistinct}
 use Rattle.lks_tally.specs.Keeping.{has_voted}
-use Rattle.lks_evidence.specs.Rules.{told}
+use Rattle.lks_evidence.specs.Rules.{told_count}
 
 inner_member : (inner : List ℕ) (vs : List Vote) (p : ℕ)
     → has_voted (filter (λ v. has_member inner v.voter) vs) p ≡ true → has_member inner p ≡ true
@@ -40,7 +40,7 @@ few_votes inner n journal distinct =
 
 pub told_whole : (inner : List ℕ) (n m : ℕ) (journal : List Record) → length inner ≤ MOST_CIRCLE
     → AreDistinct (inner_votes n inner journal)
-    → m ≤ length (inner_votes n inner journal) → told m ≡ m
-unfolding told
+    → m ≤ length (inner_votes n inner journal) → told_count m ≡ m
+unfolding told_count
 told_whole inner n m journal circle distinct few =
     let votes = few_votes inner n journal distinct in omega (arith, circle, votes, few)

@@ -19,7 +19,7 @@ use Rattle.lks_law.specs.World.{deposit_for, deposits as deposits_of}
 use Rattle.lks_law.specs.Written.{is_deposit}
 use Rattle.lks_law.proofs.Growing.{IsLater, each_append, each_front, first_of, deposit_first, same_deposit}
 use Rattle.lks_evidence.specs.Records.{deposits}
-use Rattle.lks_evidence.specs.Rules.{count_in, deposited, is_deposited}
+use Rattle.lks_evidence.specs.Rules.{count_in, deposited_blocks, is_deposited}
 use Rattle.lks_evidence.proofs.Added.{IsBehind}
 
 abbrev is_of : ℕ → Record → Bool
@@ -289,7 +289,7 @@ module _ (aus : List AuPlan) (copies : List Holding) (good : each_fault au_fault
   pub deposited_once : (journal : List Record) → IsBehind (deposits_of aus copies) journal
       → (au : ℕ) (blocks : List (List ℕ)) → deposit_of au journal ≡ Some blocks
       → (deposits au journal ≡ 1) × (is_deposited aus au journal ≡ true)
-  unfolding is_deposited deposits deposited
+  unfolding is_deposited deposits deposited_blocks
   deposited_once journal behind au blocks e =
       let front = deposits_of aus copies in
       let same : deposit_of au journal

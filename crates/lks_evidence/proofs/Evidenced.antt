@@ -13,7 +13,7 @@ use Rattle.lks_law.specs.Polls.{ObeyQuorumRule}
 use Rattle.lks_law.specs.Safe.{HasEvidence}
 use Rattle.lks_evidence.specs.declared.findings.Shelf.{Shelf}
 use Rattle.lks_evidence.specs.Records.{deposits, openings}
-use Rattle.lks_evidence.specs.Rules.{count_in, deposited, is_deposited, is_held, is_polled}
+use Rattle.lks_evidence.specs.Rules.{count_in, deposited_blocks, is_deposited, is_held, is_polled}
 use Rattle.lks_evidence.specs.Holding.{SetHolds}
 
 replaced-length : (blocks : List (List ℕ)) (rs : List Replacement) → length (replaced_by blocks rs) ≡ length blocks
@@ -22,8 +22,9 @@ replaced-length blocks (r ∷ rs) =
     replaced-length (slice_set blocks r.block r.bytes) rs ∙ length-set blocks r.block r.bytes
 
 -- a copy has as many blocks as its deposit
-pub copy_length : (au : ℕ) (journal : List Record) → length (contents_of au journal) ≡ length (deposited au journal)
-unfolding contents_of deposited
+pub copy_length : (au : ℕ) (journal : List Record) → length (contents_of au journal)
+    ≡ length (deposited_blocks au journal)
+unfolding contents_of deposited_blocks
 copy_length au journal = replaced-length (unwrap_or (deposit_of au journal) []) (replacements au journal)
 
 numbered : (o : Option ℕ) (n : ℕ) → is_number o n ≡ true → unwrap_or o 0 ≡ n
@@ -36,8 +37,8 @@ pub held_count : (aus : List AuPlan) (journal before : List Record) (r : Repair)
 unfolding is_held is_deposited
 held_count aus journal before r held =
     let deposit = (and_parts
-    (deposits r.au before == 1 && is_number (count_in aus r.au) (length (deposited r.au before))) _ held).0 in
-    numbered (count_in aus r.au) (length (deposited r.au before))
+    (deposits r.au before == 1 && is_number (count_in aus r.au) (length (deposited_blocks r.au before))) _ held).0 in
+    numbered (count_in aus r.au) (length (deposited_blocks r.au before))
     (and_parts (deposits r.au before == 1) _ deposit).1
     ∙ sym (copy_length r.au before)
 
@@ -46,7 +47,8 @@ pub held_block : (aus : List AuPlan) (journal before : List Record) (r : Repair)
 unfolding is_held
 held_block aus journal before r held =
     let rest = (and_parts (is_deposited aus r.au before) _ held).1 in
-    let within = ltb-true r.block (length (deposited r.au before)) (and_parts (deposits r.au journal == 1) _ rest).1 in
+    let within =
+    ltb-true r.block (length (deposited_blocks r.au before)) (and_parts (deposits r.au journal == 1) _ rest).1 in
     omega (arith, within, copy_length r.au before)
 
 -- what is known of a poll that was opened so

@@ -45,7 +45,7 @@ use Rattle.lks_evidence.specs.declared.findings.Shelf.{Shelf}
 use Rattle.lks_evidence.specs.Histories.{AreShelvesOf}
 use Rattle.lks_evidence.specs.Holding.{Stands, SetHolds}
 use Rattle.lks_evidence.specs.Records as mine
-use Rattle.lks_evidence.specs.Rules.{has_shelf, is_new, deposited, is_deposited, is_held, is_over, is_for}
+use Rattle.lks_evidence.specs.Rules.{has_shelf, is_new, deposited_blocks, is_deposited, is_held, is_over, is_for}
 use Rattle.lks_evidence.specs.Rules.{is_committed, is_joined, bears_out, shelf_of, bears_out_if, is_founded}
 use Rattle.lks_evidence.proofs.Added.{IsBehind, behind}
 use Rattle.lks_evidence.proofs.Deposited.{deposited_once, behind_front}
@@ -265,7 +265,7 @@ module _ (plan : Plan) (history : List Event) (good : plan_fault plan ≡ None) 
   stand : (k : ℕ) (t : Standing) → slice_get (world plan history).peers k ≡ Some t
       → (i : ℕ) (p : Record) (r : Repair) → slice_get t.journal i ≡ Some p → (said_by p).replaced ≡ Some r
       → Stands plan set t.own.id t.journal (take i t.journal) r
-  unfolding is_held deposited is_founded
+  unfolding is_held deposited_blocks is_founded
   stand k t at i p r there says =
       let peers = (world plan history).peers in
       let holds = world_holds plan history good is in

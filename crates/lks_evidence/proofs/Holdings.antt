@@ -9,7 +9,7 @@ use Rattle.lks_base.specs.declared.records.Record.{Record}
 use Rattle.lks_law.specs.Journal.{deposit_in, deposit_of}
 use Rattle.lks_evidence.specs.Held.{IsHeldFrom}
 use Rattle.lks_evidence.specs.Records.{deposits}
-use Rattle.lks_evidence.specs.Rules.{deposited, is_deposited, is_held}
+use Rattle.lks_evidence.specs.Rules.{deposited_blocks, is_deposited, is_held}
 
 deposits-nil : (au : ℕ) → deposits au [] ≡ 0
 unfolding deposits
@@ -54,8 +54,9 @@ only au (r ∷ js) (suc i) (suc j) later one all = by_deposit (deposit_in au r) 
 
 pub held_from : (aus : List AuPlan) (journal : List Record) (au i count : ℕ)
     → is_deposited aus au (take i journal) ≡ true → deposits au journal ≡ 1
-    → count ≡ length (deposited au (take i journal)) → IsHeldFrom aus journal i (record { au = au; count = count })
-unfolding is_held is_deposited deposited
+    → count ≡ length (deposited_blocks au (take i journal))
+    → IsHeldFrom aus journal i (record { au = au; count = count })
+unfolding is_held is_deposited deposited_blocks
 held_from aus journal au i count now alone counted j r later same =
     let parts = and_parts (deposits au (take i journal) == 1) _ now in
     let found = only au journal i j later (eqb-true (deposits au (take i journal)) 1 parts.0) alone in

@@ -16,11 +16,11 @@ use Rattle.lks_law.specs.Journal.{told_of, shuts, is_shut, is_number}
 use Rattle.lks_law.specs.Polls.{votes, inner_votes}
 use Rattle.lks_tally.specs.declared.ballots.Vote.{Vote}
 use Rattle.lks_evidence.specs.declared.findings.Shelf.{Shelf}
-use Rattle.lks_evidence.specs.declared.marks.Mark.{Mark}
+use Rattle.lks_evidence.specs.declared.marks.ReadMark.{ReadMark}
 use Rattle.lks_base.specs.declared.records.Record.TheVariants.{Deposit, PollOpened, Nominated, OuterOpened, VoteIn}
 use Rattle.lks_base.specs.declared.records.Record.TheVariants.{Shut, Asked, RepairBad, Replaced, Closed, Overdue}
 use Rattle.lks_base.specs.declared.records.Record.TheVariants.{Joined, Committed, Voted, Served, Ended, Tuned}
-use Rattle.lks_evidence.specs.Marks.{polled_in, AtMost, IsUpTo, IsMark, recent, mark_after}
+use Rattle.lks_evidence.specs.Marks.{polled_in, AtMost, IsUpTo, IsMark, recent_records, mark_after}
 use Rattle.lks_evidence.specs.Records.{openings, repair_in}
 use Rattle.lks_evidence.specs.Rules.{is_polled}
 use Rattle.lks_evidence.specs.Recounts.{recount_by, recount_if, recount_of}
@@ -122,8 +122,8 @@ module _ (plan : Plan) (set : List Shelf) (poller : ℕ) (copy : List (List ℕ)
             inner_recent r.number high above ys o.inner xs upto,
           ) refl
 
-  pub recent_is : (before : List Record) (m : Mark) → IsMark before m
-      → recount_of plan set poller (recent m r.number before) copy r ≡ recount_of plan set poller before copy r
+  pub recent_is : (before : List Record) (m : ReadMark) → IsMark before m
+      → recount_of plan set poller (recent_records m r.number before) copy r ≡ recount_of plan set poller before copy r
   recent_is before m is = by_test (nat_lt m.high r.number) refl
     where
       by_test : (t : Bool) → nat_lt m.high r.number ≡ t
@@ -166,7 +166,7 @@ upto_more a b less r upto = (more a b _ less upto.0, more a b _ less upto.1, mor
 pub mark_start : IsMark [] (record { place = 0; high = 0; seen = 0 })
 mark_start = record { within = omega arith; marked = All-nil _; seen = All-nil _ }
 
-pub mark_on : (before : List Record) (m : Mark) (item : Record) → IsMark before m
+pub mark_on : (before : List Record) (m : ReadMark) (item : Record) → IsMark before m
     → IsMark (before ++ item ∷ []) (mark_after (length before) m item)
 unfolding mark_after
 mark_on before m item is = by_test (is_some (repair_in item))

@@ -20,7 +20,7 @@ use Rattle.lks_evidence.specs.Records.{openings}
 use Rattle.lks_evidence.specs.Rules.{◌▹◌, unless, count_in, is_polled, votes_doubt, opened_doubt, poll_doubt_if}
 use Rattle.lks_evidence.specs.Rules.{poll_doubt}
 use Rattle.lks_evidence.specs.Recounts.{Recounted, HasHashes, IsSame, IsRecount, IsRecountIf, is_of, is_of_last}
-use Rattle.lks_evidence.specs.Recounts.{recounted, recount_by, recount_if, recount_of, unsettles, mended}
+use Rattle.lks_evidence.specs.Recounts.{recount_from, recount_by, recount_if, recount_of, unsettles, with_mended_block}
 use Rattle.lks_evidence.specs.Recounts.{recount_after, last_after}
 use Rattle.lks_evidence.proofs.Evidenced.{polled_parts, polled_from}
 use Rattle.lks_evidence.proofs.Fronts.{take_replaced}
@@ -30,7 +30,7 @@ module _ (plan : Plan) (set : List Shelf) (poller : ℕ) (before : List Record) 
 
   made : (r : Repair) (o : Opening) → opening_of r.number before ≡ Some o
       → is_polled (limits_of plan.rules o) before r o ≡ true
-      → IsRecount plan set poller before (recounted plan set poller before (contents_of r.au before) r o)
+      → IsRecount plan set poller before (recount_from plan set poller before (contents_of r.au before) r o)
   made r o opened polled =
       let p = polled_parts (limits_of plan.rules o) before r o polled in
       record {
@@ -48,7 +48,7 @@ module _ (plan : Plan) (set : List Shelf) (poller : ℕ) (before : List Record) 
       }
 
   same_poll : (r : Repair) (o : Opening) → o.au ≡ r.au
-      → is_of r (recounted plan set poller before (contents_of r.au before) r o) ≡ true
+      → is_of r (recount_from plan set poller before (contents_of r.au before) r o) ≡ true
   same_poll r o same = rw (eq-eqb r.number r.number refl, eq-eqb o.au r.au same) refl
 
   -- what is recounted afresh is the poll as the journal has it
@@ -60,10 +60,10 @@ module _ (plan : Plan) (set : List Shelf) (poller : ℕ) (before : List Record) 
     where
       by_test : (o : Opening) (t : Bool) → opening_of r.number before ≡ Some o
           → is_polled (limits_of plan.rules o) before r o ≡ t
-          → cond t (Some (recounted plan set poller before (contents_of r.au before) r o)) None ≡ Some k
+          → cond t (Some (recount_from plan set poller before (contents_of r.au before) r o)) None ≡ Some k
           → IsRecount plan set poller before k × (is_of r k ≡ true)
       by_test o true opened polled e =
-          let same : recounted plan set poller before (contents_of r.au before) r o ≡ k = cc in
+          let same : recount_from plan set poller before (contents_of r.au before) r o ≡ k = cc in
           subst (λ k. IsRecount plan set poller before k × (is_of r k ≡ true)) same
           (made r o opened polled, same_poll r o (polled_parts (limits_of plan.rules o) before r o polled).of_au)
       by_test o false opened polled e = absurd cc
@@ -81,7 +81,7 @@ module _ (plan : Plan) (set : List Shelf) (poller : ℕ) (before : List Record) 
   recount_not r e = by_opening (opening_of r.number before) e
     where
       by_test : (o : Opening) (t : Bool) → is_polled (limits_of plan.rules o) before r o ≡ t
-          → cond t (Some (recounted plan set poller before (contents_of r.au before) r o)) None ≡ None
+          → cond t (Some (recount_from plan set poller before (contents_of r.au before) r o)) None ≡ None
           → opened_doubt plan set poller before r o ≡ Some why.Poll
       by_test o true polled e = absurd cc
       by_test o false polled e = rw polled refl
@@ -208,7 +208,7 @@ settled k r e =
     record { no_deposit = not_some _ first.0; no_opening = not_some _ rest.0; no_vote = not_some _ rest.1 }
 
 -- a replaced block leaves the hashes over the blocks before it
-kept_hashes : (k : Recounted) (o : Option Replacement) → HasHashes k → HasHashes (mended k o)
+kept_hashes : (k : Recounted) (o : Option Replacement) → HasHashes k → HasHashes (with_mended_block k o)
 kept_hashes k None kept = kept
 kept_hashes k (Some x) kept = by_test (nat_lt x.block k.front) refl
   where
@@ -224,7 +224,7 @@ kept_hashes k (Some x) kept = by_test (nat_lt x.block k.front) refl
 module _ (plan : Plan) (set : List Shelf) (poller : ℕ) (before : List Record) (r : Record) where
   still : (k : Recounted) (o : Option Replacement) → replacement_in k.ballot.au r ≡ o → Settled k r
       → IsRecount plan set poller before k
-      → IsRecount plan set poller (before ++ r ∷ []) (mended k o)
+      → IsRecount plan set poller (before ++ r ∷ []) (with_mended_block k o)
   still k None replaced quiet is = record {
     opening = is.opening;
     opened = opening_more k.number before r ∙ ap (λ o. first_opening o (opening_in k.number r)) is.opened;
@@ -268,6 +268,6 @@ module _ (plan : Plan) (set : List Shelf) (poller : ℕ) (before : List Record) 
     where
       by_test : (t : Bool) → unsettles k r ≡ t
           → IsRecountIf plan set poller (before ++ r ∷ [])
-          (cond t None (Some (mended k (replacement_in k.ballot.au r))))
+          (cond t None (Some (with_mended_block k (replacement_in k.ballot.au r))))
       by_test true e = tt
       by_test false e = still k (replacement_in k.ballot.au r) refl (settled k r e) is

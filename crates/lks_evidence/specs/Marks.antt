@@ -4,7 +4,7 @@ use Rattle.std.specs.Prelude.{List, length, take, drop, cond}
 use Rattle.std.specs.List.{All}
 use Rattle.lks_base.specs.declared.records.Record.{Record}
 use Rattle.lks_law.specs.Journal.{said_by, opened_in}
-use Rattle.lks_evidence.specs.declared.marks.Mark.{Mark}
+use Rattle.lks_evidence.specs.declared.marks.ReadMark.{ReadMark}
 use Rattle.lks_evidence.specs.Records.{repair_in}
 
 -- the first of two
@@ -27,17 +27,17 @@ IsUpTo high r =
     × AtMost high (said_by r).shut
 
 -- before the mark no poll is above `high`, and before the place none is above `seen`
-pub record IsMark (before : List Record) (m : Mark) : Type 0 where
+pub record IsMark (before : List Record) (m : ReadMark) : Type 0 where
   pub within : m.place ≤ length before
   pub marked : All (IsUpTo m.high) (take m.place before)
   pub seen : All (IsUpTo m.seen) before
 
 -- what has to be read for a poll
-abbrev pub recent : Mark → ℕ → List Record → List Record
-recent m n before = cond (nat_lt m.high n) (drop m.place before) before
+abbrev pub recent_records : ReadMark → ℕ → List Record → List Record
+recent_records m n before = cond (nat_lt m.high n) (drop m.place before) before
 
 -- the mark goes on to each replaced block
-unfoldable pub mark_after : ℕ → Mark → Record → Mark
+unfoldable pub mark_after : ℕ → ReadMark → Record → ReadMark
 mark_after place m r =
     let seen = max m.seen (unwrap_or (polled_in r) 0) in
     if is_some (repair_in r) then record { place = place; high = m.seen; seen = seen }

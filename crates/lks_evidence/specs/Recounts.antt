@@ -73,8 +73,8 @@ is_of_last r (Some k) = is_of r k
 
 -- of a copy with these blocks
 
-abbrev pub recounted : Plan → List Shelf → ℕ → List Record → List (List ℕ) → Repair → Opening → Recounted
-recounted plan set poller before copy r o =
+abbrev pub recount_from : Plan → List Shelf → ℕ → List Record → List (List ℕ) → Repair → Opening → Recounted
+recount_from plan set poller before copy r o =
     let q = ballot_for poller r.number o (unwrap_or (count_in plan.aus r.au) 0) in
     let votes = inner_votes r.number o.inner before in
     record {
@@ -90,7 +90,7 @@ recounted plan set poller before copy r o =
 
 unfoldable pub recount_by : Plan → List Shelf → ℕ → List Record → List (List ℕ) → Repair → Opening → Option Recounted
 recount_by plan set poller before copy r o =
-    if is_polled (limits_of plan.rules o) before r o then Some (recounted plan set poller before copy r o) else None
+    if is_polled (limits_of plan.rules o) before r o then Some (recount_from plan set poller before copy r o) else None
 
 abbrev pub recount_if : Plan → List Shelf → ℕ → List Record → List (List ℕ) → Repair → Option Opening → Option Recounted
 recount_if plan set poller before copy r None = None
@@ -123,9 +123,9 @@ unfoldable pub unsettles : Recounted → Record → Bool
 unsettles k r = is_some (deposit_in k.ballot.au r) || (is_some (opening_in k.number r) || is_some (vote_in k.number r))
 
 -- a replaced block in the copy; the hashes are forgotten where it stands in their front
-abbrev pub mended : Recounted → Option Replacement → Recounted
-mended k None = k
-mended k (Some x) =
+abbrev pub with_mended_block : Recounted → Option Replacement → Recounted
+with_mended_block k None = k
+with_mended_block k (Some x) =
     record k {
       copy = slice_set k.copy x.block x.bytes;
       front = if nat_lt x.block k.front then 0 else k.front;
@@ -133,7 +133,7 @@ mended k (Some x) =
     }
 
 unfoldable pub recount_after : Recounted → Record → Option Recounted
-recount_after k r = if unsettles k r then None else Some (mended k (replacement_in k.ballot.au r))
+recount_after k r = if unsettles k r then None else Some (with_mended_block k (replacement_in k.ballot.au r))
 
 abbrev pub last_after : Option Recounted → Record → Option Recounted
 last_after None r = None

@@ -49,23 +49,25 @@ count_in [] au = None
 count_in (a ∷ aus) au = if a.id == au then Some a.count else count_in aus au
 
 -- the blocks that the AU was deposited with
-unfoldable pub deposited : ℕ → List Record → List (List ℕ)
-deposited au journal = unwrap_or (deposit_of au journal) []
+unfoldable pub deposited_blocks : ℕ → List Record → List (List ℕ)
+deposited_blocks au journal = unwrap_or (deposit_of au journal) []
 
 -- whether the AU is deposited once, with as many blocks as the plan gives it
 unfoldable pub is_deposited : List AuPlan → ℕ → List Record → Bool
-is_deposited aus au journal = deposits au journal == 1 && is_number (count_in aus au) (length (deposited au journal))
+is_deposited aus au journal = deposits au journal == 1
+    && is_number (count_in aus au) (length (deposited_blocks au journal))
 
 -- whether the AU is deposited before the place and nowhere else in the journal, and has the block
 unfoldable pub is_held : List AuPlan → List Record → List Record → Repair → Bool
 is_held aus journal before r =
-    is_deposited aus r.au before && (deposits r.au journal == 1 && nat_lt r.block (length (deposited r.au before)))
+    is_deposited aus r.au before
+    && (deposits r.au journal == 1 && nat_lt r.block (length (deposited_blocks r.au before)))
 
 -- The second round: the poll that replaced the block.
 
 -- A number of votes as a doubt tells it. No circle in its limits has so many members that this cuts any off.
-unfoldable pub told : ℕ → ℕ
-told votes = min votes 65535
+unfoldable pub told_count : ℕ → ℕ
+told_count votes = min votes 65535
 
 -- whether the poll was opened once, on the AU and with such numbers, and shut
 unfoldable pub is_polled : Limits → List Record → Repair → Opening → Bool
@@ -94,13 +96,13 @@ shape_doubt count votes =
 -- a quorum votes, and a minority at most for what was there
 unfoldable pub loss_doubt : Limits → Ballot → List Vote → List (List ℕ) → ℕ → Option Why
 loss_doubt limits q votes copy b =
-    unless (nat_le limits.quorum (length votes)) (why.Quorum (told (length votes)))
-    ▹ unless (nat_le (for_at q votes copy b) limits.minority) (why.For (told (for_at q votes copy b)))
+    unless (nat_le limits.quorum (length votes)) (why.Quorum (told_count (length votes)))
+    ▹ unless (nat_le (for_at q votes copy b) limits.minority) (why.For (told_count (for_at q votes copy b)))
 
 -- a minority at most votes against what came
 unfoldable pub win_doubt : Limits → Ballot → List Vote → List (List ℕ) → ℕ → Option Why
 win_doubt limits q votes copy b =
-    unless (nat_le (against_at q votes copy b) limits.minority) (why.Against (told (against_at q votes copy b)))
+    unless (nat_le (against_at q votes copy b) limits.minority) (why.Against (told_count (against_at q votes copy b)))
 
 -- Voters whose journals are in the set.
 

@@ -10,9 +10,10 @@ ghost use Rattle.lks_evidence.specs.Search as search_of;
 ghost use Rattle.lks_evidence.specs.Rules as rules;
 ghost use Rattle.lks_evidence.specs.Sizes.{IsShort, IsSmall, most_records};
 
+use crate::cases::Case;
 use crate::findings::{Doubt, Finding, Shelf, Why};
-use crate::judging::{Judged, doubt_poll};
-use crate::marks::{self, Mark};
+use crate::judging::{Judgement, doubt_poll};
+use crate::marks::{self, ReadMark};
 use crate::records::{Repair, as_repair, count_deposits, count_repairs};
 use crate::recounts::{Recount, after};
 use crate::voters::{count_deposited, is_deposited};
@@ -145,22 +146,21 @@ fn first_of_shelf(
 #[tactic(auto, unfolding(crate::specs::Search::repair_doubt))]
 fn doubt_repair(
     alloc: Global,
-    plan: &Plan,
-    set: &[Shelf],
-    poller: PeerId,
+    case: &Case<'_>,
     before: &[Record],
-    mark: Mark,
+    mark: ReadMark,
     item: &Record,
     last: Option<Recount>,
-) -> Result<Judged, OutOfMemory>
-    requires last { IsRecountIf plan.now set.now poller before.now last }
+) -> Result<Judgement, OutOfMemory>
+    requires last { IsRecountIf case.now.plan.now case.now.set.now case.now.poller before.now last }
     requires mark { IsMark before.now mark }
-    ensures why { IfOk result (λ j. j.why ≡ search_of.repair_doubt plan.now set.now poller before.now item.now) }
-    ensures last { IfOk result (λ j. IsRecountIf plan.now set.now poller before.now j.last) }
+    ensures why { IfOk result
+        (λ j. j.why ≡ search_of.repair_doubt case.now.plan.now case.now.set.now case.now.poller before.now item.now) }
+    ensures last { IfOk result (λ j. IsRecountIf case.now.plan.now case.now.set.now case.now.poller before.now j.last) }
 {
     match as_repair(item) {
-        Some(r) => doubt_poll(alloc, plan, set, poller, before, mark, &r, last),
-        None => Ok(Judged { why: None, last }),
+        Some(r) => doubt_poll(alloc, case, before, mark, &r, last),
+        None => Ok(Judgement { why: None, last }),
     }
 }
 
@@ -177,16 +177,21 @@ fn second_of_shelf(
     ensures { IfOk result (λ doubt. doubt ≡ search_of.second_of_shelf plan.now set.now earlier.now shelf.now) }
 {
     let peer = shelf.peer;
+    let case = Case {
+        plan,
+        set,
+        poller: peer,
+    };
     let journal = shelf.list.as_slice();
     let mut last = None;
-    let mut mark = Mark {
+    let mut mark = ReadMark {
         place: 0,
         high: 0,
         seen: 0,
     };
     for (i, item) in journal.iter().enumerate() {
         let before = &journal[..i];
-        let judged = doubt_repair(alloc, plan, set, peer, before, mark, item, last)?;
+        let judged = doubt_repair(alloc, &case, before, mark, item, last)?;
         let doubt = doubt_at(peer, before, judged.why);
         if doubt.is_some() {
             return Ok(doubt);

@@ -7,16 +7,17 @@ ghost use Rattle.lks_evidence.specs.Recounts.{HasCopy, IsRecountIf, is_of_last};
 ghost use Rattle.lks_evidence.specs.Recounts as recounts;
 ghost use Rattle.lks_evidence.specs.Rules as rules;
 
-use crate::findings::{Shelf, Why};
-use crate::marks::{Mark, recent};
+use crate::cases::Case;
+use crate::findings::Why;
+use crate::marks::{ReadMark, recent};
 use crate::records::Repair;
 use crate::recounts::{Recount, find_copy, recount_of};
-use lks_base::{OutOfMemory, PeerId, Plan, Record};
+use lks_base::{OutOfMemory, Record};
 use std::alloc::Global;
 
 /// What is found of a repair, and the recount of its poll, if that was held.
 #[derive(Drop)]
-pub struct Judged {
+pub struct Judgement {
     pub why: Option<Why>,
     pub last: Option<Recount>,
 }
@@ -34,11 +35,9 @@ fn covers(last: &Option<Recount>, r: &Repair<'_>) -> bool
 /// The recount of the repair's poll: the last one, where that is of it.
 fn find_recount(
     alloc: Global,
-    plan: &Plan,
-    set: &[Shelf],
-    poller: PeerId,
+    case: &Case<'_>,
     before: &[Record],
-    mark: Mark,
+    mark: ReadMark,
     r: &Repair<'_>,
     last: Option<Recount>,
 ) -> Result<Option<Recount>, OutOfMemory>
@@ -47,43 +46,43 @@ fn find_recount(
     ensures { IfOk result
         (λ k. k
         ≡ cond (is_of_last r.now last) last
-        (recounts.recount_of plan.now set.now poller before.now (contents_of r.now.au before.now) r.now)) }
+        (recounts.recount_of case.now.plan.now case.now.set.now case.now.poller before.now
+        (contents_of r.now.au before.now) r.now)) }
 {
     if covers(&last, r) {
         Ok(last)
     } else {
         let copy = find_copy(alloc, before, r, last)?;
         let recent = recent(mark, r, before);
-        recount_of(alloc, plan, set, poller, recent, copy, r)
+        recount_of(alloc, case, recent, copy, r)
     }
 }
 
 /// What its poll leaves in doubt of a repair in the poller's journal, which has these records before it.
 pub fn doubt_poll(
     alloc: Global,
-    plan: &Plan,
-    set: &[Shelf],
-    poller: PeerId,
+    case: &Case<'_>,
     before: &[Record],
-    mark: Mark,
+    mark: ReadMark,
     r: &Repair<'_>,
     last: Option<Recount>,
-) -> Result<Judged, OutOfMemory>
-    requires last { IsRecountIf plan.now set.now poller before.now last }
+) -> Result<Judgement, OutOfMemory>
+    requires last { IsRecountIf case.now.plan.now case.now.set.now case.now.poller before.now last }
     requires mark { IsMark before.now mark }
-    ensures why { IfOk result (λ j. j.why ≡ rules.poll_doubt plan.now set.now poller before.now r.now) }
-    ensures last { IfOk result (λ j. IsRecountIf plan.now set.now poller before.now j.last) }
+    ensures why { IfOk result
+        (λ j. j.why ≡ rules.poll_doubt case.now.plan.now case.now.set.now case.now.poller before.now r.now) }
+    ensures last { IfOk result (λ j. IsRecountIf case.now.plan.now case.now.set.now case.now.poller before.now j.last) }
 {
-    match find_recount(alloc, plan, set, poller, before, mark, r, last)? {
+    match find_recount(alloc, case, before, mark, r, last)? {
         Some(recount) => {
             let mut recount = recount;
             let why = recount.doubt_votes(alloc, r)?;
-            Ok(Judged {
+            Ok(Judgement {
                 why,
                 last: Some(recount),
             })
         }
-        None => Ok(Judged {
+        None => Ok(Judgement {
             why: Some(Why::Poll),
             last: None,
         }),

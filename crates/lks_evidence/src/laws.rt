@@ -17,7 +17,7 @@ ghost use Rattle.lks_evidence.specs.declared.findings.Shelf.{Shelf};
 ghost use Rattle.lks_evidence.specs.Histories.{AreShelvesOf};
 ghost use Rattle.lks_evidence.specs.Holding.{SetHolds};
 ghost use Rattle.lks_evidence.specs.Parts.{IsPart};
-ghost use Rattle.lks_evidence.specs.Rules.{journals_on, told};
+ghost use Rattle.lks_evidence.specs.Rules.{journals_on, told_count};
 
 /// Where a set holds, each replaced block of each journal in it has its evidence: at least a quorum of votes by
 /// distinct inner peers of one poll that was over, at most a minority of them for the old block and at most a minority
@@ -50,5 +50,5 @@ pub fn every_part_holds()
 /// A doubt tells its number of votes whole: nobody votes twice there, and a circle has 16 members at most.
 pub fn every_count_is_told()
     ensures { (inner : List ℕ) (n m : ℕ) (journal : List Record) → length inner ≤ MOST_CIRCLE
-        → AreDistinct (inner_votes n inner journal) → m ≤ length (inner_votes n inner journal) → told m ≡ m }
+        → AreDistinct (inner_votes n inner journal) → m ≤ length (inner_votes n inner journal) → told_count m ≡ m }
 {}

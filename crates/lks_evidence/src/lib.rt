@@ -47,6 +47,7 @@
 //! Its trials: `lks_run_trials`, `evidence`.
 #![tactic(auto)]
 
+mod cases;
 mod copies;
 mod examining;
 mod findings;

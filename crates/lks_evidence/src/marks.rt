@@ -10,7 +10,7 @@ use lks_base::Record;
 /// Before this place of a journal no poll of the peer's own has a number above `high`, and none so far has one above
 /// `seen`.
 #[derive(Clone, Copy)]
-pub struct Mark {
+pub struct ReadMark {
     pub place: usize,
     pub high: u32,
     pub seen: u32,
@@ -43,9 +43,9 @@ fn polled_in(r: &Record) -> Option<u32>
 }
 
 /// What has to be read for a poll.
-pub fn recent<'a>(mark: Mark, r: &Repair<'_>, before: &'a [Record]) -> &'a [Record]
+pub fn recent<'a>(mark: ReadMark, r: &Repair<'_>, before: &'a [Record]) -> &'a [Record]
     requires { mark.place ≤ length before.now }
-    ensures { result.now ≡ marks.recent mark r.now.number before.now }
+    ensures { result.now ≡ marks.recent_records mark r.now.number before.now }
 {
     if mark.high < r.number {
         &before[mark.place..]
@@ -56,18 +56,18 @@ pub fn recent<'a>(mark: Mark, r: &Repair<'_>, before: &'a [Record]) -> &'a [Reco
 
 /// The mark after one record more, which stands at this place.
 #[tactic(auto, unfolding(crate::specs::Marks::mark_after))]
-pub fn after(place: usize, mark: Mark, item: &Record) -> Mark
+pub fn after(place: usize, mark: ReadMark, item: &Record) -> ReadMark
     ensures { result ≡ mark_after place mark item.now }
 {
     let seen = mark.seen.max(polled_in(item).unwrap_or(0));
     if as_repair(item).is_some() {
-        Mark {
+        ReadMark {
             place,
             high: mark.seen,
             seen,
         }
     } else {
-        Mark {
+        ReadMark {
             place: mark.place,
             high: mark.high,
             seen,

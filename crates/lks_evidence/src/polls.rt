@@ -3,18 +3,19 @@
 ghost use Rattle.std.specs.Prelude.{◌≡◌, ◌≤◌, ◌-◌, nat_le, length, option_map, unwrap_or};
 ghost use Rattle.lks_law.specs.Polls.{limits_of, ballot_for};
 ghost use Rattle.lks_evidence.specs.declared.findings.Why.TheVariants as why;
-ghost use Rattle.lks_evidence.specs.Rules.{◌▹◌, unless, told, first_twice, first_failing};
+ghost use Rattle.lks_evidence.specs.Rules.{◌▹◌, unless, told_count, first_twice, first_failing};
 ghost use Rattle.lks_evidence.specs.Rules as rules;
 
 use crate::findings::Why;
-use crate::records::{Opening, Repair, count_openings, is_shut};
+use crate::records::{Repair, count_openings, is_shut};
 use lks_base::{Limits, PeerId, PollName, Record, Rules, obeys_quorum_rule};
+use lks_law::Opening;
 use lks_tally::{Ballot, Vote, has_voted};
 
 /// A number of votes as a doubt tells it.
-#[tactic(auto, unfolding(crate::specs::Rules::told))]
+#[tactic(auto, unfolding(crate::specs::Rules::told_count))]
 fn told(votes: usize) -> u16
-    ensures { result ≡ told votes }
+    ensures { result ≡ told_count votes }
 {
     votes.min(u16::MAX as usize) as u16
 }
@@ -57,8 +58,8 @@ pub fn doubt_shape(count: u16, votes: &[Vote]) -> Option<Why>
 /// Whether a quorum votes, and a minority at most for what was there.
 pub fn doubt_loss(limits: Limits, votes: usize, votes_for: usize) -> Option<Why>
     ensures { result
-        ≡ unless (nat_le limits.quorum votes) (why.Quorum (told votes))
-        ▹ unless (nat_le votes_for limits.minority) (why.For (told votes_for)) }
+        ≡ unless (nat_le limits.quorum votes) (why.Quorum (told_count votes))
+        ▹ unless (nat_le votes_for limits.minority) (why.For (told_count votes_for)) }
 {
     if votes < limits.quorum as usize {
         return Some(Why::Quorum { votes: told(votes) });
@@ -74,7 +75,8 @@ pub fn doubt_loss(limits: Limits, votes: usize, votes_for: usize) -> Option<Why>
 /// Whether a minority at most votes against what came.
 pub fn doubt_win(limits: Limits, votes: usize, votes_for: usize) -> Option<Why>
     requires { votes_for ≤ votes }
-    ensures { result ≡ unless (nat_le (votes - votes_for) limits.minority) (why.Against (told (votes - votes_for))) }
+    ensures { result
+        ≡ unless (nat_le (votes - votes_for) limits.minority) (why.Against (told_count (votes - votes_for))) }
 {
     let votes_against = votes - votes_for;
     if votes_against > limits.minority as usize {

@@ -7,7 +7,8 @@ ghost use Rattle.lks_law.specs.Sessions.{is_poll, commitment_in, commitment_of};
 ghost use Rattle.lks_evidence.specs.Records.{repair_in, join_in, deposits, openings, version_now, joins, join_of};
 ghost use Rattle.lks_evidence.specs.Records.{commitments, repairs};
 
-use lks_base::{AuId, Bytes, HashKind, Limits, OutOfMemory, PollName, Record, has_member};
+use lks_base::{AuId, Bytes, HashKind, OutOfMemory, PollName, Record, has_member};
+use lks_law::Opening;
 use lks_tally::Vote;
 use std::alloc::Global;
 use std::marker::Model;
@@ -27,25 +28,6 @@ impl<'a> Model for Repair<'a> {
     ghost Value = { Kept };
 
     ghost view = { λ a. record { number = a.number; au = a.au; block = a.block; bytes = a.bytes.now } };
-}
-
-/// What a poll keeps from its opening.
-#[derive(Drop)]
-pub struct Opening<'a> {
-    pub au: AuId,
-    pub nonce: &'a [u8; 32],
-    pub inner: &'a [u16],
-    pub limits: Option<Limits>,
-    pub kind: HashKind,
-}
-
-impl<'a> Model for Opening<'a> {
-    ghost use Rattle.lks_law.specs.Journal.{Opening as Kept};
-
-    ghost Value = { Kept };
-
-    ghost view = { λ a.
-        record { au = a.au; nonce = a.nonce.now; inner = a.inner.now; limits = a.limits; kind = a.kind } };
 }
 
 /// To which version of its copy a voter committed, for which nonce and kind of hash.
@@ -191,7 +173,7 @@ fn as_opening(r: &Record, n: u32) -> Option<Opening<'_>>
         } if *number == n => Some(Opening {
             au: *au,
             nonce,
-            inner: inner.as_slice(),
+            inner,
             limits: *limits,
             kind: *kind,
         }),

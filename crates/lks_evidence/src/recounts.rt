@@ -5,20 +5,20 @@ ghost use Rattle.lks_base.specs.declared.plans.Plan.{Plan as Planned};
 ghost use Rattle.lks_evidence.specs.declared.findings.Shelf.{Shelf as OnShelf};
 ghost use Rattle.lks_law.specs.Journal.{contents_of};
 ghost use Rattle.lks_evidence.specs.Recounts.{HasCopy, HasDoubt, HasHashes, IsSame, is_of, recount_by, recount_after};
-ghost use Rattle.lks_evidence.specs.Recounts.{last_after, unsettles, mended};
+ghost use Rattle.lks_evidence.specs.Recounts.{last_after, unsettles, with_mended_block};
 ghost use Rattle.lks_evidence.specs.Recounts as recounts;
 ghost use Rattle.lks_evidence.specs.Rules as rules;
 ghost use Rattle.lks_tally.specs.Heads.{heads};
 
+use crate::cases::Case;
 use crate::copies::{copy_of, put};
-use crate::findings::{Shelf, Why};
+use crate::findings::Why;
 use crate::hashing::{count_for, count_for_new, keys, reach};
 use crate::polls::{ballot_for, doubt_loss, doubt_shape, doubt_win, is_polled, limits_of};
-use crate::records::{
-    Opening, Repair, as_repair, deposits, find_opening, inner_votes_of, is_vote, opens,
-};
+use crate::records::{Repair, as_repair, deposits, find_opening, inner_votes_of, is_vote, opens};
 use crate::voters::{begin, count_in};
-use lks_base::{Bytes, Limits, OutOfMemory, PeerId, Plan, Record};
+use lks_base::{Bytes, Limits, OutOfMemory, Record};
+use lks_law::Opening;
 use lks_tally::{Ballot, Vote};
 use std::alloc::Global;
 use std::marker::Model;
@@ -157,7 +157,8 @@ impl Recount {
 
     /// Puts a replaced block into the copy, and forgets the hashes where it stands in their front.
     fn mend(&mut self, alloc: Global, block: u16, bytes: &Bytes) -> Result<(), OutOfMemory>
-        ensures { OnOk result (self.new ≡ mended self.old (Some (record { block = block; bytes = bytes.now }))) }
+        ensures { OnOk result
+            (self.new ≡ with_mended_block self.old (Some (record { block = block; bytes = bytes.now }))) }
     {
         put(&mut self.copy, block, bytes)?;
         if block < self.front {
@@ -202,27 +203,27 @@ pub fn after(
 #[tactic(auto, unfolding(crate::specs::Recounts::recount_by))]
 fn recount_opened(
     alloc: Global,
-    plan: &Plan,
-    set: &[Shelf],
-    poller: PeerId,
+    case: &Case<'_>,
     before: &[Record],
     copy: Vec<Bytes>,
     r: &Repair<'_>,
     opening: &Opening<'_>,
 ) -> Result<Option<Recount>, OutOfMemory>
-    ensures { IfOk result (λ k. k ≡ recount_by plan.now set.now poller before.now copy.items r.now opening.now) }
+    ensures { IfOk result
+        (λ k. k
+        ≡ recount_by case.now.plan.now case.now.set.now case.now.poller before.now copy.items r.now opening.now) }
 {
-    let limits = limits_of(&plan.rules, opening);
+    let limits = limits_of(&case.plan.rules, opening);
     if !is_polled(limits, before, r, opening) {
         return Ok(None);
     }
-    let count = count_in(plan.aus.as_slice(), r.au).unwrap_or(0);
-    let ballot = ballot_for(poller, r.number, opening, count);
-    let votes = inner_votes_of(alloc, before, r.number, opening.inner)?;
+    let count = count_in(case.plan.aus.as_slice(), r.au).unwrap_or(0);
+    let ballot = ballot_for(case.poller, r.number, opening, count);
+    let votes = inner_votes_of(alloc, before, r.number, opening.inner.as_slice())?;
     let begun = begin(
         alloc,
-        plan.aus.as_slice(),
-        set,
+        case.plan.aus.as_slice(),
+        case.set,
         &ballot,
         &votes,
         &copy,
@@ -245,17 +246,16 @@ fn recount_opened(
 #[tactic(auto, unfolding(crate::specs::Recounts::recount_of))]
 pub fn recount_of(
     alloc: Global,
-    plan: &Plan,
-    set: &[Shelf],
-    poller: PeerId,
+    case: &Case<'_>,
     before: &[Record],
     copy: Vec<Bytes>,
     r: &Repair<'_>,
 ) -> Result<Option<Recount>, OutOfMemory>
-    ensures { IfOk result (λ k. k ≡ recounts.recount_of plan.now set.now poller before.now copy.items r.now) }
+    ensures { IfOk result
+        (λ k. k ≡ recounts.recount_of case.now.plan.now case.now.set.now case.now.poller before.now copy.items r.now) }
 {
     match find_opening(before, r.number) {
-        Some(opening) => recount_opened(alloc, plan, set, poller, before, copy, r, &opening),
+        Some(opening) => recount_opened(alloc, case, before, copy, r, &opening),
         None => Ok(None),
     }
 }

@@ -8,7 +8,7 @@ ghost use Rattle.lks_hash.specs.Running.{running};
 ghost use Rattle.lks_tally.specs.Counting.{key_for};
 ghost use Rattle.lks_tally.specs.Heads.{heads};
 ghost use Rattle.lks_evidence.specs.Recounts as recounts;
-ghost use Rattle.lks_evidence.specs.Rules.{count_in, deposited, is_deposited, bears_out, shelf_of, is_founded};
+ghost use Rattle.lks_evidence.specs.Rules.{count_in, deposited_blocks, is_deposited, bears_out, shelf_of, is_founded};
 ghost use Rattle.lks_evidence.specs.Rules as rules;
 
 use crate::copies::copy_at;
@@ -36,9 +36,9 @@ pub fn count_in(aus: &[AuPlan], au: AuId) -> Option<u16>
 }
 
 /// How many blocks the AU was deposited with.
-#[tactic(auto, unfolding(crate::specs::Rules::deposited))]
+#[tactic(auto, unfolding(crate::specs::Rules::deposited_blocks))]
 pub fn count_deposited(journal: &[Record], au: AuId) -> usize
-    ensures { result ≡ length (deposited au journal.now) }
+    ensures { result ≡ length (deposited_blocks au journal.now) }
 {
     find_deposit(journal, au).map_or(0, |blocks| blocks.len())
 }

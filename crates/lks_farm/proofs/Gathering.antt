@@ -11,7 +11,7 @@ use Rattle.lks_farm.specs.Ends.{times}
 use Rattle.lks_farm.specs.Seats.{AreCounted, AreSeatsOf, Badge, FarmName, HandSeen, SeatSeen, all_collected}
 use Rattle.lks_farm.specs.Seats.{all_handed, all_offered, all_parts, all_taken, badges_of, jobs_view, results_view}
 use Rattle.lks_farm.specs.Seats.{seats_with, taken_of}
-use Rattle.lks_farm.specs.Sharing.{joined, known}
+use Rattle.lks_farm.specs.Sharing.{joined_views, view_knowing}
 
 counted_more : (a b : Bool) (n k more : ℕ) → (k == n) ≡ b → more ≤ cond a 1 0 → (n < k + 1 → more ≡ 0)
     → (cond (a && b) 1 0 + more ≤ cond a 1 0) × (n < k → cond (a && b) 1 0 + more ≡ 0)
@@ -100,14 +100,15 @@ pub gather_more : (farm : FarmName) (jobs jobs' results results' more done : Han
     (rest before all : List SeatSeen)
     → Gathering farm jobs results before all → before ≡ s ∷ rest → more.knows ≡ jobs_view s
     → done.knows ≡ results_view s
-    → jobs'.table ≡ jobs.table → results'.table ≡ results.table → jobs'.knows ≡ joined jobs.knows more.knows
-    → results'.knows ≡ joined results.knows done.knows → AreCounted s.badge.number 0 s.offered
+    → jobs'.table ≡ jobs.table → results'.table ≡ results.table → jobs'.knows ≡ joined_views jobs.knows more.knows
+    → results'.knows ≡ joined_views results.knows done.knows → AreCounted s.badge.number 0 s.offered
     → Gathering farm jobs' results' rest all
 gather_more farm jobs jobs' results results' more done s rest before all g step mk dk jt rt jk rk counted =
     let h : Gathering farm jobs results (s ∷ rest) all = subst
     (λ (l : List SeatSeen). Gathering farm jobs results l all) step g in
-    let jobs_is : jobs'.knows ≡ joined jobs.knows (jobs_view s) = jk ∙ ap (joined jobs.knows) mk in
-    let results_is : results'.knows ≡ joined results.knows (results_view s) = rk ∙ ap (joined results.knows) dk in
+    let jobs_is : jobs'.knows ≡ joined_views jobs.knows (jobs_view s) = jk ∙ ap (joined_views jobs.knows) mk in
+    let results_is : results'.knows ≡ joined_views results.knows (results_view s) = rk
+    ∙ ap (joined_views results.knows) dk in
     record {
       jobs_of = jt ∙ h.jobs_of;
       results_of = rt ∙ h.results_of;
@@ -143,15 +144,16 @@ gather_more farm jobs jobs' results results' more done s rest before all g step 
 -- nothing is left to be joined
 pub gather_end : (farm : FarmName) (jobs results : HandSeen) (rest all : List SeatSeen)
     → Gathering farm jobs results rest all → rest ≡ []
-    → (jobs.knows ≡ known 128 farm.pool (all_offered all) (all_taken all))
-    × (results.knows ≡ known 128 farm.pool (all_handed all) (all_collected all))
+    → (jobs.knows ≡ view_knowing 128 farm.pool (all_offered all) (all_taken all))
+    × (results.knows ≡ view_knowing 128 farm.pool (all_handed all) (all_collected all))
 gather_end farm jobs results rest all g none =
     let h : Gathering farm jobs results [] all = subst (λ (l : List SeatSeen). Gathering farm jobs results l all)
     none g in
     let parts : jobs.knows.parts ≡ 128 = omega (arith, h.parts) in (
-      (λ i. known (parts i) (h.jobs_pool i) ((sym (append-nil jobs.knows.put) ∙ h.offered) i)
+      (λ i. view_knowing (parts i) (h.jobs_pool i) ((sym (append-nil jobs.knows.put) ∙ h.offered) i)
           ((sym (append-nil jobs.knows.got) ∙ h.taken) i)),
-      (λ i. known ((h.same_parts ∙ parts) i) (h.results_pool i) ((sym (append-nil results.knows.put) ∙ h.handed) i)
+      (λ i. view_knowing ((h.same_parts ∙ parts) i) (h.results_pool i)
+          ((sym (append-nil results.knows.put) ∙ h.handed) i)
           ((sym (append-nil results.knows.got) ∙ h.collected) i)),
     )
 

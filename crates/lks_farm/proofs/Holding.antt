@@ -8,7 +8,7 @@ use Rattle.lks_farm.specs.declared.jobs.FarmDone.{FarmDone}
 use Rattle.lks_farm.specs.declared.entries.NumberedJob.{NumberedJob}
 use Rattle.lks_farm.specs.declared.rule.View.{View}
 use Rattle.lks_farm.specs.Entries.{IsOf, entry_done}
-use Rattle.lks_farm.specs.Sharing.{known, putting, getting}
+use Rattle.lks_farm.specs.Sharing.{view_knowing, putting, getting}
 use Rattle.lks_farm.specs.Seats.{AreCounted, HandSeen, Keeps, SeatSeen, held_by, jobs_view, results_view, seat_seen}
 
 counted_more : (seat k : ℕ) (es : List NumberedJob) (e : NumberedJob) (n : ℕ) → n ≡ k + length es
@@ -167,13 +167,14 @@ pub jobs_view_is : (number offers : ℕ) (holds : Option JobNumber) (jobs result
     → Keeps number offers holds jobs.knows results.knows → seat_seen number jobs results ≡ now
     → jobs.knows ≡ jobs_view now
 jobs_view_is number offers holds jobs results now k view =
-    ap (λ (l : List NumberedJob). known jobs.knows.parts jobs.knows.pool jobs.knows.put l) k.taken ∙ ap jobs_view view
+    ap (λ (l : List NumberedJob). view_knowing jobs.knows.parts jobs.knows.pool jobs.knows.put l) k.taken
+    ∙ ap jobs_view view
 
 pub results_view_is : (number offers : ℕ) (holds : Option JobNumber) (jobs results : HandSeen) (now : SeatSeen)
     → Keeps number offers holds jobs.knows results.knows → seat_seen number jobs results ≡ now
     → results.knows ≡ results_view now
 results_view_is number offers holds jobs results now k view =
-    (λ i. known (k.same_parts i) (k.same_pool i) results.knows.put results.knows.got) ∙ ap results_view view
+    (λ i. view_knowing (k.same_parts i) (k.same_pool i) results.knows.put results.knows.got) ∙ ap results_view view
 
 pub counted_is : (number offers : ℕ) (holds : Option JobNumber) (jobs results : HandSeen) (now : SeatSeen)
     → Keeps number offers holds jobs.knows results.knows → seat_seen number jobs results ≡ now

@@ -14,7 +14,7 @@ use Rattle.crossbeam_queue.proofs.Lists.{at_set, at_snoc, set_else}
 use Rattle.lks_farm.specs.declared.entries.NumberedJob.{NumberedJob}
 use Rattle.lks_farm.specs.declared.rule.View.{View}
 use Rattle.lks_farm.specs.Entries.{IsOf, EachIsOf}
-use Rattle.lks_farm.specs.Sharing.{known, putting, getting, parts_of, all_put, all_got, Fits, Shared, Moment}
+use Rattle.lks_farm.specs.Sharing.{view_knowing, putting, getting, parts_of, all_put, all_got, Fits, Shared, Moment}
 use Rattle.lks_farm.proofs.Orders.{all_more, all_same, all_less, all_snoc, to_front, set_swapped}
 
 parts_set : (views : List View) (port : ℕ) (v w : View) → get_elem? views port ≡ some v
@@ -57,18 +57,18 @@ each_snoc pool views w fits each j u at =
     ⊎_elim (λ x. each j u x) (λ (x : w ≡ u). subst (Fits pool) x fits) (at_snoc views w u j at)
 
 idle_fits : (pool : List ℕ) (parts : ℕ) (other : List ℕ) → (0 < parts → other ≡ pool)
-    → Fits pool (known parts other [] [])
+    → Fits pool (view_knowing parts other [] [])
 idle_fits pool parts other named =
     record { idle = λ _. (refl, refl); named = named; put = All-nil (IsOf pool); got = All-nil (IsOf pool) }
 
 -- a new queue
-pub begins : Shared [] (known 128 [] [] [] ∷ [])
+pub begins : Shared [] (view_knowing 128 [] [] [] ∷ [])
 begins = record {
   pool = [];
   parts = omega arith;
   balance = IsPermutation-refl [];
   each =
-      each_snoc [] [] (known 128 [] [] []) (idle_fits [] 128 [] (λ _. refl))
+      each_snoc [] [] (view_knowing 128 [] [] []) (idle_fits [] 128 [] (λ _. refl))
       (λ j u at. absurd (some-ne-none u (sym at)));
   held = All-nil (IsOf []);
 }
@@ -259,10 +259,10 @@ module _ {T : Type 0} (entry : T → NumberedJob) where
 
   -- a pass gives one part away
   pub forks : (port : ℕ) (v : View) → 1 < v.parts
-      → Forks Ruled port v (known (v.parts - 1) v.pool v.put v.got) (known 1 v.pool [] [])
+      → Forks Ruled port v (view_knowing (v.parts - 1) v.pool v.put v.got) (view_knowing 1 v.pool [] [])
   forks port v parts items views s at =
-      let left : View = known (v.parts - 1) v.pool v.put v.got in
-      let right : View = known 1 v.pool [] [] in
+      let left : View = view_knowing (v.parts - 1) v.pool v.put v.got in
+      let right : View = view_knowing 1 v.pool [] [] in
       let mine : Fits s.pool v = s.each port v at in
       let vs : List View = set views port left in
       let put : all_put (vs ++ right ∷ [])
@@ -292,11 +292,11 @@ module _ {T : Type 0} (entry : T → NumberedJob) where
 
   -- two passes become one
   pub merges : (port : ℕ) (v : View) (other : ℕ) (u : View) → 0 < v.parts
-      → Merges Ruled port v other u (known (v.parts + u.parts) v.pool (v.put ++ u.put) (v.got ++ u.got))
-      (known 0 [] [] [])
+      → Merges Ruled port v other u (view_knowing (v.parts + u.parts) v.pool (v.put ++ u.put) (v.got ++ u.got))
+      (view_knowing 0 [] [] [])
   merges port v other u part items views s at two at' =
-      let both : View = known (v.parts + u.parts) v.pool (v.put ++ u.put) (v.got ++ u.got) in
-      let spent : View = known 0 [] [] [] in
+      let both : View = view_knowing (v.parts + u.parts) v.pool (v.put ++ u.put) (v.got ++ u.got) in
+      let spent : View = view_knowing 0 [] [] [] in
       let was : get_elem? views other
       ≡ some u = ⊎_elim (λ (x : (other ≡ port) × (both ≡ u)). absurd (two x.0))
       (λ (x : (other ≢ port) × (get_elem? views other ≡ some u)). x.1) (at_set views port other both u at') in
@@ -329,11 +329,11 @@ module _ {T : Type 0} (entry : T → NumberedJob) where
 
   -- the first pass, which knows of nothing, gives the whole right to one that names the pool
   pub names : (port : ℕ) (pool : List ℕ)
-      → Forks Ruled port (known 128 [] [] []) (known 0 pool [] []) (known 128 pool [] [])
+      → Forks Ruled port (view_knowing 128 [] [] []) (view_knowing 0 pool [] []) (view_knowing 128 pool [] [])
   names port pool items views s at =
-      let v : View = known 128 [] [] [] in
-      let left : View = known 0 pool [] [] in
-      let right : View = known 128 pool [] [] in
+      let v : View = view_knowing 128 [] [] [] in
+      let left : View = view_knowing 0 pool [] [] in
+      let right : View = view_knowing 128 pool [] [] in
       let vs : List View = set views port left in
       let all : IsPermutation [] (map entry items) = whole_balance (map entry items) views port v s at refl in
       let none : map entry items

@@ -6,7 +6,7 @@ use Rattle.lks_farm.specs.declared.jobs.JobNumber.{JobNumber}
 use Rattle.lks_farm.specs.declared.entries.NumberedJob.{NumberedJob}
 use Rattle.lks_farm.specs.declared.rule.View.{View}
 use Rattle.lks_farm.specs.Entries.{IsOf}
-use Rattle.lks_farm.specs.Sharing.{known}
+use Rattle.lks_farm.specs.Sharing.{view_knowing}
 
 -- a queue: which it is, and for how many items it has room
 pub record QueueSeen : Type 0 where
@@ -48,10 +48,10 @@ taken_of s = s.handed ++ option_to_list s.held
 
 -- the view of the seat's pass on the queue of jobs, and on that of results
 abbrev pub jobs_view : SeatSeen → View
-jobs_view s = known s.badge.parts s.badge.farm.pool s.offered (taken_of s)
+jobs_view s = view_knowing s.badge.parts s.badge.farm.pool s.offered (taken_of s)
 
 abbrev pub results_view : SeatSeen → View
-results_view s = known s.badge.parts s.badge.farm.pool s.handed s.collected
+results_view s = view_knowing s.badge.parts s.badge.farm.pool s.handed s.collected
 
 -- the number under which the seat's next job goes
 abbrev pub next_number : SeatSeen → JobNumber

@@ -7,19 +7,19 @@ use Rattle.lks_farm.specs.declared.rule.View.{View}
 use Rattle.lks_farm.specs.Entries.{EachIsOf}
 
 -- what a pass knows: its parts, the pool, and the entries that it put and got
-abbrev pub known : ℕ → List ℕ → List NumberedJob → List NumberedJob → View
-known parts pool put got = record { parts = parts; pool = pool; put = put; got = got }
+abbrev pub view_knowing : ℕ → List ℕ → List NumberedJob → List NumberedJob → View
+view_knowing parts pool put got = record { parts = parts; pool = pool; put = put; got = got }
 
 -- the view with one entry more
 abbrev pub putting : View → NumberedJob → View
-putting v e = known v.parts v.pool (v.put ++ e ∷ []) v.got
+putting v e = view_knowing v.parts v.pool (v.put ++ e ∷ []) v.got
 
 abbrev pub getting : View → NumberedJob → View
-getting v e = known v.parts v.pool v.put (v.got ++ e ∷ [])
+getting v e = view_knowing v.parts v.pool v.put (v.got ++ e ∷ [])
 
 -- one view of two
-abbrev pub joined : View → View → View
-joined v w = known (v.parts + w.parts) v.pool (v.put ++ w.put) (v.got ++ w.got)
+abbrev pub joined_views : View → View → View
+joined_views v w = view_knowing (v.parts + w.parts) v.pool (v.put ++ w.put) (v.got ++ w.got)
 
 -- the parts of all views, added up
 abbrev pub parts_of : List View → ℕ

@@ -8,11 +8,11 @@ ghost use Rattle.lks_farm.specs.Ends.{IsClosed, times};
 ghost use Rattle.lks_farm.specs.Entries.{asked_of, entry_done, entry_of, refs_of, under};
 ghost use Rattle.lks_farm.specs.Seats.{AreFresh, AreSeatsOf, all_collected, all_handed, all_offered, all_taken};
 ghost use Rattle.lks_farm.specs.Seats.{jobs_view, next_number, results_view};
-ghost use Rattle.lks_farm.specs.Sharing.{Moment, known};
+ghost use Rattle.lks_farm.specs.Sharing.{Moment, view_knowing};
 
 use crate::jobs::{FarmDone, FarmJob, JobNumber};
 use crate::queues::{Hand, Queue};
-use crate::rule::Naming;
+use crate::rule::NamesPool;
 use crate::seats::Seat;
 use lks_base::OutOfMemory;
 use lks_blocks::{BlockPool, PoolMark};
@@ -76,7 +76,7 @@ impl Farm {
         Farm::named::<Brand>(alloc, PoolMark::of(pool), room, seats)
     }
 
-    fn named<N: Naming>(
+    fn named<N: NamesPool>(
         alloc: Global,
         pool: PoolMark,
         room: u16,
@@ -110,8 +110,8 @@ impl Farm {
         count: u16,
     ) -> Result<Vec<Seat>, OutOfMemory>
         requires of { (jobs.table ≡ self.now.name.jobs) × (results.table ≡ self.now.name.results) }
-        requires jobs { jobs.knows ≡ known 128 self.now.name.pool [] [] }
-        requires results { results.knows ≡ known 128 self.now.name.pool [] [] }
+        requires jobs { jobs.knows ≡ view_knowing 128 self.now.name.pool [] [] }
+        requires results { results.knows ≡ view_knowing 128 self.now.name.pool [] [] }
         requires count { (1 ≤ count) × (count ≤ 128) }
         ensures count { IfOk result (λ seats. vec_len seats ≡ count) }
         ensures fresh { IfOk result (λ seats. AreFresh self.now.name 0 seats.items) }
@@ -235,9 +235,10 @@ impl Farm {
     fn gather(&self, mut seats: Vec<Seat>) -> (Hand<FarmJob>, Hand<FarmDone>)
         requires { AreSeatsOf self.now.name seats.items }
         ensures tables { (result.0.table ≡ self.now.name.jobs) × (result.1.table ≡ self.now.name.results) }
-        ensures jobs { result.0.knows ≡ known 128 self.now.name.pool (all_offered seats.items) (all_taken seats.items) }
+        ensures jobs { result.0.knows
+            ≡ view_knowing 128 self.now.name.pool (all_offered seats.items) (all_taken seats.items) }
         ensures results { result.1.knows
-            ≡ known 128 self.now.name.pool (all_handed seats.items) (all_collected seats.items) }
+            ≡ view_knowing 128 self.now.name.pool (all_handed seats.items) (all_collected seats.items) }
         ensures once { (n : JobNumber) → times n (all_offered seats.items) ≤ 1 }
     {
         let (mut jobs, mut results) = seats.remove(0).into_hands();

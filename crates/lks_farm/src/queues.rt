@@ -3,9 +3,9 @@
 ghost use Rattle.std.specs.Prelude.{◌≡◌, ◌<◌, ◌≤◌, ◌-◌, [], ◌++◌, map, vec_capacity, IfOk, IfErr, IfNone, IfSome};
 ghost use Rattle.std.specs.Prelude.{OnOk, IsPermutation};
 ghost use Rattle.lks_farm.specs.Entries.{IsOf};
-ghost use Rattle.lks_farm.specs.Sharing.{Moment, getting, joined, known, putting};
+ghost use Rattle.lks_farm.specs.Sharing.{Moment, getting, joined_views, view_knowing, putting};
 
-use crate::rule::{Entries, Finds, Names, Naming, Puts, Rule, Shares, Takes, View};
+use crate::rule::{Entries, Finds, Names, NamesPool, Puts, Rule, Shares, Takes, View};
 use crossbeam_queue::{Pass, RuledArrayQueue};
 use lks_base::OutOfMemory;
 use std::alloc::Global;
@@ -46,10 +46,10 @@ impl<T: Entries> Model for Hand<T> {
 
 impl<T: Entries> Queue<T> {
     /// A queue with this room, and the pass that has the whole right to it.
-    pub fn new<N: Naming>(alloc: Global, room: usize) -> Result<(Queue<T>, Hand<T>), OutOfMemory>
+    pub fn new<N: NamesPool>(alloc: Global, room: usize) -> Result<(Queue<T>, Hand<T>), OutOfMemory>
         requires { 0 < room }
         ensures { IfOk result
-            (λ q. (q.0.room ≡ room) × (q.1.table ≡ q.0.table) × (q.1.knows ≡ known 128 N.pool [] [])) }
+            (λ q. (q.0.room ≡ room) × (q.1.table ≡ q.0.table) × (q.1.knows ≡ view_knowing 128 N.pool [] [])) }
     {
         let (line, mut first) = RuledArrayQueue::<T, View, Rule>::ruled(alloc, room)?;
         let pass = line.another::<Names<N>>(&mut first);
@@ -95,8 +95,8 @@ impl<T: Entries> Queue<T> {
         requires parts { 1 < hand.old.knows.parts }
         ensures same { (hand.new.table ≡ hand.old.table) × (result.table ≡ hand.old.table) }
         ensures left { hand.new.knows
-            ≡ known (hand.old.knows.parts - 1) hand.old.knows.pool hand.old.knows.put hand.old.knows.got }
-        ensures right { result.knows ≡ known 1 hand.old.knows.pool [] [] }
+            ≡ view_knowing (hand.old.knows.parts - 1) hand.old.knows.pool hand.old.knows.put hand.old.knows.got }
+        ensures right { result.knows ≡ view_knowing 1 hand.old.knows.pool [] [] }
     {
         Hand {
             pass: self.line.another::<Shares>(&mut hand.pass),
@@ -108,7 +108,7 @@ impl<T: Entries> Queue<T> {
         requires of { (hand.old.table ≡ self.now.table) × (other.table ≡ self.now.table) }
         requires part { 0 < hand.old.knows.parts }
         ensures same { hand.new.table ≡ hand.old.table }
-        ensures both { hand.new.knows ≡ joined hand.old.knows other.knows }
+        ensures both { hand.new.knows ≡ joined_views hand.old.knows other.knows }
     {
         let Hand { pass } = other;
         self.line.absorb::<Shares>(&mut hand.pass, pass);

@@ -36,11 +36,11 @@ impl Entries for FarmDone {
 }
 
 /// The pool that the views of a new queue name.
-pub trait Naming {
+pub trait NamesPool {
     ghost pool: { List ℕ };
 }
 
-impl Naming for Brand {
+impl NamesPool for Brand {
     ghost use Rattle.std.specs.Prelude.{[]};
 
     ghost pool = { [] };
@@ -50,11 +50,11 @@ pub struct Rule;
 
 impl<T: Entries> Protocol<T, View> for Rule {
     ghost use Rattle.std.specs.Prelude.{[], map};
-    ghost use Rattle.lks_farm.specs.Sharing.{Shared, known};
+    ghost use Rattle.lks_farm.specs.Sharing.{Shared, view_knowing};
 
     ghost holds = { λ items views. Shared (map T.entry items) views };
 
-    ghost first = { known 128 [] [] [] };
+    ghost first = { view_knowing 128 [] [] [] };
 }
 
 /// What a call learns where it finds the queue full or empty, or counts what it holds.
@@ -105,13 +105,13 @@ pub struct Names<N> {
     pool: PhantomData<N>,
 }
 
-impl<N: Naming> Split<View> for Names<N> {
+impl<N: NamesPool> Split<View> for Names<N> {
     ghost use Rattle.std.specs.Prelude.{[]};
-    ghost use Rattle.lks_farm.specs.Sharing.{known};
+    ghost use Rattle.lks_farm.specs.Sharing.{view_knowing};
 
-    ghost left = { λ v. known 0 N.pool [] [] };
+    ghost left = { λ v. view_knowing 0 N.pool [] [] };
 
-    ghost right = { λ v. known v.parts N.pool [] [] };
+    ghost right = { λ v. view_knowing v.parts N.pool [] [] };
 }
 
 /// Gives one part away, and joins passes.
@@ -119,18 +119,18 @@ pub struct Shares;
 
 impl Split<View> for Shares {
     ghost use Rattle.std.specs.Prelude.{[], ◌-◌};
-    ghost use Rattle.lks_farm.specs.Sharing.{known};
+    ghost use Rattle.lks_farm.specs.Sharing.{view_knowing};
 
-    ghost left = { λ v. known (v.parts - 1) v.pool v.put v.got };
+    ghost left = { λ v. view_knowing (v.parts - 1) v.pool v.put v.got };
 
-    ghost right = { λ v. known 1 v.pool [] [] };
+    ghost right = { λ v. view_knowing 1 v.pool [] [] };
 }
 
 impl Join<View> for Shares {
     ghost use Rattle.std.specs.Prelude.{[]};
-    ghost use Rattle.lks_farm.specs.Sharing.{joined, known};
+    ghost use Rattle.lks_farm.specs.Sharing.{joined_views, view_knowing};
 
-    ghost both = { joined };
+    ghost both = { joined_views };
 
-    ghost spent = { known 0 [] [] [] };
+    ghost spent = { view_knowing 0 [] [] [] };
 }

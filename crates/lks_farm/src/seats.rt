@@ -2,7 +2,7 @@
 
 ghost use Rattle.std.specs.Prelude.{◌≡◌, ◌<◌, [], length};
 ghost use Rattle.lks_farm.specs.Seats.{AreCounted, fresh, jobs_view, number_held, results_view};
-ghost use Rattle.lks_farm.specs.Sharing.{known};
+ghost use Rattle.lks_farm.specs.Sharing.{view_knowing};
 
 use crate::jobs::{FarmDone, FarmJob, JobNumber};
 use crate::queues::Hand;
@@ -33,7 +33,7 @@ impl Seat {
     /// The seat with these passes, with which nothing was done yet.
     pub(crate) fn new(number: u16, jobs: Hand<FarmJob>, results: Hand<FarmDone>) -> Seat
         requires part { 0 < jobs.knows.parts }
-        requires jobs { jobs.knows ≡ known jobs.knows.parts jobs.knows.pool [] [] }
+        requires jobs { jobs.knows ≡ view_knowing jobs.knows.parts jobs.knows.pool [] [] }
         requires results { results.knows ≡ jobs.knows }
         ensures { result
             ≡ fresh (record { jobs = jobs.table; results = results.table; pool = jobs.knows.pool }) number

@@ -17,7 +17,7 @@ use Rattle.lks_script.specs.declared.drafts.PlanPart.TheVariants as part
 use Rattle.lks_script.specs.declared.steps.Script.{Script}
 use Rattle.lks_script.specs.declared.steps.Step.{Step}
 use Rattle.lks_script.specs.Grammar.{title_line, rules_line, ruled_line, step_line, later_line, declares_peer}
-use Rattle.lks_script.specs.Grammar.{planned_line, stepped_line, line_in, means_nothing, with_line, ended}
+use Rattle.lks_script.specs.Grammar.{planned_line, stepped_line, line_in, means_nothing, with_line, script_of_draft}
 use Rattle.lks_script.specs.Grammar.{line_number, end_in, lines_in, script_of}
 use Rattle.lks_script.specs.StepLines.{own_poll_in, poll_step_in, in_own_poll, own_step_in, peer_step_in, step_in}
 use Rattle.lks_script.specs.StepLines.{steps_with}
@@ -222,7 +222,8 @@ lines_apart : (lines : List (List ℕ)) (k : ℕ) (draft : Draft) (s : Script) (
 unfolding lines_in end_in
 lines_apart [] k draft s rest e are apart = absurd cc
 lines_apart (last ∷ []) k draft s rest e are apart =
-    subst (λ (t : List ℕ). AreApart true t rest) (sym (ends_empty last (ended draft) (line_number k) s e)) apart
+    subst (λ (t : List ℕ). AreApart true t rest)
+    (sym (ends_empty last (script_of_draft draft) (line_number k) s e)) apart
 lines_apart (line ∷ next ∷ lines) k draft s rest e are apart =
     let a = found_line (with_line draft line) (λ longer. lines_in (k + 1) longer (next ∷ lines)) (line_number k) s e in
     one_line line (join_with_byte 10 (next ∷ lines)) rest are.0 (script_line draft a.0 line a.1)

@@ -17,7 +17,7 @@ use Rattle.lks_base.specs.declared.records.Record.TheVariants as records
 use Rattle.lks_disk.specs.Face.{Face}
 use Rattle.lks_field.specs.Frames.{frame, frames}
 use Rattle.lks_host.proofs.Standing.{read_both}
-use Rattle.lks_host.specs.Adopting.{IsFiled, IsReadAs, filled}
+use Rattle.lks_host.specs.Adopting.{IsFiled, IsReadAs, with_missing}
 use Rattle.lks_host.specs.Bodies.{bodies_of, AreRead}
 use Rattle.lks_host.specs.Hosted.{Holds, StandsFor}
 use Rattle.lks_host.specs.declared.hosts.Host.{Host}
@@ -180,7 +180,7 @@ module _ {D : Type 0} (f : Face D) (journal : Journal D) (plan : Plan) (id : ℕ
 
   pub adopted : {E : Type 0} (records : List Record) (result : Result (Host D) E) → records ≡ missing
       → IfOk result (λ host. host.peer ≡ peer) → IfOk result (λ host. Holds f host batches records)
-      → IfOk result (λ host. StandsFor f host (filled (deposits plan.aus p.copies) list batches))
+      → IfOk result (λ host. StandsFor f host (with_missing (deposits plan.aus p.copies) list batches))
   adopted records (Err e) are same holds = tt
   adopted records (Ok host) are same holds =
       let all : StandsFor f (record host { peer = peer }) (batches ++ map alone missing) =

@@ -26,8 +26,8 @@ pub record IsFiled {D : Type 0} (f : Face D) (journal : Journal D) (list : List 
   pub settled : IsSettled f journal (bodies_of batches)
 
 -- these batches, and one for each of the deposits that their records lack
-abbrev pub filled : List Record → List Record → List (List Record) → List (List Record)
-filled begun list batches = batches ++ map alone (missing_of begun list)
+abbrev pub with_missing : List Record → List Record → List (List Record) → List (List Record)
+with_missing begun list batches = batches ++ map alone (missing_of begun list)
 
 -- a crash leaves the batches from before, and behind them a front of those that were to be appended
 pub record LeavesFront {D : Type 0} (f : Face D) (before more : List (List Record)) (disk : D) : Type 0 where
@@ -38,7 +38,7 @@ pub record LeavesFront {D : Type 0} (f : Face D) (before more : List (List Recor
 pub record Adopts {D : Type 0} (f : Face D) (begun list : List Record) (journal : Journal D)
     (result : Result (Host D) (D × HostFault)) : Type 0 where
   pub stands : f.told journal.disk → (batches : List (List Record)) → IsFiled f journal list batches
-      → IfOk result (λ host. StandsFor f host (filled begun list batches))
+      → IfOk result (λ host. StandsFor f host (with_missing begun list batches))
   pub front : f.told journal.disk → (batches : List (List Record)) → IsFiled f journal list batches
       → OnErr result (LeavesFront f batches (map alone (missing_of begun list)) (disk_hosted result))
   pub idle : missing_of begun list ≡ [] → IfOk result (λ host. host.journal ≡ journal)

@@ -14,7 +14,7 @@ use crate::hosts::Host;
 use crate::outcomes::AfterCut;
 use lks_base::{Input, Plan};
 use lks_blocks::BlockPool;
-use lks_disk::CrashDisk;
+use lks_disk::{CrashDisk, Setting};
 use std::sync::Wait;
 
 /// Cuts the power and recovers.
@@ -39,7 +39,7 @@ pub fn restart<R: Wait, D: CrashDisk>(
     Ok(())
 }
 
-/// Does a step on a fuse of so many calls of the disk, cuts the power and recovers.
+/// Does a step on a fuse, cuts the power and recovers.
 pub fn cut_step<R: Wait, D: CrashDisk>(
     rt: &R,
     pool: &BlockPool,
@@ -47,30 +47,29 @@ pub fn cut_step<R: Wait, D: CrashDisk>(
     plan: &Plan,
     tick: u32,
     input: &Input,
-    calls: u32,
-    choice: u64,
+    fuse: Setting,
 ) -> Result<AfterCut, HostFault>
     requires can { CanStep D.face pool.now host.old }
     requires made { IsMadeBy plan.now host.old.peer.own }
     requires heard { IsHeard input.now }
     ensures cuts { (batches : List (List Recorded)) → StandsFor D.face host.old batches →
         IfOk result
-        (CutsOff D.face batches (react_on host.old.peer.own host.old.peer.state tick input.now) calls host.old
-        host.new) }
+        (CutsOff D.face batches (react_on host.old.peer.own host.old.peer.state tick input.now) fuse.calls
+        host.old host.new) }
     ensures falls { (batches : List (List Recorded)) → StandsFor D.face host.old batches →
         OnErr result
         (Falls D.face batches
         (with_batch batches (react_on host.old.peer.own host.old.peer.state tick input.now).records)
         host.new.journal.disk) }
     ensures back { IsBack D.face host.old host.new result }
-    ensures fuse { HadFuse D.face calls choice host.old host.new result }
+    ensures fuse { HadFuse D.face fuse.calls fuse.choice host.old host.new result }
     ensures end { OnOk result (host.new.journal.end ≤ host.old.journal.end + 32768) }
     ensures written { OnOk result
         (IsWritten host.old.peer.own host.old.peer.state
         (react_on host.old.peer.own host.old.peer.state tick input.now).records) }
 {
     let before = host.count();
-    host.fuse(calls, choice);
+    host.fuse(fuse.calls, fuse.choice);
     let done = host.step(rt, pool, tick, input);
     host.power_cut();
     match done {

@@ -11,8 +11,8 @@ use Rattle.lks_law.specs.Questions.{Verdicts, judgement_on, question_in}
 use Rattle.lks_law.specs.World.{Deed, message_in}
 
 -- these bytes on their way
-abbrev pub sent : ℕ → ℕ → List ℕ → Envelope
-sent from to bytes = record { from = from; to = to; bytes = bytes }
+abbrev pub envelope_of : ℕ → ℕ → List ℕ → Envelope
+envelope_of from to bytes = record { from = from; to = to; bytes = bytes }
 
 -- the question of what an honest peer receives, if its bytes spell a message that puts one
 abbrev pub asked_by : Envelope → Option Question

@@ -3,7 +3,7 @@
 ghost use Rattle.std.specs.Prelude.{◌≡◌, ◌<◌, ◌++◌, ℕ, List, Some, IfOk, IfSome, OnOk, OnErr, length};
 ghost use Rattle.std.specs.Option.{option_to_list};
 ghost use Rattle.lks_base.specs.declared.limits.TheConstants.{MOST_EVENTS};
-ghost use Rattle.lks_inbox.specs.Received.{sent, asked_by, judged_by, deed_by, verdict_with};
+ghost use Rattle.lks_inbox.specs.Received.{envelope_of, asked_by, judged_by, deed_by, verdict_with};
 ghost use Rattle.lks_law.specs.Facts.{IsHeard};
 ghost use Rattle.lks_law.specs.Questions.{judgement_on, question_by};
 ghost use Rattle.lks_law.specs.World.{delivers, message_in};
@@ -29,7 +29,7 @@ fn read(alloc: Global, bytes: &[u8]) -> Result<Option<Message>, OutOfMemory>
 /// The question that a message puts: on the proof of its poll's poller, or of a voter. The proof is copied, at most 64
 /// bytes.
 fn question_by(from: PeerId, to: PeerId, message: &Message) -> Result<Option<Question>, OutOfMemory>
-    ensures { IfOk result (λ q. (bytes : List ℕ) → q ≡ question_by (sent from to bytes) message.now) }
+    ensures { IfOk result (λ q. (bytes : List ℕ) → q ≡ question_by (envelope_of from to bytes) message.now) }
 {
     match message {
         Message::PollProof { number, proof, .. } => Ok(Some(Question {
@@ -86,13 +86,13 @@ pub fn receive<J: EffortJudge>(
     requires { length (J.heard judge.old) < MOST_EVENTS }
     ensures input { IfOk result
         (λ i. deed_by to i
-        ≡ delivers (Some (sent from to bytes.now))
-        (judged_by (J.verdict judge.old) (J.heard judge.old) (sent from to bytes.now))) }
+        ≡ delivers (Some (envelope_of from to bytes.now))
+        (judged_by (J.verdict judge.old) (J.heard judge.old) (envelope_of from to bytes.now))) }
     ensures verdict { IfOk result
-        (λ i. verdict_with i ≡ judged_by (J.verdict judge.old) (J.heard judge.old) (sent from to bytes.now)) }
+        (λ i. verdict_with i ≡ judged_by (J.verdict judge.old) (J.heard judge.old) (envelope_of from to bytes.now)) }
     ensures within { IfOk result (λ i. IfSome i IsHeard) }
     ensures asks { OnOk result
-        (J.heard judge.new ≡ J.heard judge.old ++ option_to_list (asked_by (sent from to bytes.now))) }
+        (J.heard judge.new ≡ J.heard judge.old ++ option_to_list (asked_by (envelope_of from to bytes.now))) }
     ensures same { J.verdict judge.new ≡ J.verdict judge.old }
     ensures err { OnErr result (judge.new ≡ judge.old) }
 {
@@ -115,7 +115,8 @@ pub fn receive_judged(
     bytes: &[u8],
     judged: Judged,
 ) -> Result<Option<Input>, OutOfMemory>
-    ensures input { IfOk result (λ i. (to : ℕ) → deed_by to i ≡ delivers (Some (sent from to bytes.now)) judged) }
+    ensures input { IfOk result
+        (λ i. (to : ℕ) → deed_by to i ≡ delivers (Some (envelope_of from to bytes.now)) judged) }
     ensures within { IfOk result (λ i. IfSome i IsHeard) }
 {
     match read(alloc, bytes)? {

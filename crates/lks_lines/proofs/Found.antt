@@ -10,9 +10,9 @@ use Rattle.lks_base.specs.declared.plans.Holding.{Holding}
 use Rattle.lks_base.specs.declared.plans.PeerPlan.{PeerPlan}
 use Rattle.lks_lines.specs.declared.list_lines.ListKind.{ListKind}
 use Rattle.lks_words.specs.Numbers.{◌>>=◌}
-use Rattle.lks_lines.specs.ListLines.{lacks_list, with_list, is_list, listed, with_hash, hashing}
+use Rattle.lks_lines.specs.ListLines.{lacks_list, with_list, is_list, peers_with_list, with_hash, hashing}
 use Rattle.lks_lines.specs.CopyLines.{may_hold, with_copies, copy_at, copies_with, holding, block_put, copy_damaged}
-use Rattle.lks_lines.specs.CopyLines.{damaged}
+use Rattle.lks_lines.specs.CopyLines.{peers_with_damage}
 
 module _ {X Y : Type 0} (test : X → Bool) (xs : List X) (body : ℕ → X → Option Y) where
   at_place : (at : ℕ) (x : X) → position test xs ≡ Some at → x ≡ get_or xs at x
@@ -23,8 +23,9 @@ module _ {X Y : Type 0} (test : X → Bool) (xs : List X) (body : ℕ → X → 
 
 pub listed_at : (kind : ListKind) (id : ℕ) (ids : List ℕ) (peers : List PeerPlan) (at : ℕ) (peer : PeerPlan)
     → position (lacks_list kind id) peers ≡ Some at → peer ≡ get_or peers at peer
-    → listed kind id ids peers ≡ cond (is_list peers id ids) (Some (set peers at (with_list kind peer ids))) None
-unfolding listed
+    → peers_with_list kind id ids peers
+    ≡ cond (is_list peers id ids) (Some (set peers at (with_list kind peer ids))) None
+unfolding peers_with_list
 listed_at kind id ids peers =
     at_place (lacks_list kind id) peers
     (λ at peer. cond (is_list peers id ids) (Some (set peers at (with_list kind peer ids))) None)
@@ -59,10 +60,10 @@ copy_damaged_at bytes au b block copies =
 
 pub damaged_at : (bytes id au b : ℕ) (block : List ℕ) (peers : List PeerPlan) (at : ℕ) (peer : PeerPlan)
     → position (may_hold id) peers ≡ Some at → peer ≡ get_or peers at peer
-    → damaged bytes id au b block peers
+    → peers_with_damage bytes id au b block peers
     ≡ (copy_damaged bytes au b block peer.copies >>= λ kept. Some
     (set peers at (with_copies peer kept.0), kept.1))
-unfolding damaged
+unfolding peers_with_damage
 damaged_at bytes id au b block peers =
     at_place (may_hold id) peers
     (λ at peer. copy_damaged bytes au b block peer.copies >>= λ kept. Some

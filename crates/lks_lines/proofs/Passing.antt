@@ -27,7 +27,8 @@ use Rattle.lks_lines.specs.declared.list_lines.ListKind.TheVariants.{Refs, Frien
 use Rattle.lks_lines.specs.declared.plan_lines.PlanDraft.{PlanDraft}
 use Rattle.lks_words.specs.Numbers.{◌>>=◌, number_in}
 use Rattle.lks_words.specs.Words.{id_in}
-use Rattle.lks_lines.specs.PlanLines.{are_good, au_in, may_add_au, aus_with, peer_in, begun, with_peers, may_add_peer}
+use Rattle.lks_lines.specs.PlanLines.{are_good, au_in, may_add_au, aus_with, peer_in, begun_draft, with_peers}
+use Rattle.lks_lines.specs.PlanLines.{may_add_peer}
 use Rattle.lks_lines.specs.PlanLines.{draft_with_peer}
 use Rattle.lks_lines.specs.ListLines.{lacks_list, with_list, is_list, draft_with_list, with_hash, draft_with_hash}
 use Rattle.lks_lines.specs.CopyLines.{may_hold, with_copies, with_more, copies_with, draft_with_copy, block_put}
@@ -215,7 +216,7 @@ aus_good aus now words h e =
 -- ---- peers
 
 pub begun_ready : (rules : Rules) (turns : Option ℕ) (aus : List AuPlan) → are_good rules ≡ true
-    → nat_le (begun rules turns aus).plan.turns 4096 ≡ true → AreAus aus → Ready (begun rules turns aus)
+    → nat_le (begun_draft rules turns aus).plan.turns 4096 ≡ true → AreAus aus → Ready (begun_draft rules turns aus)
 unfolding are_good
 begun_ready rules turns aus good few are =
     let parts = and_parts (are_bounded rules) (are_ordered rules) good in

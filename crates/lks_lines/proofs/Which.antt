@@ -15,10 +15,11 @@ use Rattle.lks_lines.specs.declared.plan_lines.PlanDraft.{PlanDraft}
 use Rattle.lks_words.specs.Numbers.{◌>>=◌}
 use Rattle.lks_words.specs.Words.{id_in, index_in, each_in, block_in, hash_in, kind_in, seed_in, proof_in}
 use Rattle.lks_lines.specs.PlanLines.{peer_in, with_peers, may_add_peer, draft_with_peer}
-use Rattle.lks_lines.specs.ListLines.{lacks_list, with_list, is_list, listed, draft_with_list, with_hash, hashing}
-use Rattle.lks_lines.specs.ListLines.{noted, draft_with_hash}
+use Rattle.lks_lines.specs.ListLines.{lacks_list, with_list, is_list, peers_with_list, draft_with_list, with_hash}
+use Rattle.lks_lines.specs.ListLines.{hashing}
+use Rattle.lks_lines.specs.ListLines.{draft_with_noted, draft_with_hash}
 use Rattle.lks_lines.specs.CopyLines.{may_hold, with_copies, content_in, copies_with, holding, draft_with_copy}
-use Rattle.lks_lines.specs.CopyLines.{copy_damaged, damaged, draft_with_damage}
+use Rattle.lks_lines.specs.CopyLines.{copy_damaged, peers_with_damage, draft_with_damage}
 use Rattle.lks_words.proofs.Steps.{bind_some, if_some, unless_some, some, same_some}
 
 -- the first element that passes, and what is done with it
@@ -99,15 +100,16 @@ module _ (P : PlanDraft → Type 0) (d now : PlanDraft) where
       → lacks_list kind id p ≡ true → is_list d.plan.peers id ids ≡ true
       → P (with_peers d (set d.plan.peers at (with_list kind p ids)) d.bytes))
       → draft_with_list kind d words ≡ Some now → P now
-  unfolding draft_with_list listed
+  unfolding draft_with_list peers_with_list
   list_found kind [] each e = absurd cc
   list_found kind (id ∷ words) each e =
       let a = bind_some (id_in id)
-      (λ n. each_in id_in words >>= λ ids. listed kind n ids d.plan.peers >>= λ peers. some
+      (λ n. each_in id_in words >>= λ ids. peers_with_list kind n ids d.plan.peers >>= λ peers. some
       (with_peers d peers d.bytes)) now e in
       let b = bind_some (each_in id_in words)
-      (λ ids. listed kind a.0 ids d.plan.peers >>= λ peers. some (with_peers d peers d.bytes)) now a.2 in
-      let c = bind_some (listed kind a.0 b.0 d.plan.peers) (λ peers. some (with_peers d peers d.bytes)) now b.2 in
+      (λ ids. peers_with_list kind a.0 ids d.plan.peers >>= λ peers. some (with_peers d peers d.bytes)) now a.2 in
+      let c = bind_some (peers_with_list kind a.0 b.0 d.plan.peers)
+      (λ peers. some (with_peers d peers d.bytes)) now b.2 in
       let f = found_at (lacks_list kind a.0) d.plan.peers
       (λ at peer. cond (is_list d.plan.peers a.0 b.0) (some (set d.plan.peers at (with_list kind peer b.0)))
       None) c.0 c.1 in
@@ -121,14 +123,16 @@ module _ (P : PlanDraft → Type 0) (d now : PlanDraft) where
       → ((at id : ℕ) (p : PeerPlan) (hash : HashKind) → slice_get d.plan.peers at ≡ Some p
       → P (also_noted (with_peers d (set d.plan.peers at (with_hash p hash)) d.bytes) id))
       → draft_with_hash d words ≡ Some now → P now
-  unfolding draft_with_hash hashing noted
+  unfolding draft_with_hash hashing draft_with_noted
   hash_found (id ∷ name ∷ []) each e =
       let a = bind_some (id_in id)
-      (λ n. hash_in name >>= λ hash. hashing n hash d.plan.peers >>= λ peers. noted (with_peers d peers d.bytes)
+      (λ n. hash_in name >>= λ hash. hashing n hash d.plan.peers >>= λ peers.
+      draft_with_noted (with_peers d peers d.bytes)
       n) now e in
       let b = bind_some (hash_in name)
-      (λ hash. hashing a.0 hash d.plan.peers >>= λ peers. noted (with_peers d peers d.bytes) a.0) now a.2 in
-      let c = bind_some (hashing a.0 b.0 d.plan.peers) (λ peers. noted (with_peers d peers d.bytes) a.0) now b.2 in
+      (λ hash. hashing a.0 hash d.plan.peers >>= λ peers. draft_with_noted (with_peers d peers d.bytes) a.0) now a.2 in
+      let c = bind_some (hashing a.0 b.0 d.plan.peers)
+      (λ peers. draft_with_noted (with_peers d peers d.bytes) a.0) now b.2 in
       let f = found_at (λ (p : PeerPlan). p.id == a.0) d.plan.peers
       (λ at peer. some (set d.plan.peers at (with_hash peer b.0))) c.0 c.1 in
       let longer = also_noted (with_peers d c.0 d.bytes) a.0 in
@@ -180,21 +184,24 @@ module _ (P : PlanDraft → Type 0) (d now : PlanDraft) where
       → ((id au index : ℕ) (content block : List ℕ) → block_in content ≡ Some block
       → HoldsWith P d id (copy_damaged d.bytes au index block))
       → draft_with_damage d words ≡ Some now → P now
-  unfolding draft_with_damage damaged
+  unfolding draft_with_damage peers_with_damage
   damage_found (id ∷ au ∷ index ∷ content ∷ []) each e =
       let a = bind_some (id_in id)
-      (λ n. id_in au >>= λ k. index_in index >>= λ b. block_in content >>= λ block. damaged d.bytes n k b block
+      (λ n. id_in au >>= λ k. index_in index >>= λ b. block_in content >>= λ block.
+      peers_with_damage d.bytes n k b block
       d.plan.peers >>= λ kept. some (with_peers d kept.0 kept.1)) now e in
       let b = bind_some (id_in au)
-      (λ k. index_in index >>= λ b. block_in content >>= λ block. damaged d.bytes a.0 k b block d.plan.peers >>=
+      (λ k. index_in index >>= λ b. block_in content >>= λ block.
+      peers_with_damage d.bytes a.0 k b block d.plan.peers >>=
       λ kept. some (with_peers d kept.0 kept.1)) now a.2 in
       let c = bind_some (index_in index)
-      (λ i. block_in content >>= λ block. damaged d.bytes a.0 b.0 i block d.plan.peers >>= λ kept. some
+      (λ i. block_in content >>= λ block. peers_with_damage d.bytes a.0 b.0 i block d.plan.peers >>= λ kept. some
       (with_peers d kept.0 kept.1)) now b.2 in
       let f = bind_some (block_in content)
-      (λ block. damaged d.bytes a.0 b.0 c.0 block d.plan.peers >>= λ kept. some (with_peers d kept.0 kept.1))
+      (λ block. peers_with_damage d.bytes a.0 b.0 c.0 block d.plan.peers >>= λ kept. some (with_peers d kept.0 kept.1))
       now c.2 in
-      let g = bind_some (damaged d.bytes a.0 b.0 c.0 f.0 d.plan.peers) (λ kept. some (with_peers d kept.0 kept.1))
+      let g = bind_some (peers_with_damage d.bytes a.0 b.0 c.0 f.0 d.plan.peers)
+      (λ kept. some (with_peers d kept.0 kept.1))
       now f.2 in
       copies_found a.0 (copy_damaged d.bytes b.0 c.0 f.0) g.0 (each a.0 b.0 c.0 content f.0 f.1) g.1 g.2
   damage_found _ each e = absurd cc

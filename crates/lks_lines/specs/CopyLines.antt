@@ -89,8 +89,8 @@ copy_damaged bytes au b block copies = do
   Some (slice_set copies at (record { au = copy.au; blocks = put.0 }), put.1)
 
 -- the peers, of which one has another block
-unfoldable pub damaged : ℕ → ℕ → ℕ → ℕ → List ℕ → List PeerPlan → Option (List PeerPlan × ℕ)
-damaged bytes id au b block peers = do
+unfoldable pub peers_with_damage : ℕ → ℕ → ℕ → ℕ → List ℕ → List PeerPlan → Option (List PeerPlan × ℕ)
+peers_with_damage bytes id au b block peers = do
   at ← position (may_hold id) peers
   peer ← slice_get peers at
   kept ← copy_damaged bytes au b block peer.copies
@@ -103,6 +103,6 @@ draft_with_damage d (id ∷ au ∷ index ∷ content ∷ []) = do
   a ← id_in au
   b ← index_in index
   block ← block_in content
-  kept ← damaged d.bytes p a b block d.plan.peers
+  kept ← peers_with_damage d.bytes p a b block d.plan.peers
   Some (with_peers d kept.0 kept.1)
 draft_with_damage d _ = None

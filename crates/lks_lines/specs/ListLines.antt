@@ -51,8 +51,8 @@ unfoldable pub is_list : List PeerPlan → ℕ → List ℕ → Bool
 is_list peers id ids = nat_le 1 (length ids) && is_none (each (member_fault peers id) [] ids)
 
 -- the peers, of which one has a list more
-unfoldable pub listed : ListKind → ℕ → List ℕ → List PeerPlan → Option (List PeerPlan)
-listed kind id ids peers = do
+unfoldable pub peers_with_list : ListKind → ℕ → List ℕ → List PeerPlan → Option (List PeerPlan)
+peers_with_list kind id ids peers = do
   at ← position (lacks_list kind id) peers
   peer ← slice_get peers at
   if is_list peers id ids then Some (slice_set peers at (with_list kind peer ids)) else None
@@ -62,7 +62,7 @@ unfoldable pub draft_with_list : ListKind → PlanDraft → List (List ℕ) → 
 draft_with_list kind d (id ∷ words) = do
   p ← id_in id
   ids ← each_in id_in words
-  peers ← listed kind p ids d.plan.peers
+  peers ← peers_with_list kind p ids d.plan.peers
   Some (with_peers d peers d.bytes)
 draft_with_list kind d _ = None
 
@@ -88,8 +88,8 @@ hashing id hash peers = do
   Some (slice_set peers at (with_hash peer hash))
 
 -- the draft that notes besides that the hash of this peer was said, which it wasn't yet
-unfoldable pub noted : PlanDraft → ℕ → Option PlanDraft
-noted d id =
+unfoldable pub draft_with_noted : PlanDraft → ℕ → Option PlanDraft
+draft_with_noted d id =
     if has_member d.hashed id then None
     else Some (record { plan = d.plan; bytes = d.bytes; hashed = d.hashed ++ id ∷ [] })
 
@@ -99,5 +99,5 @@ draft_with_hash d (id ∷ name ∷ []) = do
   p ← id_in id
   hash ← hash_in name
   peers ← hashing p hash d.plan.peers
-  noted (with_peers d peers d.bytes) p
+  draft_with_noted (with_peers d peers d.bytes) p
 draft_with_hash d _ = None

@@ -14,9 +14,10 @@ use Rattle.lks_words.specs.Numbers.{◌>>=◌, number_in}
 use Rattle.lks_words.specs.Words.{id_in, seed_in, proof_in, kind_in}
 
 -- a name, a number of at most so much, and the words behind them
-unfoldable pub named : List ℕ → ℕ → List (List ℕ) → Option (ℕ × List (List ℕ))
-named name most (key ∷ word ∷ rest) = if bytes_eq key name then (number_in most word >>= λ n. Some (n, rest)) else None
-named name most _ = None
+unfoldable pub named_number : List ℕ → ℕ → List (List ℕ) → Option (ℕ × List (List ℕ))
+named_number name most (key ∷ word ∷ rest) =
+    if bytes_eq key name then (number_in most word >>= λ n. Some (n, rest)) else None
+named_number name most _ = None
 
 -- rules in their bounds and in order
 unfoldable pub are_good : Rules → Bool
@@ -25,12 +26,12 @@ are_good rules = are_bounded rules && are_ordered rules
 -- pace N refractory N overdue N unknown N debt N churn N, behind the sizes
 unfoldable pub paces_in : Rules → List (List ℕ) → Option Rules
 paces_in sizes words = do
-  pace ← named (codes "pace") 4294967295 words
-  refractory ← named (codes "refractory") 4294967295 pace.1
-  overdue ← named (codes "overdue") 4294967295 refractory.1
-  unknown ← named (codes "unknown") 255 overdue.1
-  debt ← named (codes "debt") 255 unknown.1
-  churn ← named (codes "churn") 65535 debt.1
+  pace ← named_number (codes "pace") 4294967295 words
+  refractory ← named_number (codes "refractory") 4294967295 pace.1
+  overdue ← named_number (codes "overdue") 4294967295 refractory.1
+  unknown ← named_number (codes "unknown") 255 overdue.1
+  debt ← named_number (codes "debt") 255 unknown.1
+  churn ← named_number (codes "churn") 65535 debt.1
   if length churn.1 == 0
       then Some
       (record {
@@ -51,11 +52,11 @@ paces_in sizes words = do
 -- inner N quorum N minority N outer N repairs N, and the numbers behind these
 unfoldable pub numbers_in : List (List ℕ) → Option Rules
 numbers_in words = do
-  inner ← named (codes "inner") 65535 words
-  quorum ← named (codes "quorum") 65535 inner.1
-  minority ← named (codes "minority") 65535 quorum.1
-  outer ← named (codes "outer") 65535 minority.1
-  repairs ← named (codes "repairs") 65535 outer.1
+  inner ← named_number (codes "inner") 65535 words
+  quorum ← named_number (codes "quorum") 65535 inner.1
+  minority ← named_number (codes "minority") 65535 quorum.1
+  outer ← named_number (codes "outer") 65535 minority.1
+  repairs ← named_number (codes "repairs") 65535 outer.1
   paces_in
       (record {
         inner = inner.0;
@@ -116,8 +117,8 @@ peer_in (id ∷ kind ∷ seed ∷ proof ∷ []) = do
 peer_in _ = None
 
 -- a plan without peers, whose copies have no bytes
-abbrev pub begun : Rules → Option ℕ → List AuPlan → PlanDraft
-begun rules turns aus =
+abbrev pub begun_draft : Rules → Option ℕ → List AuPlan → PlanDraft
+begun_draft rules turns aus =
     record {
       plan = record { rules = rules; turns = unwrap_or turns MOST_EVENTS; aus = aus; peers = [] };
       bytes = 0;

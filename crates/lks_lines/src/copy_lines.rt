@@ -6,7 +6,8 @@ ghost use Rattle.std.specs.Option.{option_copied};
 ghost use Rattle.lks_base.specs.Checking.{bytes_of_blocks};
 ghost use Rattle.lks_words.specs.Words.{Gives};
 ghost use Rattle.lks_lines.specs.CopyLines.{may_hold, copy_at, content_in, with_more, copies_with, holding};
-ghost use Rattle.lks_lines.specs.CopyLines.{draft_with_copy, block_put, copy_damaged, damaged, draft_with_damage};
+ghost use Rattle.lks_lines.specs.CopyLines.{draft_with_copy, block_put, copy_damaged, peers_with_damage};
+ghost use Rattle.lks_lines.specs.CopyLines.{draft_with_damage};
 
 use crate::plan_lines::PlanDraft;
 use lks_base::{
@@ -198,7 +199,7 @@ fn damage_copy(
     Ok((Seq::from_vec(copies), all))
 }
 
-#[tactic(auto, unfolding(crate::specs::CopyLines::damaged))]
+#[tactic(auto, unfolding(crate::specs::CopyLines::peers_with_damage))]
 fn damage(
     alloc: Global,
     bytes: usize,
@@ -208,7 +209,7 @@ fn damage(
     b: u16,
     block: Bytes,
 ) -> Result<(Seq<PeerPlan>, usize), Stop>
-    ensures { Gives result (damaged bytes id au b block peers) }
+    ensures { Gives result (peers_with_damage bytes id au b block peers) }
 {
     let mut peers = peers.into_vec();
     let Some(at) = holder(&peers, id) else {

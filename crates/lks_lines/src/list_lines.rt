@@ -3,8 +3,9 @@
 ghost use Rattle.std.specs.Prelude.{◌≡◌, ◌==◌, map, length};
 ghost use Rattle.std.specs.List.{position};
 ghost use Rattle.lks_words.specs.Words.{Gives};
-ghost use Rattle.lks_lines.specs.ListLines.{list_of, lacks_list, with_list, is_list, listed, draft_with_list, hashing};
-ghost use Rattle.lks_lines.specs.ListLines.{noted, draft_with_hash};
+ghost use Rattle.lks_lines.specs.ListLines.{list_of, lacks_list, with_list, is_list, peers_with_list};
+ghost use Rattle.lks_lines.specs.ListLines.{draft_with_list, hashing};
+ghost use Rattle.lks_lines.specs.ListLines.{draft_with_noted, draft_with_hash};
 
 use crate::plan_lines::PlanDraft;
 use lks_base::{HashKind, Ids, PeerPlan, Seq, check_members, has_member};
@@ -62,9 +63,9 @@ fn fits(peers: &[PeerPlan], id: u16, ids: &Ids) -> bool
     1 <= ids.as_slice().len() && check_members(peers, id, ids.as_slice()).is_ok()
 }
 
-#[tactic(auto, unfolding(crate::specs::ListLines::listed))]
+#[tactic(auto, unfolding(crate::specs::ListLines::peers_with_list))]
 fn give_list(peers: Seq<PeerPlan>, kind: ListKind, id: u16, ids: Ids) -> Result<Seq<PeerPlan>, Stop>
-    ensures { Gives result (listed kind id ids peers) }
+    ensures { Gives result (peers_with_list kind id ids peers) }
 {
     let mut peers = peers.into_vec();
     match unlisted(&peers, kind, id) {
@@ -118,9 +119,9 @@ fn give_hash(peers: Seq<PeerPlan>, id: u16, hash: HashKind) -> Result<Seq<PeerPl
     }
 }
 
-#[tactic(auto, unfolding(crate::specs::ListLines::noted))]
+#[tactic(auto, unfolding(crate::specs::ListLines::draft_with_noted))]
 fn note(draft: PlanDraft, id: u16) -> Result<PlanDraft, Stop>
-    ensures { Gives result (noted draft id) }
+    ensures { Gives result (draft_with_noted draft id) }
 {
     let PlanDraft {
         plan,

@@ -2,8 +2,8 @@
 
 ghost use Rattle.std.specs.Prelude.{◌≡◌, ◌≤◌, [], map, IfOk};
 ghost use Rattle.lks_words.specs.Words.{Gives, Shows};
-ghost use Rattle.lks_lines.specs.PlanLines.{named, are_good, numbers_in, paces_in, rules_in, au_in, may_add_au};
-ghost use Rattle.lks_lines.specs.PlanLines.{aus_with, peer_in, begun, with_peers, may_add_peer, draft_with_peer};
+ghost use Rattle.lks_lines.specs.PlanLines.{named_number, are_good, numbers_in, paces_in, rules_in, au_in, may_add_au};
+ghost use Rattle.lks_lines.specs.PlanLines.{aus_with, peer_in, begun_draft, with_peers, may_add_peer, draft_with_peer};
 
 use lks_base::{
     AuPlan, HashKind, Ids, MOST_AUS, MOST_BLOCKS, MOST_EVENTS, MOST_PEERS, PeerPlan, Plan, Rules,
@@ -24,14 +24,14 @@ pub struct PlanDraft {
 }
 
 // A name, a number of at most so much, and the words behind them.
-#[tactic(auto, unfolding(crate::specs::PlanLines::named))]
+#[tactic(auto, unfolding(crate::specs::PlanLines::named_number))]
 fn named_number<'a, 'b>(
     name: &[u8],
     most: u64,
     words: &'a [&'b [u8]],
 ) -> Result<(u64, &'a [&'b [u8]]), Stop>
     ensures value { Shows (λ x. (x.0, map (λ w. w.now) x.1.now)) result
-        (named name.now most (map (λ w. w.now) words.now)) }
+        (named_number name.now most (map (λ w. w.now) words.now)) }
     ensures few { IfOk result (λ x. x.0 ≤ most) }
 {
     let [key, word, rest @ ..] = words else {
@@ -175,7 +175,7 @@ fn peer(alloc: Global, words: &[&[u8]]) -> Result<PeerPlan, Stop>
 
 /// A plan without peers.
 pub fn begin(alloc: Global, rules: Rules, turns: Option<u32>, aus: Seq<AuPlan>) -> PlanDraft
-    ensures { result ≡ begun rules turns aus }
+    ensures { result ≡ begun_draft rules turns aus }
 {
     let plan = Plan {
         rules,

@@ -7,7 +7,7 @@ use Rattle.std.specs.Prelude.{map, max, min, unwrap_or, Ok}
 use Rattle.lks_base.specs.declared.records.Record.{Record}
 use Rattle.lks_field.proofs.Once.{held_once}
 use Rattle.lks_field.specs.Frames.{frames, HoldsBodies}
-use Rattle.lks_host.specs.Adopting.{filled}
+use Rattle.lks_host.specs.Adopting.{with_missing}
 use Rattle.lks_host.specs.Bodies.{bodies_of, AreRead}
 use Rattle.lks_law.proofs.Batches.{batch_more}
 use Rattle.lks_law.proofs.Behind.{AreAt, added_at, added_stands}
@@ -157,5 +157,5 @@ starts_there own begun batches first file whole read holds (inr (held, there, he
     let none : missing_of begun (together batches)
     ≡ [] = drop_all (length (together batches)) begun
     (taken_longer own begun (drop (length begun) (bodies_of batches)) (together batches) whole.1) in
-    is ∙ ap (λ (bs : List (List Record)). filled begun (together bs) bs) same
+    is ∙ ap (λ (bs : List (List Record)). with_missing begun (together bs) bs) same
     ∙ ap (λ (rest : List Record). batches ++ map alone rest) none ∙ append-nil batches

@@ -16,7 +16,7 @@ use Rattle.lks_disk.specs.Counts.{Rose}
 use Rattle.lks_disk.specs.Device.{Only}
 use Rattle.lks_disk.specs.Face.{Face, Same}
 use Rattle.lks_field.specs.Frames.{HoldsBodies, IsDamagedAt}
-use Rattle.lks_host.specs.Adopting.{IsFiled, IsReadAs, LeavesFront, filled}
+use Rattle.lks_host.specs.Adopting.{IsFiled, IsReadAs, LeavesFront, with_missing}
 use Rattle.lks_host.specs.Bodies.{bodies_of, AreRead}
 use Rattle.lks_host.specs.Hosted.{HasFront, StandsFor}
 use Rattle.lks_host.specs.declared.hosts.Host.{Host}
@@ -93,11 +93,11 @@ module _ (own : Station) (begun : List Record) where
 
   whole_sorted : (batches : List (List Record)) (bodies : List (List ℕ)) (list : List Record)
       → bodies ≡ bodies_of batches → list ≡ together batches → IsSorted own begun bodies list
-      → AreWhole own begun (filled begun list batches)
+      → AreWhole own begun (with_missing begun list batches)
   whole_sorted batches bodies list spelled all (inl whole) =
       let none : missing_of begun list
       ≡ [] = drop_all (length list) begun (taken_longer own begun (drop (length begun) bodies) list whole.1) in
-      let same : filled begun list batches
+      let same : with_missing begun list batches
       ≡ batches = ap (λ (rest : List Record). batches ++ map alone rest) none ∙ append-nil batches in
       subst (AreWhole own begun) (sym same)
       (subst (λ (l : List Record). SortsAs own begun (bodies_of batches) (Whole l)) all
@@ -106,16 +106,16 @@ module _ (own : Station) (begun : List Record) where
       let m = length bodies in
       let count : length list ≡ m = ap length is ∙ length-take m begun ∙ (let low = few in omega arith) in
       let lacking : missing_of begun list ≡ drop m begun = ap (λ n. drop n begun) count in
-      let more : bodies_of (filled begun list batches) ≡ spelled_each begun =
+      let more : bodies_of (with_missing begun list batches) ≡ spelled_each begun =
       map-append batch_spelling batches (map alone (missing_of begun list))
       ∙ (λ i. (sym spelled ∙ front) i
       ++ (bodies_alone (missing_of begun list) ∙ ap spelled_each lacking
       ∙ sym (drop-map (λ (r : Record). batch_spelling (alone r)) m begun)) i)
       ∙ take-append-drop m (spelled_each begun) in
-      let records : together (filled begun list batches) ≡ begun =
+      let records : together (with_missing begun list batches) ≡ begun =
       flat_map-append (λ (b : List Record). b) batches (map alone (missing_of begun list))
       ∙ (λ i. (sym all ∙ is) i ++ (each_alone (missing_of begun list) ∙ lacking) i) ∙ take-append-drop m begun in
-      whole_as (filled begun list batches) more records
+      whole_as (with_missing begun list batches) more records
 
 module _ {D : Type 0} (f : Face D) (plan : Plan) (p : PeerPlan) (host : Host D) (store : D) where
   -- over a new journal
@@ -202,7 +202,7 @@ module _ {D : Type 0} (f : Face D) (plan : Plan) (p : PeerPlan) (journal : Journ
   abbrev batches : List (List Record)
   batches = owns.spell.batches
 
-  all_is : together (filled begun list batches) ≡ list ++ missing_of begun list
+  all_is : together (with_missing begun list batches) ≡ list ++ missing_of begun list
   all_is =
       flat_map-append (λ (b : List Record). b) batches (map alone (missing_of begun list))
       ∙ (λ i. sym owns.spell.all i ++ each_alone (missing_of begun list) i)
@@ -214,22 +214,23 @@ module _ {D : Type 0} (f : Face D) (plan : Plan) (p : PeerPlan) (journal : Journ
   pub begun_adopted : (host : Host D) → IsSorted (station_of plan p) begun bodies list → host.peer ≡ peer
       → (f.told host.journal.disk → f.told journal.disk)
       → (f.told journal.disk → (bs : List (List Record)) → IsFiled f journal list bs
-      → StandsFor f host (filled begun list bs))
+      → StandsFor f host (with_missing begun list bs))
       → IsBegun f plan p journal.disk (record { host = host; tick = latest_tick list })
   begun_adopted host sorts same back adopts =
       let own : host.peer.own ≡ peer.own = ap (λ (k : Knowing). k.own) same in
       record {
-        first = record { batches = filled begun list batches; tick = latest_tick list; heard = [] };
+        first = record { batches = with_missing begun list batches; tick = latest_tick list; heard = [] };
         unasked = refl;
         own = own ∙ owns.own;
         at = record {
           state =
               ap (λ (k : Knowing). k.state) same ∙ owns.owner.state ∙ ap (state_of peer.own) (sym all_is)
-              ∙ ap (λ (w : Station). state_of w (together (filled begun list batches))) (sym own);
+              ∙ ap (λ (w : Station). state_of w (together (with_missing begun list batches))) (sym own);
           tick = refl;
           heard = refl;
           journal =
-              subst (λ (w : Station). IsJournalOf w begun (latest_tick list) (together (filled begun list batches)))
+              subst (λ (w : Station).
+              IsJournalOf w begun (latest_tick list) (together (with_missing begun list batches)))
               (sym own)
               (subst (IsJournalOf peer.own begun (latest_tick list)) (sym all_is)
               (journal_is plan.aus p.copies list peer owns.owner));
@@ -244,7 +245,7 @@ module _ {D : Type 0} (f : Face D) (plan : Plan) (p : PeerPlan) (journal : Journ
               batches,
               (settled told).holds,
               are_read batches owns.spell.are,
-              ap (λ (l : List Record). filled begun l batches) owns.spell.all,
+              ap (λ (l : List Record). with_missing begun l batches) owns.spell.all,
             );
       }
 

@@ -19,22 +19,22 @@ use Rattle.lks_node.specs.Being.{HasStopped, IsAt}
 use Rattle.lks_node.specs.Codes.{status_of}
 use Rattle.lks_node.specs.Complete.{Completes, HasWork, IsOwn}
 use Rattle.lks_node.specs.Ending.{HadRoom, HasRoom, Leaves}
-use Rattle.lks_node.specs.Framing.{framed, Framed, Ended, Broken, Whole}
+use Rattle.lks_node.specs.Framing.{frame_of, Framed, Ended, Broken, Whole}
 use Rattle.lks_node.specs.Going.{Progress, after, after_all}
 use Rattle.lks_node.specs.Opening.{BeginsWith, IsRefused, IsSorted}
 use Rattle.lks_node.specs.Orders.{order_in}
 use Rattle.lks_node.specs.Promise.{Answers, ComesOver, HasEnded, HasPeer, IsScripted, Serves, Told}
 use Rattle.lks_node.specs.Telling.{Begins, HaltsAt, HasNext, IsBad, Tell}
 use Rattle.lks_node.specs.declared.answering.TheConstants.{MOST_BODY}
-use Rattle.lks_node.specs.declared.ends.End.{End}
-use Rattle.lks_node.specs.declared.ends.End.TheVariants as end
+use Rattle.lks_node.specs.declared.ends.NodeEnd.{NodeEnd}
+use Rattle.lks_node.specs.declared.ends.NodeEnd.TheVariants as end
 use Rattle.lks_node.specs.declared.ends.Fall.TheVariants as fall
 use Rattle.lks_node.specs.declared.ends.Rest.TheVariants as rest
-use Rattle.lks_node.specs.declared.ends.Stop.{Stop}
-use Rattle.lks_node.specs.declared.ends.Stop.TheVariants.{Rested, Fell, Untold}
+use Rattle.lks_node.specs.declared.ends.NodeStop.{NodeStop}
+use Rattle.lks_node.specs.declared.ends.NodeStop.TheVariants.{Rested, Fell, Untold}
 use Rattle.lks_node.specs.declared.ends.Unready.{Unready}
 use Rattle.lks_node.specs.declared.ends.Unready.TheVariants as unready
-use Rattle.lks_node.specs.declared.ends.Unscripted.TheVariants.{Unread, Unframed, Unsaid}
+use Rattle.lks_node.specs.declared.ends.NoScript.TheVariants.{Unread, Unframed, Unsaid}
 use Rattle.lks_node.specs.declared.frames.Unread.TheVariants as reading
 use Rattle.lks_node.specs.declared.opening.TheConstants.{MOST_BYTES}
 use Rattle.lks_node.specs.declared.orders.Order.{Order}
@@ -69,15 +69,15 @@ same_id o id other path there is also = ap id_in (sym is ∙ also)
 module _ (plan : Plan) (id : ℕ) where
   -- no bytes begin with no order
   none_begins : (bytes : List ℕ) (o : Order) (more : List ℕ) → bytes ≡ [] → Begins plan id bytes o more → ⊥
-  unfolding framed
+  unfolding frame_of
   none_begins bytes o more none begins =
-      let read : framed MOST_BODY [] ≡ Whole begins.0 more = ap (framed MOST_BODY) (sym none) ∙ begins.1 in
+      let read : frame_of MOST_BODY [] ≡ Whole begins.0 more = ap (frame_of MOST_BODY) (sym none) ∙ begins.1 in
       absurd cc
 
   same_order : (bytes : List ℕ) (o u : Order) (more others : List ℕ) → Begins plan id bytes o more
       → Begins plan id bytes u others → (o ≡ u) × (more ≡ others)
   same_order bytes o u more others one other =
-      let same = same_whole (framed MOST_BODY bytes) one.0 more other.0 others one.1 other.1 in
+      let same = same_whole (frame_of MOST_BODY bytes) one.0 more other.0 others one.1 other.1 in
       let orders : Some o ≡ Some u = sym one.2 ∙ ap (order_in plan id) same.0 ∙ other.2 in
       (cc, same.1)
 
@@ -93,12 +93,12 @@ module _ (plan : Plan) (id : ℕ) where
 
   -- so nothing bad is found
   never_bad : (rest : List Order) (bytes : List ℕ) → Tell plan id bytes rest [] → IsBad plan id bytes → ⊥
-  unfolding framed
-  never_bad [] bytes none (inl broken) = let read = ap (framed MOST_BODY) (sym none) ∙ broken in absurd cc
-  never_bad [] bytes none (inr whole) = let read = ap (framed MOST_BODY) (sym none) ∙ whole.2 in absurd cc
+  unfolding frame_of
+  never_bad [] bytes none (inl broken) = let read = ap (frame_of MOST_BODY) (sym none) ∙ broken in absurd cc
+  never_bad [] bytes none (inr whole) = let read = ap (frame_of MOST_BODY) (sym none) ∙ whole.2 in absurd cc
   never_bad (o ∷ os) bytes told (inl broken) = let read = sym broken ∙ told.1.1 in absurd cc
   never_bad (o ∷ os) bytes told (inr whole) =
-      let same = same_whole (framed MOST_BODY bytes) whole.0 whole.1 told.1.0 told.0 whole.2 told.1.1 in
+      let same = same_whole (frame_of MOST_BODY bytes) whole.0 whole.1 told.1.0 told.0 whole.2 told.1.1 in
       let read = sym whole.3 ∙ ap (order_in plan id) same.0 ∙ told.1.2 in
       absurd cc
 
@@ -183,11 +183,11 @@ module _ {D : Type 0} (f : Face D) (verdict : Verdicts) (told : Told) (words : L
       → (plan ≡ work.script.plan) × (behind ≡ Some work.behind)
   same_script plan behind s =
       let first = s.first work.bytes work.there in
-      let same = same_whole (framed MOST_SCRIPT work.bytes) s.body first.0 work.body work.behind first.1 work.first in
+      let same = same_whole (frame_of MOST_SCRIPT work.bytes) s.body first.0 work.body work.behind first.1 work.first in
       let one : s.script ≡ work.script = ap (script_in work.script) (sym s.says ∙ ap script_of same.0 ∙ work.says) in
       (sym s.plan_is ∙ ap (λ (x : Script). x.plan) one, first.2 ∙ ap Some same.1)
 
-  module _ (stop : Stop)
+  module _ (stop : NodeStop)
       (a : Answers f verdict work.script.plan work.p (Some work.behind) before now asked store store_now stop) where
     abbrev own : Station
     own = station_of work.script.plan work.p
@@ -225,7 +225,7 @@ module _ {D : Type 0} (f : Face D) (verdict : Verdicts) (told : Told) (words : L
         omega (arith, room, full, end_is)
 
     by_stop : (us : List Order) → work.orders ≡ a.ends.orders ++ us → Tell work.script.plan own.id read.0 us []
-        → (s : Stop) (next : Option Order)
+        → (s : NodeStop) (next : Option Order)
         → HaltsAt work.script.plan own.id (length a.ends.orders) next read.0 s
         → Leaves f verdict work.script.plan own work.script.plan.aus work.p.copies reached next
         a.ends.taken_then now a.last asked s
@@ -253,7 +253,7 @@ module _ {D : Type 0} (f : Face D) (verdict : Verdicts) (told : Told) (words : L
         by_stop left_to_tell.0 left_to_tell.1 left_to_tell.2 stop a.ends.halts.next (a.ends.halts.why read.0 read.2)
         a.ends.halts.leaves
 
-  served : (e : End) (plan : Plan) (behind : Option (List ℕ)) (p : PeerPlan) → plan ≡ work.script.plan
+  served : (e : NodeEnd) (plan : Plan) (behind : Option (List ℕ)) (p : PeerPlan) → plan ≡ work.script.plan
       → behind ≡ Some work.behind → p ≡ work.p → Serves f verdict plan p behind before now asked store store_now e
       → Serves f verdict work.script.plan work.p (Some work.behind) before now asked store store_now e
   served e plan behind p plans behinds peers serves =
@@ -261,7 +261,7 @@ module _ {D : Type 0} (f : Face D) (verdict : Verdicts) (told : Told) (words : L
       (subst (λ b. Serves f verdict work.script.plan p b before now asked store store_now e) behinds
       (subst (λ x. Serves f verdict x p behind before now asked store store_now e) plans serves))
 
-  serves : (e : End) → HasPeer f verdict work.id left before now asked store store_now e
+  serves : (e : NodeEnd) → HasPeer f verdict work.id left before now asked store store_now e
       → Serves f verdict work.script.plan work.p (Some work.behind) before now asked store store_now e
   serves e has =
       let same = same_script has.plan has.behind has.scripted in
@@ -269,7 +269,7 @@ module _ {D : Type 0} (f : Face D) (verdict : Verdicts) (told : Told) (words : L
       served e has.plan has.behind has.p same.0 same.1 peers has.serves
 
   -- a store was opened, and the run went on
-  pub completes_over : (e : End) → ComesOver f verdict work.id left before now asked store store_now e
+  pub completes_over : (e : NodeEnd) → ComesOver f verdict work.id left before now asked store store_now e
       → HasEnded source source_now (f.faults store) (f.faults store_now) sink sink_now e → Completes (status_of e)
   completes_over end.Unnamed came cause = absurd came
   completes_over (end.Unopened stop) came cause = absurd came
@@ -277,13 +277,13 @@ module _ {D : Type 0} (f : Face D) (verdict : Verdicts) (told : Told) (words : L
   completes_over (end.Unscripted (Unread reading.Memory)) came cause = inr refl
   completes_over (end.Unscripted Unframed) came cause = absurd (by_frame (came.0 work.bytes work.there))
     where
-      by_frame : (framed MOST_SCRIPT work.bytes ≡ Ended) ⊎ (framed MOST_SCRIPT work.bytes ≡ Broken) → ⊥
+      by_frame : (frame_of MOST_SCRIPT work.bytes ≡ Ended) ⊎ (frame_of MOST_SCRIPT work.bytes ≡ Broken) → ⊥
       by_frame (inl ended) = let read = sym ended ∙ work.first in absurd cc
       by_frame (inr broken) = let read = sym broken ∙ work.first in absurd cc
   completes_over (end.Unscripted (Unsaid (script.BadLine line))) came cause =
       let bad = came.0 in
       let first = bad.2 work.bytes work.there in
-      let same = same_whole (framed MOST_SCRIPT work.bytes) bad.0 first.0 work.body work.behind first.1 work.first in
+      let same = same_whole (frame_of MOST_SCRIPT work.bytes) bad.0 first.0 work.body work.behind first.1 work.first in
       let read : Err line ≡ Ok work.script = sym bad.1 ∙ ap script_of same.0 ∙ work.says in
       absurd cc
   completes_over (end.Unscripted (Unsaid script.Memory)) came cause = inr refl

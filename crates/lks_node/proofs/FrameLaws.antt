@@ -2,15 +2,15 @@
 use Rattle.std.proofs.Common.{◌≡◌, ℕ, Bool, true, false, List, [], ◌∷◌, ◌<◌, ◌≤◌, ap, arith, take, refl, if◌then◌else◌}
 use Rattle.std.specs.Prelude.{nat_le, ◌&&◌, length}
 use Rattle.std.specs.Int.{from_be_bytes, w32}
-use Rattle.lks_node.specs.Framing.{framed, Ended, Broken, Whole}
+use Rattle.lks_node.specs.Framing.{frame_of, Ended, Broken, Whole}
 
 not_ended : (b : Bool) (body rest : List ℕ) → (if b then Whole body rest else Broken) ≡ Ended → ⊥
 not_ended true body rest e = cc
 not_ended false body rest e = cc
 
 -- nothing else is an end than no bytes
-pub ended_none : (most : ℕ) (bytes : List ℕ) → framed most bytes ≡ Ended → bytes ≡ []
-unfolding framed
+pub ended_none : (most : ℕ) (bytes : List ℕ) → frame_of most bytes ≡ Ended → bytes ≡ []
+unfolding frame_of
 ended_none most [] e = refl
 ended_none most (a ∷ []) e = absurd cc
 ended_none most (a ∷ b ∷ []) e = absurd cc

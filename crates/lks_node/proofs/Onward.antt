@@ -17,12 +17,12 @@ use Rattle.lks_node.specs.Replies.{reply}
 use Rattle.lks_node.specs.Telling.{Begins, IsFoundLast, Tell}
 use Rattle.lks_node.specs.declared.ends.Rest.{Rest}
 use Rattle.lks_node.specs.declared.ends.Rest.TheVariants as rest
-use Rattle.lks_node.specs.declared.ends.Stop.TheVariants.{Rested}
-use Rattle.lks_node.specs.declared.ends.Stop.{Stop}
+use Rattle.lks_node.specs.declared.ends.NodeStop.TheVariants.{Rested}
+use Rattle.lks_node.specs.declared.ends.NodeStop.{NodeStop}
 use Rattle.lks_node.specs.declared.nodes.Node.{Node}
 use Rattle.lks_node.specs.declared.orders.Order.{Order}
 use Rattle.lks_node.specs.declared.orders.Order.TheVariants.{Hear, Do, Pass}
-use Rattle.lks_inbox.specs.Received.{sent, asked_by}
+use Rattle.lks_inbox.specs.Received.{envelope_of, asked_by}
 use Rattle.std.specs.Option.{option_to_list}
 
 -- One order more.
@@ -58,7 +58,7 @@ room_more verdict own p (x ∷ os) o had one = (had.0, room_more verdict own (af
 -- What the judge was asked.
 
 at_most_one : (id : ℕ) (o : Order) → length (asked_for id o) ≤ 1
-at_most_one id (Hear from bytes) = by_question (asked_by (sent from id bytes))
+at_most_one id (Hear from bytes) = by_question (asked_by (envelope_of from id bytes))
   where
     by_question : {X : Type 0} (q : Option X) → length (option_to_list q) ≤ 1
     by_question None = omega arith
@@ -127,7 +127,7 @@ module _ {D : Type 0} (f : Face D) (verdict : Verdicts) (plan : Plan) (own : Sta
     at = subst (λ q. IsAt f aus copies q next now) (sym (after_more verdict own p w.orders turn.order)) turn.at;
   }
 
-  pub ended : (n : ℕ) (l t now : Option (List ℕ)) (node next : Node D) (asked heard : List Question) (stop : Stop)
+  pub ended : (n : ℕ) (l t now : Option (List ℕ)) (node next : Node D) (asked heard : List Question) (stop : NodeStop)
       (w : Went n l t node asked)
       → (f.told next.host.journal.disk → f.told node.host.journal.disk) → n ≤ MOST_EVENTS
       → Halts f verdict plan own aus copies n (after_all verdict own p w.orders) l t now next heard stop
@@ -156,7 +156,7 @@ module _ {D : Type 0} (f : Face D) (verdict : Verdicts) (plan : Plan) (own : Sta
       (subst (λ (x : Station). Turns f v plan x aus copies q l m t s next now) is turn)
 
   pub halts_as : (v : Verdicts) (w : Station) (n : ℕ) (q : Progress) (l t s : Option (List ℕ)) (next : Node D)
-      (now : List Question) (stop : Stop)
+      (now : List Question) (stop : NodeStop)
       → v ≡ verdict → w ≡ own
       → Halts f v plan w aus copies n q l t s next now stop
       → Halts f verdict plan own aus copies n q l t s next now stop

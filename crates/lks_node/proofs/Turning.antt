@@ -14,8 +14,8 @@ use Rattle.lks_node.specs.Ending.{HasRoom, Halts, Turns}
 use Rattle.lks_node.specs.Going.{Progress, after, does}
 use Rattle.lks_node.specs.Replies.{reply}
 use Rattle.lks_node.specs.Telling.{Begins}
-use Rattle.lks_node.specs.declared.ends.Stop.{Stop}
-use Rattle.lks_node.specs.declared.ends.Stop.TheVariants.{Rested, Fell, Untold}
+use Rattle.lks_node.specs.declared.ends.NodeStop.{NodeStop}
+use Rattle.lks_node.specs.declared.ends.NodeStop.TheVariants.{Rested, Fell, Untold}
 use Rattle.lks_node.specs.declared.nodes.Node.{Node}
 use Rattle.lks_node.specs.declared.orders.Order.{Order}
 
@@ -25,13 +25,14 @@ module _ {D : Type 0} (f : Face D) (verdict : Verdicts) (plan : Plan) (own : Sta
     (found : (bytes : List ℕ) → left ≡ Some bytes
     → (more : List ℕ) × Begins plan own.id bytes o more × (left_now ≡ Some more))
     (room : f.told node.host.journal.disk → HasRoom p.batches) where
-  pub turned : (result : Result (Unit {0}) Stop) → OnOk result (IsAt f aus copies (after verdict own p o) node asked)
+  pub turned : (result : Result (Unit {0}) NodeStop)
+      → OnOk result (IsAt f aus copies (after verdict own p o) node asked)
       → ((bytes : List ℕ) → before ≡ Some bytes → OnOk result (now ≡ Some (bytes ++ reply (does verdict own p o))))
       → OnOk result (Turns f verdict plan own aus copies p left left_now before now node asked)
   turned (Ok x) at said = record { order = o; told = found; said = said; room = room; at = at }
   turned (Err stop) at said = tt
 
-  pub halted : (n : ℕ) (result : Result (Unit {0}) Stop) → n < MOST_EVENTS
+  pub halted : (n : ℕ) (result : Result (Unit {0}) NodeStop) → n < MOST_EVENTS
       → IfErr result
       (StopsIn f aus copies p (after verdict own p o) (reply (does verdict own p o)) node asked before now)
       → IfErr result (Halts f verdict plan own aus copies n p left before now node asked)

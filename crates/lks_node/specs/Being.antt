@@ -17,8 +17,8 @@ use Rattle.lks_node.specs.Going.{Progress, journal_of}
 use Rattle.lks_node.specs.declared.ends.Fall.{Fall}
 use Rattle.lks_node.specs.declared.ends.Fall.TheVariants.{Failed, Memory}
 use Rattle.lks_node.specs.declared.ends.Rest.TheVariants as rest
-use Rattle.lks_node.specs.declared.ends.Stop.{Stop}
-use Rattle.lks_node.specs.declared.ends.Stop.TheVariants.{Rested, Fell, Untold}
+use Rattle.lks_node.specs.declared.ends.NodeStop.{NodeStop}
+use Rattle.lks_node.specs.declared.ends.NodeStop.TheVariants.{Rested, Fell, Untold}
 use Rattle.lks_node.specs.declared.frames.Unread.TheVariants as reading
 use Rattle.lks_node.specs.declared.nodes.Node.{Node}
 use Rattle.lks_outside.specs.Streams.{AddsFront}
@@ -74,14 +74,14 @@ FallsFrom f p q node = f.told node.host.journal.disk → Falls f p.batches q.bat
 -- What is left of the answer to an order, which leads from p to q: the step wasn't taken and nothing was written, or it
 -- was, and of the reply a front was written.
 abbrev pub StopsIn : {D : Type 0} → Face D → List AuPlan → List Holding → Progress → Progress → List ℕ → Node D
-    → List Question → Option (List ℕ) → Option (List ℕ) → Stop → Type 0
+    → List Question → Option (List ℕ) → Option (List ℕ) → NodeStop → Type 0
 StopsIn f aus copies p q said node asked before now (Rested rest) = ⊥
 StopsIn f aus copies p q said node asked before now (Fell fall) = FallsFrom f p q node × (now ≡ before)
 StopsIn f aus copies p q said node asked before now (Untold stop) =
     IsAt f aus copies q node asked × ((bytes : List ℕ) → before ≡ Some bytes → AddsFront bytes said now)
 
 -- why it stopped, by the counts of faults of the store and of the sink
-abbrev pub IsCausedBy : ℕ → ℕ → ℕ → ℕ → Stop → Type 0
+abbrev pub IsCausedBy : ℕ → ℕ → ℕ → ℕ → NodeStop → Type 0
 IsCausedBy store store_now sink sink_now (Rested rest) = ⊥
 IsCausedBy store store_now sink sink_now (Fell Failed) = Rose store store_now
 IsCausedBy store store_now sink sink_now (Fell Memory) = Unit {0}
@@ -89,7 +89,7 @@ IsCausedBy store store_now sink sink_now (Untold writing.Failed) = (store_now �
 IsCausedBy store store_now sink sink_now (Untold writing.Memory) = store_now ≡ store
 
 -- why it stopped, by the counts of faults of source, store and sink; a store fails in a step alone
-abbrev pub HasStopped : ℕ → ℕ → ℕ → ℕ → ℕ → ℕ → Stop → Type 0
+abbrev pub HasStopped : ℕ → ℕ → ℕ → ℕ → ℕ → ℕ → NodeStop → Type 0
 HasStopped source source_now store store_now sink sink_now (Rested (rest.Unread reading.Failed)) =
     (store_now ≡ store) × Rose source source_now
 HasStopped source source_now store store_now sink sink_now (Rested (rest.Unread reading.Memory)) = store_now ≡ store

@@ -1,13 +1,13 @@
 -- The answer of a run that came so far, and the exit code of each answer.
 use Rattle.std.specs.Prelude.{ℕ}
-use Rattle.lks_node.specs.declared.ends.End.{End}
-use Rattle.lks_node.specs.declared.ends.End.TheVariants as end
+use Rattle.lks_node.specs.declared.ends.NodeEnd.{NodeEnd}
+use Rattle.lks_node.specs.declared.ends.NodeEnd.TheVariants as end
 use Rattle.lks_node.specs.declared.ends.Fall.TheVariants as fall
 use Rattle.lks_node.specs.declared.ends.Rest.{Rest}
 use Rattle.lks_node.specs.declared.ends.Rest.TheVariants as rest
-use Rattle.lks_node.specs.declared.ends.Stop.TheVariants.{Rested, Fell, Untold}
+use Rattle.lks_node.specs.declared.ends.NodeStop.TheVariants.{Rested, Fell, Untold}
 use Rattle.lks_node.specs.declared.ends.Unready.TheVariants as unready
-use Rattle.lks_node.specs.declared.ends.Unscripted.TheVariants.{Unread, Unframed, Unsaid}
+use Rattle.lks_node.specs.declared.ends.NoScript.TheVariants.{Unread, Unframed, Unsaid}
 use Rattle.lks_node.specs.declared.frames.Unread.TheVariants as reading
 use Rattle.lks_node.specs.declared.statuses.NodeStatus.{NodeStatus}
 use Rattle.lks_node.specs.declared.statuses.NodeStatus.TheVariants.{Done, Usage, BadScript, ReadFault, WriteFault}
@@ -26,7 +26,7 @@ rest_status (rest.Bad index) = BadFrame index
 rest_status rest.Memory = NoMemory
 rest_status rest.Full = Full
 
-abbrev pub status_of : End → NodeStatus
+abbrev pub status_of : NodeEnd → NodeStatus
 status_of end.Unnamed = Usage
 status_of (end.Unopened opening.Failed) = OpenFault
 status_of (end.Unopened opening.Memory) = NoMemory

@@ -11,7 +11,7 @@ use Rattle.lks_law.specs.Polls.{Station}
 use Rattle.lks_law.specs.Questions.{Verdicts}
 use Rattle.lks_law.specs.World.{deposits, honest_peer, station_of}
 use Rattle.lks_node.specs.Ending.{HadRoom}
-use Rattle.lks_node.specs.Framing.{framed, Whole}
+use Rattle.lks_node.specs.Framing.{frame_of, Whole}
 use Rattle.lks_node.specs.Going.{Progress, journal_of}
 use Rattle.lks_node.specs.Opening.{BeginsWith, IsSorted}
 use Rattle.lks_node.specs.Promise.{Told}
@@ -44,7 +44,7 @@ pub record HasWork (verdict : Verdicts) (told : Told) (words : List (List ℕ)) 
   pub there : left ≡ Some bytes
   pub body : List ℕ
   pub behind : List ℕ
-  pub first : framed MOST_SCRIPT bytes ≡ Whole body behind
+  pub first : frame_of MOST_SCRIPT bytes ≡ Whole body behind
   pub script : Script
   pub says : script_of body ≡ Ok script
   pub p : PeerPlan

@@ -16,8 +16,8 @@ use Rattle.lks_node.specs.Going.{Progress, after, after_all, does, replies}
 use Rattle.lks_node.specs.Replies.{reply}
 use Rattle.lks_node.specs.Telling.{Begins, ForNext, HaltsAt, Tell}
 use Rattle.lks_node.specs.declared.ends.Rest.TheVariants as rest
-use Rattle.lks_node.specs.declared.ends.Stop.{Stop}
-use Rattle.lks_node.specs.declared.ends.Stop.TheVariants.{Rested, Fell, Untold}
+use Rattle.lks_node.specs.declared.ends.NodeStop.{NodeStop}
+use Rattle.lks_node.specs.declared.ends.NodeStop.TheVariants.{Rested, Fell, Untold}
 use Rattle.lks_node.specs.declared.nodes.Node.{Node}
 use Rattle.lks_node.specs.declared.orders.Order.{Order}
 
@@ -34,7 +34,7 @@ module _ {D : Type 0} (f : Face D) (verdict : Verdicts) (plan : Plan) (own : Sta
     (copies : List Holding) where
   -- It had come to q, and then stopped. Between two frames it stays where it was, and nothing is written. In a step,
   -- and in a reply, it is as far as `StopsIn` says.
-  abbrev pub Leaves : Progress → Option Order → Option (List ℕ) → Option (List ℕ) → Node D → List Question → Stop
+  abbrev pub Leaves : Progress → Option Order → Option (List ℕ) → Option (List ℕ) → Node D → List Question → NodeStop
       → Type 0
   Leaves q next before now node asked (Rested rest.Done) = IsAt f aus copies q node asked × (now ≡ before)
   Leaves q next before now node asked (Rested rest.TooMany) = IsAt f aus copies q node asked × (now ≡ before)
@@ -66,14 +66,14 @@ module _ {D : Type 0} (f : Face D) (verdict : Verdicts) (plan : Plan) (own : Sta
 
   -- so it stops behind n orders, where the source has these bytes left and the sink took these
   pub record Halts (n : ℕ) (q : Progress) (left before now : Option (List ℕ)) (node : Node D)
-      (asked : List Question) (stop : Stop) : Type 0 where
+      (asked : List Question) (stop : NodeStop) : Type 0 where
     pub next : Option Order
     pub why : (bytes : List ℕ) → left ≡ Some bytes → HaltsAt plan own.id n next bytes stop
     pub leaves : Leaves q next before now node asked stop
 
   -- From p it took these orders, of which each was answered, and then stopped.
   pub record Ends (p : Progress) (left before now : Option (List ℕ)) (node : Node D) (asked : List Question)
-      (stop : Stop) : Type 0 where
+      (stop : NodeStop) : Type 0 where
     pub orders : List Order
     pub few : length orders ≤ MOST_EVENTS
     -- what the source had left, and the sink had taken, when it stopped

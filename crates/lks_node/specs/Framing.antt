@@ -12,18 +12,18 @@ pub data Framed : Type 0 where
   Whole : (body rest : List ℕ) → Framed
 
 -- a body of this size, if it may have so many bytes and all are there
-abbrev pub sized : ℕ → ℕ → List ℕ → Framed
-sized most size rest =
+abbrev pub sized_frame : ℕ → ℕ → List ℕ → Framed
+sized_frame most size rest =
     if nat_le size most && nat_le size (length rest) then Whole (take size rest) (drop size rest) else Broken
 
 abbrev pub behind : ℕ → List ℕ → List ℕ → Framed
 behind most [] rest = Ended
-behind most (a ∷ b ∷ c ∷ d ∷ []) rest = sized most (from_be_bytes w32 (a ∷ b ∷ c ∷ d ∷ [])) rest
+behind most (a ∷ b ∷ c ∷ d ∷ []) rest = sized_frame most (from_be_bytes w32 (a ∷ b ∷ c ∷ d ∷ [])) rest
 behind most other rest = Broken
 
 -- what these bytes begin with, where a body has at most so many
-unfoldable pub framed : ℕ → List ℕ → Framed
-framed most bytes = behind most (take 4 bytes) (drop 4 bytes)
+unfoldable pub frame_of : ℕ → List ℕ → Framed
+frame_of most bytes = behind most (take 4 bytes) (drop 4 bytes)
 
 -- this was found, and of a frame what is left behind it
 abbrev pub IsFound : Framed → Option (List ℕ) → Frame → Type 0

@@ -4,7 +4,7 @@ use Rattle.std.specs.Option.{option_to_list}
 use Rattle.lks_base.specs.declared.reactions.Reaction.{Reaction}
 use Rattle.lks_base.specs.declared.records.Record.{Record}
 use Rattle.lks_outside.specs.declared.questions.Question.{Question}
-use Rattle.lks_inbox.specs.Received.{sent, asked_by, judged_by}
+use Rattle.lks_inbox.specs.Received.{envelope_of, asked_by, judged_by}
 use Rattle.lks_law.specs.Batches.{together, with_batch}
 use Rattle.lks_law.specs.Facts.{IsHeard}
 use Rattle.lks_law.specs.Polls.{Station}
@@ -29,13 +29,13 @@ journal_of p = together p.batches
 -- what an order makes the peer of this number do, while its judge has heard these
 abbrev pub deed_by : Verdicts → ℕ → List Question → Order → Option Deed
 deed_by verdict id heard (Hear from bytes) =
-    delivers (Some (sent from id bytes)) (judged_by verdict heard (sent from id bytes))
+    delivers (Some (envelope_of from id bytes)) (judged_by verdict heard (envelope_of from id bytes))
 deed_by verdict id heard (Do i) = Some (record { peer = id; input = i })
 deed_by verdict id heard (Pass ticks) = None
 
 -- what its judge is asked
 abbrev pub asked_for : ℕ → Order → List Question
-asked_for id (Hear from bytes) = option_to_list (asked_by (sent from id bytes))
+asked_for id (Hear from bytes) = option_to_list (asked_by (envelope_of from id bytes))
 asked_for id (Do i) = []
 asked_for id (Pass ticks) = []
 

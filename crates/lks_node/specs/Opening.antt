@@ -9,7 +9,7 @@ use Rattle.lks_disk.specs.Face.{Face}
 use Rattle.lks_disk.specs.declared.disks.DiskFail.{DiskFail}
 use Rattle.lks_disk.specs.declared.disks.DiskFail.TheVariants as device
 use Rattle.lks_field.specs.Frames.{HoldsBodies, IsDamagedAt}
-use Rattle.lks_host.specs.Adopting.{filled, LeavesFront}
+use Rattle.lks_host.specs.Adopting.{with_missing, LeavesFront}
 use Rattle.lks_host.specs.Bodies.{bodies_of, AreRead}
 use Rattle.lks_host.specs.Hosted.{HasFront}
 use Rattle.lks_journal.specs.Stays.{Stays}
@@ -60,7 +60,7 @@ abbrev pub BeginsWith : List Record → List ℕ → List (List Record) → Type
 BeginsWith begun file first =
     ((file ≡ []) × (first ≡ map alone begun)) ⊎
     ((held : List (List Record)) × HoldsBodies (bodies_of held) file × AreRead held
-    × (first ≡ filled begun (together held) held))
+    × (first ≡ with_missing begun (together held) held))
 
 -- So a node begins over this store, with its clock at the greatest tick of its journal, which is a whole one of its
 -- own.

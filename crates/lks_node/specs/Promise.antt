@@ -10,15 +10,15 @@ use Rattle.lks_law.specs.World.{deposits, honest_peer, station_of}
 use Rattle.lks_node.specs.Being.{HasStopped}
 use Rattle.lks_node.specs.Codes.{status_of}
 use Rattle.lks_node.specs.Ending.{Ends}
-use Rattle.lks_node.specs.Framing.{framed, Ended, Broken, Whole}
+use Rattle.lks_node.specs.Framing.{frame_of, Ended, Broken, Whole}
 use Rattle.lks_node.specs.Opening.{IsBegun, IsUnready}
 use Rattle.lks_node.specs.Words.{asked_in}
-use Rattle.lks_node.specs.declared.ends.End.{End}
-use Rattle.lks_node.specs.declared.ends.End.TheVariants as end
-use Rattle.lks_node.specs.declared.ends.Stop.{Stop}
+use Rattle.lks_node.specs.declared.ends.NodeEnd.{NodeEnd}
+use Rattle.lks_node.specs.declared.ends.NodeEnd.TheVariants as end
+use Rattle.lks_node.specs.declared.ends.NodeStop.{NodeStop}
 use Rattle.lks_node.specs.declared.ends.Unready.TheVariants as unready
-use Rattle.lks_node.specs.declared.ends.Unscripted.{Unscripted}
-use Rattle.lks_node.specs.declared.ends.Unscripted.TheVariants.{Unread, Unframed, Unsaid}
+use Rattle.lks_node.specs.declared.ends.NoScript.{NoScript}
+use Rattle.lks_node.specs.declared.ends.NoScript.TheVariants.{Unread, Unframed, Unsaid}
 use Rattle.lks_node.specs.declared.frames.Unread.TheVariants as reading
 use Rattle.lks_node.specs.declared.nodes.Node.{Node}
 use Rattle.lks_node.specs.declared.runs.TheConstants.{MOST_SCRIPT}
@@ -35,23 +35,23 @@ pub record IsScripted (left now : Option (List ℕ)) (plan : Plan) : Type 0 wher
   pub says : script_of body ≡ Ok script
   pub plan_is : script.plan ≡ plan
   pub first : (bytes : List ℕ) → left ≡ Some bytes
-      → (rest : List ℕ) × (framed MOST_SCRIPT bytes ≡ Whole body rest) × (now ≡ Some rest)
+      → (rest : List ℕ) × (frame_of MOST_SCRIPT bytes ≡ Whole body rest) × (now ≡ Some rest)
 
 -- there is no first frame, or it is no script
-abbrev pub IsUnscripted : Option (List ℕ) → Unscripted → Type 0
+abbrev pub IsUnscripted : Option (List ℕ) → NoScript → Type 0
 IsUnscripted left (Unread e) = Unit {0}
 IsUnscripted left Unframed =
-    (bytes : List ℕ) → left ≡ Some bytes → (framed MOST_SCRIPT bytes ≡ Ended) ⊎ (framed MOST_SCRIPT bytes ≡ Broken)
+    (bytes : List ℕ) → left ≡ Some bytes → (frame_of MOST_SCRIPT bytes ≡ Ended) ⊎ (frame_of MOST_SCRIPT bytes ≡ Broken)
 IsUnscripted left (Unsaid (script.BadLine line)) =
     (body : List ℕ) × (script_of body ≡ Err line)
-    × ((bytes : List ℕ) → left ≡ Some bytes → (rest : List ℕ) × (framed MOST_SCRIPT bytes ≡ Whole body rest))
+    × ((bytes : List ℕ) → left ≡ Some bytes → (rest : List ℕ) × (frame_of MOST_SCRIPT bytes ≡ Whole body rest))
 IsUnscripted left (Unsaid script.Memory) = Unit {0}
 
 module _ {D : Type 0} (f : Face D) (verdict : Verdicts) (plan : Plan) (p : PeerPlan)
     (left before now : Option (List ℕ)) (asked : List Question) (store store_now : D) where
   -- the peer's journal was made or taken over, and it answered frames as `Ends` says; the store is handed back as it
   -- left it
-  pub record Answers (stop : Stop) : Type 0 where
+  pub record Answers (stop : NodeStop) : Type 0 where
     pub node : Node D
     pub begun : IsBegun f plan p store node
     pub last : Node D
@@ -59,7 +59,7 @@ module _ {D : Type 0} (f : Face D) (verdict : Verdicts) (plan : Plan) (p : PeerP
     pub back : store_now ≡ last.host.journal.disk
 
   -- so it goes on with the peer of this plan, or the store doesn't become a journal of its own
-  abbrev pub Serves : End → Type 0
+  abbrev pub Serves : NodeEnd → Type 0
   Serves end.Unnamed = ⊥
   Serves (end.Unopened stop) = ⊥
   Serves (end.Unscripted none) = ⊥
@@ -71,7 +71,7 @@ module _ {D : Type 0} (f : Face D) (verdict : Verdicts) (plan : Plan) (p : PeerP
 module _ {D : Type 0} (f : Face D) (verdict : Verdicts) (id : ℕ) (left before now : Option (List ℕ))
     (asked : List Question) (store store_now : D) where
   -- the first frame is a script with this honest peer, and it came so far
-  pub record HasPeer (e : End) : Type 0 where
+  pub record HasPeer (e : NodeEnd) : Type 0 where
     pub plan : Plan
     pub behind : Option (List ℕ)
     pub scripted : IsScripted left behind plan
@@ -87,7 +87,7 @@ module _ {D : Type 0} (f : Face D) (verdict : Verdicts) (id : ℕ) (left before 
     pub nobody : honest_peer id plan ≡ None
 
   -- how far a run came over a store that was opened; before its journal was there nothing was written
-  abbrev pub ComesOver : End → Type 0
+  abbrev pub ComesOver : NodeEnd → Type 0
   ComesOver end.Unnamed = ⊥
   ComesOver (end.Unopened stop) = ⊥
   ComesOver (end.Unscripted none) = IsUnscripted left none × (store_now ≡ store) × (now ≡ before)
@@ -96,7 +96,7 @@ module _ {D : Type 0} (f : Face D) (verdict : Verdicts) (id : ℕ) (left before 
   ComesOver (end.Answered stop) = HasPeer (end.Answered stop)
 
 -- which counts of faults rose: of the source, the store and the sink
-abbrev pub HasEnded : ℕ → ℕ → ℕ → ℕ → ℕ → ℕ → End → Type 0
+abbrev pub HasEnded : ℕ → ℕ → ℕ → ℕ → ℕ → ℕ → NodeEnd → Type 0
 HasEnded source source_now store store_now sink sink_now end.Unnamed = Unit {0}
 HasEnded source source_now store store_now sink sink_now (end.Unopened stop) = Unit {0}
 HasEnded source source_now store store_now sink sink_now (end.Unscripted (Unread reading.Failed)) =
@@ -122,7 +122,7 @@ pub record Told : Type 1 where
 module _ {D : Type 0} (f : Face D) (verdict : Verdicts) (told : Told) (words : List (List ℕ))
     (left before now : Option (List ℕ)) (asked : List Question) where
   -- the words name a peer, and the store at this path was opened
-  pub record Opens (store_now : D) (e : End) : Type 0 where
+  pub record Opens (store_now : D) (e : NodeEnd) : Type 0 where
     pub id : ℕ
     pub path : List ℕ
     pub named : asked_in words ≡ Some (id, path)
@@ -131,7 +131,7 @@ module _ {D : Type 0} (f : Face D) (verdict : Verdicts) (told : Told) (words : L
     pub came : ComesOver f verdict id left before now asked store store_now e
 
   -- how far a run came; a store is handed back where one was opened
-  abbrev pub Comes : End → Option D → Type 0
+  abbrev pub Comes : NodeEnd → Option D → Type 0
   Comes end.Unnamed None = (asked_in words ≡ None) × (now ≡ before)
   Comes (end.Unopened stop) None = (id : ℕ) × (path : List ℕ) × (asked_in words ≡ Some (id, path)) × (now ≡ before)
   Comes (end.Unscripted none) None = ⊥
@@ -142,6 +142,6 @@ module _ {D : Type 0} (f : Face D) (verdict : Verdicts) (told : Told) (words : L
 
   -- the answer says how far the run came
   pub record Promise (answer : NodeStatus) (store_now : Option D) : Type 0 where
-    pub end : End
+    pub end : NodeEnd
     pub answered : answer ≡ status_of end
     pub came : Comes end store_now

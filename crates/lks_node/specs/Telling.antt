@@ -2,19 +2,19 @@
 use Rattle.std.specs.Prelude.{◌≡◌, ◌⊎◌, ◌<◌, ◌+◌, ℕ, Option, Some, None, List, [], ◌∷◌, Result, Ok, Err}
 use Rattle.lks_base.specs.declared.limits.TheConstants.{MOST_EVENTS}
 use Rattle.lks_base.specs.declared.plans.Plan.{Plan}
-use Rattle.lks_node.specs.Framing.{framed, Broken, Whole}
+use Rattle.lks_node.specs.Framing.{frame_of, Broken, Whole}
 use Rattle.lks_node.specs.Orders.{order_in}
 use Rattle.lks_node.specs.declared.answering.TheConstants.{MOST_BODY}
 use Rattle.lks_node.specs.declared.ends.Rest.{Rest}
 use Rattle.lks_node.specs.declared.ends.Rest.TheVariants as rest
-use Rattle.lks_node.specs.declared.ends.Stop.{Stop}
-use Rattle.lks_node.specs.declared.ends.Stop.TheVariants.{Rested, Fell, Untold}
+use Rattle.lks_node.specs.declared.ends.NodeStop.{NodeStop}
+use Rattle.lks_node.specs.declared.ends.NodeStop.TheVariants.{Rested, Fell, Untold}
 use Rattle.lks_node.specs.declared.orders.Order.{Order}
 
 -- the bytes begin with a frame that tells this
 abbrev pub Begins : Plan → ℕ → List ℕ → Order → List ℕ → Type 0
 Begins plan id bytes o more =
-    (body : List ℕ) × (framed MOST_BODY bytes ≡ Whole body more) × (order_in plan id body ≡ Some o)
+    (body : List ℕ) × (frame_of MOST_BODY bytes ≡ Whole body more) × (order_in plan id body ≡ Some o)
 
 -- they begin with frames that tell these, one after another
 abbrev pub Tell : Plan → ℕ → List ℕ → List Order → List ℕ → Type 0
@@ -24,8 +24,8 @@ Tell plan id bytes (o ∷ os) more = (behind : List ℕ) × Begins plan id bytes
 -- they begin with what is no frame, or with one that tells nothing
 abbrev pub IsBad : Plan → ℕ → List ℕ → Type 0
 IsBad plan id bytes =
-    (framed MOST_BODY bytes ≡ Broken) ⊎
-    ((body more : List ℕ) × (framed MOST_BODY bytes ≡ Whole body more) × (order_in plan id body ≡ None))
+    (frame_of MOST_BODY bytes ≡ Broken) ⊎
+    ((body more : List ℕ) × (frame_of MOST_BODY bytes ≡ Whole body more) × (order_in plan id body ≡ None))
 
 -- the next order is there, and this is so of it
 abbrev pub ForNext : Option Order → (Order → Type 0) → Type 0
@@ -58,7 +58,7 @@ module _ (plan : Plan) (id : ℕ) (n : ℕ) (next : Option Order) (bytes : List 
   HasNext = (n < MOST_EVENTS) × ForNext next (λ o. (more : List ℕ) × Begins plan id bytes o more)
 
   -- why it stopped there behind n orders
-  abbrev pub HaltsAt : Stop → Type 0
+  abbrev pub HaltsAt : NodeStop → Type 0
   HaltsAt (Rested rest.Done) = bytes ≡ []
   HaltsAt (Rested rest.TooMany) = (n ≡ MOST_EVENTS) × (bytes ≡ [] → ⊥)
   HaltsAt (Rested (rest.Unread e)) = Unit {0}

@@ -10,7 +10,7 @@ ghost use Rattle.lks_node.specs.Going.{Progress, IsTaken};
 ghost use Rattle.lks_node.specs.Telling.{IsFoundLast, IsFoundNext};
 ghost use Rattle.lks_outside.specs.Counts.{Rose};
 
-use crate::ends::{Rest, Stop};
+use crate::ends::{NodeStop, Rest};
 use crate::frames::{Frame, Unread, read_frame, read_upto};
 use crate::nodes::Node;
 use crate::orders::{Order, read_order};
@@ -82,7 +82,7 @@ fn turn<R: Wait, S: Source, K: Sink, D: Disk, J: EffortJudge>(
     source: &mut S,
     sink: &mut K,
     judge: &mut J,
-) -> Result<(), Stop>
+) -> Result<(), NodeStop>
     requires fit { IsFit D.face pool.now node.old }
     requires at { (aus : List PlannedAu) × (copies : List Held) × (p : Progress)
         × IsAt D.face aus copies p node.old (J.heard judge.old) }
@@ -111,11 +111,11 @@ fn turn<R: Wait, S: Source, K: Sink, D: Disk, J: EffortJudge>(
 {
     let order = match next_order(alloc, plan, node.host.id(), place + 1, source) {
         Ok(Some(order)) => order,
-        Ok(None) => return Err(Stop::Rested(Rest::Done)),
-        Err(rest) => return Err(Stop::Rested(rest)),
+        Ok(None) => return Err(NodeStop::Rested(Rest::Done)),
+        Err(rest) => return Err(NodeStop::Rested(rest)),
     };
     if node.host.room() < BATCH_ROOM {
-        return Err(Stop::Rested(Rest::Full));
+        return Err(NodeStop::Rested(Rest::Full));
     }
     node.answer(alloc, rt, pool, judge, sink, &order)
 }
@@ -130,7 +130,7 @@ pub fn answer_all<R: Wait, S: Source, K: Sink, D: Disk, J: EffortJudge>(
     source: &mut S,
     sink: &mut K,
     judge: &mut J,
-) -> Stop
+) -> NodeStop
     requires fit { IsFit D.face pool.now node.old }
     requires at { (aus : List PlannedAu) × (copies : List Held) × (p : Progress)
         × IsAt D.face aus copies p node.old (J.heard judge.old) }
@@ -154,5 +154,5 @@ pub fn answer_all<R: Wait, S: Source, K: Sink, D: Disk, J: EffortJudge>(
             Err(stop) => return stop,
         }
     }
-    Stop::Rested(last(alloc, source))
+    NodeStop::Rested(last(alloc, source))
 }

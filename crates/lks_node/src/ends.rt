@@ -2,7 +2,7 @@
 
 ghost use Rattle.std.specs.Prelude.{◌≡◌};
 ghost use Rattle.lks_node.specs.Codes.{status_of, rest_status};
-ghost use Rattle.lks_node.specs.declared.ends.Stop.TheVariants.{Fell as HasFallen, Untold as IsUntold};
+ghost use Rattle.lks_node.specs.declared.ends.NodeStop.TheVariants.{Fell as HasFallen, Untold as IsUntold};
 
 use crate::frames::Unread;
 use crate::statuses::NodeStatus;
@@ -12,7 +12,7 @@ use lks_store::OpenStop;
 
 /// Why there is no script.
 #[derive(Clone, Copy)]
-pub enum Unscripted {
+pub enum NoScript {
     Unread(Unread),
     /// The first frame isn't whole, or there is none.
     Unframed,
@@ -59,7 +59,7 @@ pub enum Fall {
 
 /// Where the answering of frames ended.
 #[derive(Clone, Copy)]
-pub enum Stop {
+pub enum NodeStop {
     /// Between two frames.
     Rested(Rest),
     /// In the step of a frame.
@@ -68,61 +68,61 @@ pub enum Stop {
     Untold(WriteStop),
 }
 
-impl From<Fall> for Stop {
+impl From<Fall> for NodeStop {
     ghost from_gives = { λ fall e. e ≡ HasFallen fall };
 
     fn from(fall: Fall) -> Self {
-        Stop::Fell(fall)
+        NodeStop::Fell(fall)
     }
 }
 
-impl From<WriteStop> for Stop {
+impl From<WriteStop> for NodeStop {
     ghost from_gives = { λ stop e. e ≡ IsUntold stop };
 
     fn from(stop: WriteStop) -> Self {
-        Stop::Untold(stop)
+        NodeStop::Untold(stop)
     }
 }
 
 /// How far a run came.
 #[derive(Clone, Copy)]
-pub enum End {
+pub enum NodeEnd {
     /// The words aren't the number of a peer and a path.
     Unnamed,
     Unopened(OpenStop),
-    Unscripted(Unscripted),
+    Unscripted(NoScript),
     /// The script has no such honest peer.
     Strange,
     Unready(Unready),
-    Answered(Stop),
+    Answered(NodeStop),
 }
 
-impl End {
+impl NodeEnd {
     /// The answer of a run that came so far.
     pub fn status(self) -> NodeStatus
         ensures { result ≡ status_of self }
     {
         match self {
-            End::Unnamed => NodeStatus::Usage,
-            End::Unopened(OpenStop::Failed) => NodeStatus::OpenFault,
-            End::Unopened(OpenStop::Memory) => NodeStatus::NoMemory,
-            End::Unscripted(Unscripted::Unread(Unread::Failed)) => NodeStatus::ReadFault,
-            End::Unscripted(Unscripted::Unread(Unread::Memory)) => NodeStatus::NoMemory,
-            End::Unscripted(Unscripted::Unframed) => NodeStatus::BadFrame { index: 0 },
-            End::Unscripted(Unscripted::Unsaid(ScriptFault::BadLine { line })) =>
+            NodeEnd::Unnamed => NodeStatus::Usage,
+            NodeEnd::Unopened(OpenStop::Failed) => NodeStatus::OpenFault,
+            NodeEnd::Unopened(OpenStop::Memory) => NodeStatus::NoMemory,
+            NodeEnd::Unscripted(NoScript::Unread(Unread::Failed)) => NodeStatus::ReadFault,
+            NodeEnd::Unscripted(NoScript::Unread(Unread::Memory)) => NodeStatus::NoMemory,
+            NodeEnd::Unscripted(NoScript::Unframed) => NodeStatus::BadFrame { index: 0 },
+            NodeEnd::Unscripted(NoScript::Unsaid(ScriptFault::BadLine { line })) =>
                 NodeStatus::BadScript { line },
-            End::Unscripted(Unscripted::Unsaid(ScriptFault::Memory)) => NodeStatus::NoMemory,
-            End::Strange => NodeStatus::Stranger,
-            End::Unready(Unready::Failed) => NodeStatus::DiskFault,
-            End::Unready(Unready::Memory) => NodeStatus::NoMemory,
-            End::Unready(Unready::Damaged { offset }) => NodeStatus::Damaged { offset },
-            End::Unready(Unready::Full) => NodeStatus::Full,
-            End::Unready(Unready::Foreign { batch }) => NodeStatus::Foreign { batch },
-            End::Answered(Stop::Rested(rest)) => rest.status(),
-            End::Answered(Stop::Fell(Fall::Failed)) => NodeStatus::DiskFault,
-            End::Answered(Stop::Fell(Fall::Memory)) => NodeStatus::NoMemory,
-            End::Answered(Stop::Untold(WriteStop::Failed)) => NodeStatus::WriteFault,
-            End::Answered(Stop::Untold(WriteStop::Memory)) => NodeStatus::NoMemory,
+            NodeEnd::Unscripted(NoScript::Unsaid(ScriptFault::Memory)) => NodeStatus::NoMemory,
+            NodeEnd::Strange => NodeStatus::Stranger,
+            NodeEnd::Unready(Unready::Failed) => NodeStatus::DiskFault,
+            NodeEnd::Unready(Unready::Memory) => NodeStatus::NoMemory,
+            NodeEnd::Unready(Unready::Damaged { offset }) => NodeStatus::Damaged { offset },
+            NodeEnd::Unready(Unready::Full) => NodeStatus::Full,
+            NodeEnd::Unready(Unready::Foreign { batch }) => NodeStatus::Foreign { batch },
+            NodeEnd::Answered(NodeStop::Rested(rest)) => rest.status(),
+            NodeEnd::Answered(NodeStop::Fell(Fall::Failed)) => NodeStatus::DiskFault,
+            NodeEnd::Answered(NodeStop::Fell(Fall::Memory)) => NodeStatus::NoMemory,
+            NodeEnd::Answered(NodeStop::Untold(WriteStop::Failed)) => NodeStatus::WriteFault,
+            NodeEnd::Answered(NodeStop::Untold(WriteStop::Memory)) => NodeStatus::NoMemory,
         }
     }
 }

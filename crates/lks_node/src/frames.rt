@@ -1,6 +1,6 @@
 //! Frames: bytes behind their length, a number of four bytes.
 ghost use Rattle.std.specs.Prelude.{◌≡◌, ◌+◌, ◌<◌, ◌≤◌, ℕ, List, length, take, drop, Some, IfOk, IsErrOf, vec_len};
-ghost use Rattle.lks_node.specs.Framing.{behind, framed, sized, IsFound, Took};
+ghost use Rattle.lks_node.specs.Framing.{behind, frame_of, sized_frame, IsFound, Took};
 ghost use Rattle.lks_node.specs.declared.frames.Unread.TheVariants as reading;
 ghost use Rattle.lks_outside.specs.Counts.{Rose};
 
@@ -99,7 +99,7 @@ fn read_body<S: Source>(
     most: u32,
 ) -> Result<Frame, Unread>
     ensures found { (rest : List ℕ) → S.left source.old ≡ Some rest
-        → IfOk result (IsFound (sized most size rest) (S.left source.new)) }
+        → IfOk result (IsFound (sized_frame most size rest) (S.left source.new)) }
     ensures failed { IsErrOf result Unread.Failed → Rose (S.faults source.old) (S.faults source.new) }
     ensures count { S.faults source.old ≤ S.faults source.new }
 {
@@ -136,10 +136,10 @@ fn read_behind<S: Source>(
 }
 
 /// What stands next, if it is a frame with a body of at most so many bytes.
-#[tactic(auto, unfolding(crate::specs::Framing::framed))]
+#[tactic(auto, unfolding(crate::specs::Framing::frame_of))]
 pub fn read_frame<S: Source>(alloc: Global, source: &mut S, most: u32) -> Result<Frame, Unread>
     ensures found { (bytes : List ℕ) → S.left source.old ≡ Some bytes
-        → IfOk result (IsFound (framed most bytes) (S.left source.new)) }
+        → IfOk result (IsFound (frame_of most bytes) (S.left source.new)) }
     ensures failed { IsErrOf result Unread.Failed → Rose (S.faults source.old) (S.faults source.new) }
     ensures count { S.faults source.old ≤ S.faults source.new }
 {

@@ -17,7 +17,7 @@ ghost use Rattle.lks_node.specs.declared.ends.Fall.TheVariants as falling;
 ghost use Rattle.lks_outside.specs.Counts.{Rose};
 ghost use Rattle.lks_outside.specs.Streams.{AddsFront};
 
-use crate::ends::{Fall, Stop};
+use crate::ends::{Fall, NodeStop};
 use crate::orders::Order;
 use crate::replies::reply_to;
 use lks_base::{Input, PeerId, Reaction, Seq};
@@ -215,7 +215,7 @@ impl<D: Disk> Node<D> {
         judge: &mut J,
         sink: &mut K,
         order: &Order,
-    ) -> Result<(), Stop>
+    ) -> Result<(), NodeStop>
         requires can { CanStep D.face pool.now self.old.host }
         requires unfused { D.face.fused self.old.host.journal.disk ≡ false }
         requires room { length (J.heard judge.old) < MOST_EVENTS }

@@ -10,7 +10,7 @@ ghost use Rattle.lks_node.specs.Promise.{ComesOver, HasEnded, IsScripted, IsUnsc
 ghost use Rattle.lks_outside.specs.Counts.{Rose};
 
 use crate::answering::answer_all;
-use crate::ends::{End, Unready, Unscripted};
+use crate::ends::{NoScript, NodeEnd, Unready};
 use crate::frames::{Frame, Unread, read_frame};
 use crate::opening::open_journal;
 use crate::statuses::NodeStatus;
@@ -29,21 +29,21 @@ use std::sync::Wait;
 const MOST_SCRIPT: u32 = 16_777_216;
 
 /// The plan of the script in the first frame.
-fn read_plan<S: Source>(alloc: Global, source: &mut S) -> Result<Plan, Unscripted>
+fn read_plan<S: Source>(alloc: Global, source: &mut S) -> Result<Plan, NoScript>
     ensures found { IfOk result (IsScripted (S.left source.old) (S.left source.new)) }
     ensures good { IfOk result (λ plan. plan_fault plan ≡ None) }
     ensures none { IfErr result (IsUnscripted (S.left source.old)) }
-    ensures failed { result ≡ Err (Unscripted.Unread Unread.Failed) → Rose (S.faults source.old) (S.faults source.new) }
+    ensures failed { result ≡ Err (NoScript.Unread Unread.Failed) → Rose (S.faults source.old) (S.faults source.new) }
     ensures count { S.faults source.old ≤ S.faults source.new }
 {
     let body = match read_frame(alloc, source, MOST_SCRIPT) {
         Ok(Frame::Whole(body)) => body,
-        Ok(Frame::End | Frame::Broken) => return Err(Unscripted::Unframed),
-        Err(unread) => return Err(Unscripted::Unread(unread)),
+        Ok(Frame::End | Frame::Broken) => return Err(NoScript::Unframed),
+        Err(unread) => return Err(NoScript::Unread(unread)),
     };
     match read_script(alloc, &body) {
         Ok(Script { plan, .. }) => Ok(plan),
-        Err(fault) => Err(Unscripted::Unsaid(fault)),
+        Err(fault) => Err(NoScript::Unsaid(fault)),
     }
 }
 
@@ -57,7 +57,7 @@ fn serve<R: Wait, S: Source, K: Sink, D: Disk, J: EffortJudge>(
     sink: &mut K,
     store: D,
     judge: &mut J,
-) -> (End, D)
+) -> (NodeEnd, D)
     requires good { plan_fault plan.now ≡ None }
     requires honest { IsSome (honest_peer id plan.now) }
     requires unfused { D.face.fused store ≡ false }
@@ -74,15 +74,15 @@ fn serve<R: Wait, S: Source, K: Sink, D: Disk, J: EffortJudge>(
 {
     let pool = match BlockPool::new(alloc) {
         Ok(pool) => pool,
-        Err(_) => return (End::Unready(Unready::Memory), store),
+        Err(_) => return (NodeEnd::Unready(Unready::Memory), store),
     };
     match open_journal(alloc, rt, &pool, plan, id, store) {
         Ok(node) => {
             let mut node = node;
             let stop = answer_all(alloc, rt, &pool, plan, &mut node, source, sink, judge);
-            (End::Answered(stop), node.host.into_disk())
+            (NodeEnd::Answered(stop), node.host.into_disk())
         }
-        Err((store, unready)) => (End::Unready(unready), store),
+        Err((store, unready)) => (NodeEnd::Unready(unready), store),
     }
 }
 
@@ -95,7 +95,7 @@ fn run_on<R: Wait, S: Source, K: Sink, D: Disk, J: EffortJudge>(
     sink: &mut K,
     store: D,
     judge: &mut J,
-) -> (End, D)
+) -> (NodeEnd, D)
     requires unfused { D.face.fused store ≡ false }
     requires unasked { J.heard judge.old ≡ [] }
     ensures comes { ComesOver D.face (J.verdict judge.old) id (S.left source.old) (K.taken sink.old)
@@ -109,10 +109,10 @@ fn run_on<R: Wait, S: Source, K: Sink, D: Disk, J: EffortJudge>(
 {
     let plan = match read_plan(alloc, source) {
         Ok(plan) => plan,
-        Err(none) => return (End::Unscripted(none), store),
+        Err(none) => return (NodeEnd::Unscripted(none), store),
     };
     if find_honest(plan.peers.as_slice(), id).is_none() {
-        return (End::Strange, store);
+        return (NodeEnd::Strange, store);
     }
     serve(alloc, rt, &plan, id, source, sink, store, judge)
 }
@@ -160,13 +160,13 @@ pub fn node<R: Wait, S: Source, K: Sink, O: Opener, J: EffortJudge>(
     ensures same { J.verdict judge.new ≡ J.verdict judge.old }
 {
     let Some((id, path)) = asked(words) else {
-        return (End::Unnamed.status(), None);
+        return (NodeEnd::Unnamed.status(), None);
     };
     match opener.open_store(path) {
         Ok(store) => {
             let (end, store) = run_on(alloc, rt, id, source, sink, store, judge);
             (end.status(), Some(store))
         }
-        Err(stop) => (End::Unopened(stop).status(), None),
+        Err(stop) => (NodeEnd::Unopened(stop).status(), None),
     }
 }

@@ -98,17 +98,21 @@ fn run_over<R: Wait>(
     let mut source = MemSource::narrow(alloc, input, Vec::new(alloc), width.max(1));
     let mut sink = MemSink::new(alloc, Vec::new(alloc));
     let mut opener = MemOpener::new(disk_with(alloc, store)?, false);
-    let mut judge = FirstByteJudge::new(alloc)?;
+    run_with(alloc, rt, words, &mut source, &mut sink, &mut opener)
+}
+
+/// A run with these two words over these devices.
+fn run_with<R: Wait>(
+    alloc: Global,
+    rt: &R,
+    words: [&str; 2],
+    source: &mut MemSource,
+    sink: &mut MemSink,
+    opener: &mut MemOpener<MemDisk>,
+) -> Result<Left, Fail> {
     let said = words_of(alloc, words)?;
-    let (status, left) = node(
-        alloc,
-        rt,
-        &said,
-        &mut source,
-        &mut sink,
-        &mut opener,
-        &mut judge,
-    );
+    let mut judge = FirstByteJudge::new(alloc)?;
+    let (status, left) = node(alloc, rt, &said, source, sink, opener, &mut judge);
     let output = sink.bytes().to_vec(alloc)?;
     Ok(Left {
         status,
@@ -314,23 +318,7 @@ fn run_failing<R: Wait>(
     let mut source = MemSource::new(alloc, input_of(alloc, OPEN)?, reads.to_vec(alloc)?);
     let mut sink = MemSink::new(alloc, writes.to_vec(alloc)?);
     let mut opener = MemOpener::new(MemDisk::new(alloc, calls.to_vec(alloc)?), false);
-    let mut judge = FirstByteJudge::new(alloc)?;
-    let said = words_of(alloc, ["1", "j"])?;
-    let (status, left) = node(
-        alloc,
-        rt,
-        &said,
-        &mut source,
-        &mut sink,
-        &mut opener,
-        &mut judge,
-    );
-    let output = sink.bytes().to_vec(alloc)?;
-    Ok(Left {
-        status,
-        output,
-        store: bytes_of(alloc, left)?,
-    })
+    run_with(alloc, rt, ["1", "j"], &mut source, &mut sink, &mut opener)
 }
 
 #[test]

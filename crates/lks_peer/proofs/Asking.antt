@@ -10,16 +10,16 @@ use Rattle.lks_law.specs.Journal.{Request}
 use Rattle.lks_law.specs.State.{Poll, State, poll_at, blocks_at}
 use Rattle.lks_peer.specs.Knows.{AsksSmall}
 use Rattle.lks_poller.specs.Polling.{Polled}
-use Rattle.lks_choice.specs.Asking.{awaited}
+use Rattle.lks_choice.specs.Asking.{awaited_request}
 
 -- as the poll keeps it
 pub small_request : (s : Polled) (o : Option Poll) → o ≡ Some (poll_of s) → AsksSmall o
-    → IfSome (awaited s.suppliers) (λ r. r.0 ≤ LAST_BLOCK)
+    → IfSome (awaited_request s.suppliers) (λ r. r.0 ≤ LAST_BLOCK)
 unfolding AsksSmall
 small_request s None is small = absurd cc
 small_request s (Some p) is small =
     let same : p ≡ poll_of s = cc in
-    by_request (awaited s.suppliers)
+    by_request (awaited_request s.suppliers)
     (subst (λ (x : Poll). Where x.request (λ r. r.block ≤ LAST_BLOCK)) same small)
   where
     by_request : (o : Option (ℕ × ℕ)) → Where (option_map request_of o) (λ r. r.block ≤ LAST_BLOCK)

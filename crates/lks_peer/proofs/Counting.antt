@@ -6,7 +6,7 @@ use Rattle.std.proofs.lemmas.Int.{clamps}
 use Rattle.std.proofs.lemmas.List.{map_push}
 use Rattle.lks_audit.proofs.Keeping.{kept_seen}
 use Rattle.lks_audit.proofs.Sessions.{poll_seen}
-use Rattle.lks_audit.specs.Kept.{Kept, kept_in, kept_of, kept_at, recounted, kept_changed, without_kept, kept_voted}
+use Rattle.lks_audit.specs.Kept.{Kept, kept_in, kept_of, kept_at, with_count, kept_changed, without_kept, kept_voted}
 use Rattle.lks_audit.specs.Kept.{kept_before, kept_tallied, kept_by_tally}
 use Rattle.lks_audit.specs.Seen.{poll_of, polls_of, forgetting}
 use Rattle.lks_base.specs.Checking.{has_member}
@@ -43,7 +43,7 @@ kept_forgotten au b (s ∷ ss) = λ i. by_au (eqb s.tally.ballot.au au) i ∷ ke
   where
     by_au : (t : Bool)
         → kept_in (cond t (record s { tally = hashes_forgotten b s.tally }) s)
-        ≡ cond t (recounted (min b) (kept_in s)) (kept_in s)
+        ≡ cond t (with_count (min b) (kept_in s)) (kept_in s)
     by_au true = refl
     by_au false = refl
 
@@ -106,7 +106,7 @@ replaced_zero : (au b : ℕ) (ps : List Poll) → map (kept_before au b) (nothin
 replaced_zero au b [] = refl
 replaced_zero au b (p ∷ ps) = λ i. by_au (eqb p.opening.au au) i ∷ replaced_zero au b ps i
   where
-    by_au : (t : Bool) → cond t (recounted (min b) (zero_of p)) (zero_of p) ≡ zero_of p
+    by_au : (t : Bool) → cond t (with_count (min b) (zero_of p)) (zero_of p) ≡ zero_of p
     by_au true = ap (λ count. record (zero_of p) { count = count }) (least b)
     by_au false = refl
 
@@ -167,13 +167,13 @@ at_changed n f [] = refl
 at_changed n f (k ∷ ks) = by_test (eqb k.number n) refl (at_changed n f ks)
   where
     by_test : (b : Bool) → eqb k.number n ≡ b → kept_at n (kept_changed n f ks) ≡ option_map f (kept_at n ks)
-        → kept_at n (cond b (recounted f k ∷ ks) (k ∷ kept_changed n f ks))
+        → kept_at n (cond b (with_count f k ∷ ks) (k ∷ kept_changed n f ks))
         ≡ option_map f
         (option_map (λ (x : Kept). x.count) (cond b (Some k) (find (λ (x : Kept). x.number == n) ks)))
     by_test true is rest =
         ap
         (λ b. option_map (λ (x : Kept). x.count)
-        (cond b (Some (recounted f k)) (find (λ (x : Kept). x.number == n) ks))) is
+        (cond b (Some (with_count f k)) (find (λ (x : Kept). x.number == n) ks))) is
     by_test false is rest =
         ap
         (λ b. option_map (λ (x : Kept). x.count)
@@ -224,7 +224,7 @@ same_counts : (n : ℕ) (f : ℕ → ℕ) (ks : List Kept) → ((count : ℕ) �
 same_counts n f [] same = refl
 same_counts n f (k ∷ ks) same = by_test (eqb k.number n) (same_counts n f ks same)
   where
-    by_test : (b : Bool) → kept_changed n f ks ≡ ks → cond b (recounted f k ∷ ks) (k ∷ kept_changed n f ks) ≡ k ∷ ks
+    by_test : (b : Bool) → kept_changed n f ks ≡ ks → cond b (with_count f k ∷ ks) (k ∷ kept_changed n f ks) ≡ k ∷ ks
     by_test true rest = ap (λ count. record k { count = count } ∷ ks) (same k.count)
     by_test false rest = ap (λ ks. k ∷ ks) rest
 

@@ -11,7 +11,7 @@ use Rattle.lks_law.specs.Fitting.{Where, Fits}
 use Rattle.lks_law.specs.Polls.{Station}
 use Rattle.lks_audit.proofs.Changing as changing
 use Rattle.lks_audit.proofs.Running.{at_place}
-use Rattle.lks_choice.specs.Asking.{Asked, awaited}
+use Rattle.lks_choice.specs.Asking.{Asked, awaited_request}
 use Rattle.std.proofs.lemmas.Bool.{both_ways, eqb-true}
 use Rattle.std.proofs.lemmas.List.{length-set, take-set-le}
 use Rattle.std.proofs.lemmas.List.Elements.{All-nil, All-cons, All-head, All-tail, All-weaker, All-push}
@@ -327,13 +327,13 @@ module _ (own : Station) (pool : List ℕ) (k : Known) (tied : IsTied own.id poo
       none None e some = absurd cc
       none (Some a) e some = absurd cc
 
-      idle : (q : Asked) → option_map request_of (awaited q) ≡ None
-          → (q.waiting ≡ true → is_some (awaited q) ≡ true) → q.waiting ≡ false
+      idle : (q : Asked) → option_map request_of (awaited_request q) ≡ None
+          → (q.waiting ≡ true → is_some (awaited_request q) ≡ true) → q.waiting ≡ false
       idle q e waits = by_test q.waiting refl
         where
           by_test : (b : Bool) → q.waiting ≡ b → b ≡ false
           by_test false is = refl
-          by_test true is = absurd (none (awaited q) e (waits is))
+          by_test true is = absurd (none (awaited_request q) e (waits is))
 
   pub replace_fits : (n au block : ℕ) (bytes : List ℕ) → Fits own (state_of k) (record_of.Replaced n au block bytes)
       → MayReplace au block (copies_of k.copies)

@@ -16,13 +16,14 @@ ghost use Rattle.lks_audit.specs.Seen.{AreAgreed, MayAsk, MayVote, RunOver, poll
 ghost use Rattle.lks_sessions.specs.Kept.{voter_of};
 ghost use Rattle.lks_sessions.specs.Sendable.{MayServe};
 
-use lks_audit::{Copies, Held, Opening, Polls, Station, begin, count_held, refer};
+use lks_audit::{Copies, Held, Polls, Station, begin, count_held, refer};
 use lks_base::{
     AuId, Blocks, Bytes, HashKind, Hashes, Ids, Numbers, OutOfMemory, Outcome, PeerId, PollName,
     Record,
 };
 use lks_blocks::{BlockPool, Refs};
 use lks_choice::References;
+use lks_law::Opening;
 use lks_sessions::Sessions;
 use std::alloc::Global;
 use std::sync::Wait;

@@ -16,13 +16,14 @@ use crate::known::Known;
 use crate::opening::open;
 use crate::rows::{give_up, nominate, nudge, prove, shut, vote, widen};
 use lks_audit::reactions::{adding, no_reaction, no_sends};
+use lks_audit::tallies::SentBlock;
 use lks_audit::{Station, check_aus};
 use lks_base::{
     Input, Judged, MOST_REPAIRS, Message, OutOfMemory, PeerId, PollName, Reaction, Record, Rules,
     obeys_quorum_rule,
 };
 use lks_blocks::BlockPool;
-use lks_sessions::{accept, answer_invitation, answer_proof, answer_request, end, work};
+use lks_sessions::{Proof, accept, answer_invitation, answer_proof, answer_request, end, work};
 use lks_work::JobDone;
 use std::alloc::Global;
 
@@ -60,10 +61,13 @@ fn hear(
             ..
         } => {
             let refs = known.references.list();
-            let poll = name(from, *number);
-            answer_proof(
-                alloc, own, sessions, copies, refs, poll, nonce, *kind, judged,
-            )
+            let proof = Proof {
+                poll: name(from, *number),
+                nonce,
+                kind: *kind,
+                judged,
+            };
+            answer_proof(alloc, own, sessions, copies, refs, &proof)
         }
         Message::Vote { number, hashes, .. } => {
             vote(alloc, polls, *number, from, hashes, judged)
@@ -72,16 +76,13 @@ fn hear(
             number,
             block,
             bytes,
-        } => known.polls.repair(
-            alloc,
-            own,
-            pool,
-            &known.copies,
-            *number,
-            from,
-            *block,
-            bytes,
-        ),
+        } => {
+            let block = *block;
+            let sent = SentBlock { from, block, bytes };
+            known
+                .polls
+                .repair(alloc, own, pool, &known.copies, *number, &sent)
+        }
         Message::RepairRequest { number, block } => {
             answer_request(alloc, pool, sessions, name(from, *number), *block)
         }

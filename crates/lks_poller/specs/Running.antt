@@ -1,6 +1,6 @@
 -- The poll that a session runs, over which the rules are said.
 use Rattle.std.specs.Prelude.{ℕ, Some, map, option_map}
-use Rattle.lks_choice.specs.Asking.{awaited}
+use Rattle.lks_choice.specs.Asking.{awaited_request}
 use Rattle.lks_tally.specs.Running.{Nomination, Poll, Request}
 use Rattle.lks_poller.specs.Polling.{Polled}
 use Rattle.lks_poller.specs.declared.stages.Nomination.{Nomination as Nominated}
@@ -32,5 +32,5 @@ poll_of s =
       voters = s.voters;
       shut = s.shut;
       asked = map request_of s.suppliers.asked;
-      request = option_map request_of (awaited s.suppliers);
+      request = option_map request_of (awaited_request s.suppliers);
     }

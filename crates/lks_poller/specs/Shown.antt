@@ -3,8 +3,8 @@ use Rattle.lks_poller.specs.declared.sessions.PollSession.TheInside.{Inside}
 use Rattle.lks_poller.specs.Polling.{Polled}
 
 -- the poll that the fields of a session stand for
-abbrev pub shown : Inside → Polled
-shown a =
+abbrev pub shown_session : Inside → Polled
+shown_session a =
     record {
       tally = a.tally;
       inner = a.inner;

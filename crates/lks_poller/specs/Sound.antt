@@ -2,7 +2,7 @@
 use Rattle.std.specs.Prelude.{◌≡◌, ◌<◌, ◌≤◌, ℕ, Bool, true, false, ◌||◌, Some, length}
 use Rattle.lks_base.specs.Checking.{has_member}
 use Rattle.lks_base.specs.declared.limits.TheConstants.{MOST_CIRCLE}
-use Rattle.lks_choice.specs.Asking.{awaited}
+use Rattle.lks_choice.specs.Asking.{awaited_request}
 use Rattle.lks_tally.specs.Distinct.{AreDistinct}
 use Rattle.lks_tally.specs.Keeping as keeping
 use Rattle.lks_tally.specs.Keeping.{IsReserved}
@@ -25,4 +25,4 @@ pub record IsSound (s : Polled) : Type 0 where
   pub noted : (v : ℕ) → has_member s.voters v ≡ is_voter s v
   pub over : s.closed ≡ true → s.shut ≡ true
   pub asking : s.suppliers.waiting ≡ true → s.shut ≡ true
-  pub within : (b v : ℕ) → awaited s.suppliers ≡ Some (b, v) → b < s.tally.ballot.count
+  pub within : (b v : ℕ) → awaited_request s.suppliers ≡ Some (b, v) → b < s.tally.ballot.count

@@ -6,7 +6,7 @@ ghost use Rattle.std.specs.List.{list_any};
 ghost use Rattle.lks_base.specs.Checking.{has_member as is_member};
 ghost use Rattle.lks_base.specs.declared.limits.TheConstants.{MOST_CIRCLE};
 ghost use Rattle.lks_base.specs.declared.names.Limits.{Limits as LimitsOf};
-ghost use Rattle.lks_choice.specs.Asking.{awaited};
+ghost use Rattle.lks_choice.specs.Asking.{awaited_request};
 ghost use Rattle.lks_tally.specs.Counting.{verdict_on, voters_against};
 ghost use Rattle.lks_tally.specs.declared.ballots.Ballot.{Ballot as BallotOf};
 ghost use Rattle.lks_tally.specs.Running.{has_nominated_in, is_invited_to, is_request, may_nominate, may_prove};
@@ -58,12 +58,12 @@ impl Model for PollSession {
 
     ghost Value = { Polled };
 
-    ghost use Rattle.lks_poller.specs.Shown.{shown};
+    ghost use Rattle.lks_poller.specs.Shown.{shown_session};
     ghost use Rattle.lks_poller.specs.Sound.{IsSound};
 
-    ghost view = { shown };
+    ghost view = { shown_session };
 
-    ghost invariant = { λ a. IsSound (shown a) };
+    ghost invariant = { λ a. IsSound (shown_session a) };
 }
 
 impl PollSession {
@@ -240,7 +240,7 @@ impl PollSession {
 
     /// The block and the voter of the request that isn't answered, or `None` where nobody is waited for.
     pub fn unanswered(&self) -> Option<(u16, PeerId)>
-        ensures last { result ≡ awaited self.now.suppliers }
+        ensures last { result ≡ awaited_request self.now.suppliers }
         ensures none { IsNone result ↔ (self.now.suppliers.waiting ≡ false) }
     {
         self.suppliers.unanswered()
@@ -621,7 +621,7 @@ impl PollSession {
 
     /// Ends the waiting for the block and the voter that it gives.
     pub fn give_up(&mut self) -> Option<(u16, PeerId)>
-        ensures last { result ≡ awaited self.old.suppliers }
+        ensures last { result ≡ awaited_request self.old.suppliers }
         ensures none { IsNone result ↔ (self.old.suppliers.waiting ≡ false) }
         ensures after { self.new ≡ request_released self.old }
     {

@@ -32,8 +32,9 @@ use Rattle.lks_lines.proofs.Passing.{members_same, Parts, parted}
 use Rattle.lks_lines.specs.declared.list_lines.ListKind.{ListKind}
 use Rattle.lks_lines.specs.declared.list_lines.ListKind.TheVariants.{Refs, Friends}
 use Rattle.lks_lines.specs.declared.plan_lines.PlanDraft.{PlanDraft}
-use Rattle.lks_lines.specs.ListLines.{list_of, lacks_list, with_list, is_list, listed, draft_with_list, hashing}
-use Rattle.lks_lines.specs.ListLines.{noted, draft_with_hash}
+use Rattle.lks_lines.specs.ListLines.{list_of, lacks_list, with_list, is_list, peers_with_list, draft_with_list}
+use Rattle.lks_lines.specs.ListLines.{hashing}
+use Rattle.lks_lines.specs.ListLines.{draft_with_noted, draft_with_hash}
 use Rattle.lks_lines.specs.CopyLines.{may_hold, content_in, with_more, copies_with, holding, draft_with_copy}
 use Rattle.lks_script.specs.declared.drafts.Draft.TheVariants.{Planned}
 use Rattle.lks_script.specs.declared.drafts.PlanPart.{PlanPart}
@@ -276,7 +277,7 @@ module _ (rules : Rules) (turns : ℕ) (aus : List AuPlan) (done : List PeerPlan
       → later_line (draft_mid Sha256 [] [] [] hashed bytes) (codes "hash")
       (decimal p.id ∷ hash_text Sha512_256 ∷ [])
       ≡ Some (Planned part.Lists (draft_mid Sha512_256 [] [] [] (hashed ++ p.id ∷ []) bytes))
-  unfolding later_line draft_with_hash hashing noted has_peer
+  unfolding later_line draft_with_hash hashing draft_with_noted has_peer
   hash_put hashed bytes lacks =
       let m = mid p Sha256 [] [] [] in
       rw (
@@ -311,8 +312,8 @@ module _ (rules : Rules) (turns : ℕ) (aus : List AuPlan) (done : List PeerPlan
 
   listed_put : (kind : ListKind) (m now : PeerPlan) (after : List PeerPlan) (ids : List ℕ)
       → lacks_list kind p.id m ≡ true → is_list (done ++ m ∷ after) p.id ids ≡ true → with_list kind m ids ≡ now
-      → listed kind p.id ids (done ++ m ∷ after) ≡ Some (done ++ now ∷ after)
-  unfolding listed
+      → peers_with_list kind p.id ids (done ++ m ∷ after) ≡ Some (done ++ now ∷ after)
+  unfolding peers_with_list
   listed_put kind m now after ids lacks good is =
       rw (
         place_found (lacks_list kind p.id) done m after

@@ -16,7 +16,7 @@ use Rattle.lks_base.specs.declared.plans.Plan.{Plan}
 use Rattle.lks_lines.specs.declared.list_lines.ListKind.{ListKind}
 use Rattle.lks_lines.specs.declared.list_lines.ListKind.TheVariants.{Refs, Friends}
 use Rattle.lks_lines.specs.declared.plan_lines.PlanDraft.{PlanDraft}
-use Rattle.lks_lines.specs.PlanLines.{begun, peer_in, draft_with_peer}
+use Rattle.lks_lines.specs.PlanLines.{begun_draft, peer_in, draft_with_peer}
 use Rattle.lks_lines.specs.ListLines.{with_list, draft_with_list, with_hash, draft_with_hash}
 use Rattle.lks_lines.specs.CopyLines.{with_copies, copy_at, content_in, with_more, copies_with, draft_with_copy}
 use Rattle.lks_lines.specs.CopyLines.{block_put, copy_damaged, draft_with_damage}
@@ -217,7 +217,7 @@ drafted_kept = record {
   rules = λ words rules e. tt;
   turns = λ rules word n h e. tt;
   au = λ rules turns aus now words h e. tt;
-  first_peer = λ rules turns aus now words h. peer_kept (begun rules turns aus) now words (All-nil IsSaidPeer);
+  first_peer = λ rules turns aus now words h. peer_kept (begun_draft rules turns aus) now words (All-nil IsSaidPeer);
   peer = λ at. peer_kept;
   list = λ kind at. list_kept kind;
   hash = λ at. hash_kept;

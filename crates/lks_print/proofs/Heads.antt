@@ -29,7 +29,7 @@ use Rattle.lks_script.specs.declared.drafts.PlanPart.TheVariants as part
 use Rattle.lks_script.specs.declared.steps.Script.{Script}
 use Rattle.lks_script.specs.declared.steps.Step.{Step}
 use Rattle.lks_script.specs.Grammar.{title_line, rules_line, turns_line, au_line, peer_line, ruled_line, step_line}
-use Rattle.lks_script.specs.Grammar.{declares_peer, planned_line, line_in, ended, end_in, lines_in}
+use Rattle.lks_script.specs.Grammar.{declares_peer, planned_line, line_in, script_of_draft, end_in, lines_in}
 use Rattle.lks_words.specs.Printing.{hex_or_hyphen, kind_text}
 use Rattle.lks_words.proofs.Decimals.{number_again}
 use Rattle.lks_words.proofs.Kept.{hex_above, text_above, kind_above, seed_again, proof_again, kind_again}
@@ -312,7 +312,7 @@ first_reads at plan step rest script can =
     (step_names step).named can.said.plain (first_step at plan step can)
 
 no_steps : (at : PlanPart) (plan : PlanDraft) → Reads (Planned at plan) [] (script_with plan.plan [])
-unfolding lines_in end_in ended
+unfolding lines_in end_in script_of_draft
 no_steps at plan k = refl
 
 pub plan_ends : (at : PlanPart) (plan : PlanDraft) (steps : List Step) → StepsFollow plan.plan [] steps

@@ -11,7 +11,8 @@ use Rattle.lks_script.specs.declared.drafts.Draft.{Draft}
 use Rattle.lks_script.specs.declared.drafts.Draft.TheVariants.{Stepped}
 use Rattle.lks_script.specs.declared.steps.Script.{Script}
 use Rattle.lks_script.specs.declared.steps.Step.{Step}
-use Rattle.lks_script.specs.Grammar.{step_line, stepped_line, line_in, means_nothing, with_line, ended, end_in}
+use Rattle.lks_script.specs.Grammar.{step_line, stepped_line, line_in, means_nothing, with_line, script_of_draft}
+use Rattle.lks_script.specs.Grammar.{end_in}
 use Rattle.lks_script.specs.Grammar.{lines_in}
 use Rattle.lks_script.specs.StepLines.{steps_with}
 use Rattle.lks_words.specs.Words.{parts}
@@ -111,7 +112,7 @@ step_reads plan before step rest script can =
 
 -- nothing behind the last step
 end_reads : (plan : Plan) (steps : List Step) → Reads (Stepped plan steps) [] (script_with plan steps)
-unfolding lines_in end_in ended
+unfolding lines_in end_in script_of_draft
 end_reads plan steps k = refl
 
 -- behind other steps

@@ -8,7 +8,7 @@ use Rattle.lks_base.specs.Checking.{are_bounded, are_ordered, is_within}
 use Rattle.lks_base.specs.Quorums.{obeys_quorum_rule}
 use Rattle.lks_base.specs.declared.limits.TheConstants.{MOST_CIRCLE, MOST_REPAIRS, MOST_TICKS}
 use Rattle.lks_base.specs.declared.plans.Rules.{Rules}
-use Rattle.lks_lines.specs.PlanLines.{named, numbers_in, paces_in, are_good, rules_in}
+use Rattle.lks_lines.specs.PlanLines.{named_number, numbers_in, paces_in, are_good, rules_in}
 use Rattle.lks_words.proofs.Decimals.{number_again}
 use Rattle.lks_print.specs.Scripts.{rules_words}
 
@@ -27,8 +27,8 @@ pub record AreSmall (r : Rules) : Type 0 where
   pub churn : r.churn ≤ 65535
 
 named_again : (name : List ℕ) (most n : ℕ) (rest : List (List ℕ)) → bytes_eq name name ≡ true → most < 2 ^ 64
-    → n ≤ most → named name most (name ∷ decimal n ∷ rest) ≡ Some (n, rest)
-unfolding named
+    → n ≤ most → named_number name most (name ∷ decimal n ∷ rest) ≡ Some (n, rest)
+unfolding named_number
 named_again name most n rest is lt le = rw (is, number_again most n (decimal n) lt le refl) refl
 
 numbers_again : (r : Rules) → AreSmall r → numbers_in (rules_words r) ≡ Some r

@@ -5,7 +5,7 @@ ghost use Rattle.lks_blocks.specs.Block.{AllOf};
 ghost use Rattle.lks_race.specs.Racing.{GoesOn, IsJobOf, begin_of};
 ghost use Rattle.lks_work.specs.Names.{refs_done};
 
-use crate::naming::Naming;
+use crate::naming::NamesRace;
 use crate::turns::{Met, give, meet};
 use lks_disk::CrashDisk;
 use lks_outside::{Bell, EffortJudge};
@@ -16,12 +16,12 @@ use std::sync::Wait;
 
 /// A world in a race. Whenever the lock is free it has gone on from how the race began, by events that were due.
 #[derive(Drop)]
-pub struct Locked<'a, N: Naming, D: CrashDisk, J: EffortJudge, B: Bell> {
+pub struct Locked<'a, N: NamesRace, D: CrashDisk, J: EffortJudge, B: Bell> {
     world: World<'a, D, J, B>,
     of: PhantomData<N>,
 }
 
-impl<'a, N: Naming, D: CrashDisk, J: EffortJudge, B: Bell> Model for Locked<'a, N, D, J, B> {
+impl<'a, N: NamesRace, D: CrashDisk, J: EffortJudge, B: Bell> Model for Locked<'a, N, D, J, B> {
     ghost use Rattle.lks_race.specs.Racing.{GoesOn};
     ghost use Rattle.lks_world.specs.Worlds.{Seen};
 
@@ -32,7 +32,7 @@ impl<'a, N: Naming, D: CrashDisk, J: EffortJudge, B: Bell> Model for Locked<'a, 
     ghost invariant = { λ l. GoesOn N.begin l.world };
 }
 
-impl<'a, N: Naming, D: CrashDisk + Drop, J: EffortJudge, B: Bell> Locked<'a, N, D, J, B> {
+impl<'a, N: NamesRace, D: CrashDisk + Drop, J: EffortJudge, B: Bell> Locked<'a, N, D, J, B> {
     /// The world with which the race begins.
     pub fn new(world: World<'a, D, J, B>) -> Locked<'a, N, D, J, B>
         requires { N.begin ≡ begin_of world }

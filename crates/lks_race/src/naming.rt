@@ -3,13 +3,13 @@
 use std::marker::Brand;
 
 /// How a race began. Each race picks it.
-pub trait Naming {
+pub trait NamesRace {
     ghost use Rattle.lks_race.specs.Racing.{Begin};
 
     ghost begin: { Begin };
 }
 
-impl Naming for Brand {
+impl NamesRace for Brand {
     ghost use Rattle.lks_race.specs.Racing.{nowhere};
 
     ghost begin = { nowhere };

@@ -10,7 +10,7 @@ ghost use Rattle.lks_world.specs.Counts.{fault_in};
 ghost use Rattle.lks_world.specs.Giving.{IsOver};
 
 use crate::locked::Locked;
-use crate::naming::Naming;
+use crate::naming::NamesRace;
 use crate::sessions::{session, tell};
 use crate::turns::{Met, give, meet};
 use lks_base::OutOfMemory;
@@ -32,7 +32,7 @@ const ROOM: u16 = 64;
 /// A thread for each seat.
 fn each_seat<
     'a,
-    N: Naming + Send + Sync,
+    N: NamesRace + Send + Sync,
     D: CrashDisk + Drop,
     J: EffortJudge,
     B: Bell,
@@ -67,7 +67,7 @@ fn each_seat<
 /// Lets the threads of all seats take what is due, from a world that goes by this name.
 fn race_in<
     'a,
-    N: Naming + Send + Sync,
+    N: NamesRace + Send + Sync,
     D: CrashDisk + Drop,
     J: EffortJudge,
     B: Bell,

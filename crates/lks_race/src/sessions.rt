@@ -8,7 +8,7 @@ ghost use Rattle.lks_race.specs.Racing.{IsJobOf};
 ghost use Rattle.lks_work.specs.Names.{refs_done, refs_of};
 
 use crate::locked::Locked;
-use crate::naming::Naming;
+use crate::naming::NamesRace;
 use crate::turns::Met;
 use lks_base::{Entry, OutOfMemory};
 use lks_blocks::BlockPool;
@@ -28,7 +28,7 @@ pub fn tell<G: Gate>(gate: &G, entry: Option<Entry>) {
 }
 
 /// Asks the world for what is due, unless another thread is at it: waiting for the lock would hash nothing.
-fn meet<'a, N: Naming, D: CrashDisk + Drop, J: EffortJudge, B: Bell, R: Wait>(
+fn meet<'a, N: NamesRace, D: CrashDisk + Drop, J: EffortJudge, B: Bell, R: Wait>(
     rt: &R,
     locked: &Mutex<Locked<'a, N, D, J, B>>,
 ) -> Met
@@ -41,7 +41,7 @@ fn meet<'a, N: Naming, D: CrashDisk + Drop, J: EffortJudge, B: Bell, R: Wait>(
 }
 
 /// Gives a result back. Whether the race goes on.
-fn give_back<'a, N: Naming, D: CrashDisk + Drop, J: EffortJudge, B: Bell, G: Gate, R: Wait>(
+fn give_back<'a, N: NamesRace, D: CrashDisk + Drop, J: EffortJudge, B: Bell, G: Gate, R: Wait>(
     rt: &R,
     locked: &Mutex<Locked<'a, N, D, J, B>>,
     gate: &G,
@@ -61,7 +61,7 @@ fn give_back<'a, N: Naming, D: CrashDisk + Drop, J: EffortJudge, B: Bell, G: Gat
 }
 
 /// Hashes a job, once the gate let it begin. Without memory for it the world is stopped.
-fn hash<'a, N: Naming, D: CrashDisk + Drop, J: EffortJudge, B: Bell, G: Gate, R: Wait>(
+fn hash<'a, N: NamesRace, D: CrashDisk + Drop, J: EffortJudge, B: Bell, G: Gate, R: Wait>(
     rt: &R,
     alloc: Global,
     locked: &Mutex<Locked<'a, N, D, J, B>>,
@@ -85,7 +85,7 @@ fn hash<'a, N: Naming, D: CrashDisk + Drop, J: EffortJudge, B: Bell, G: Gate, R:
 
 /// Offers a job to all seats, and hashes it here where it comes back. Whether the race goes on.
 #[tactic(auto, using(crate::proofs::Passing::asked_here))]
-fn offer<'a, N: Naming, D: CrashDisk + Drop, J: EffortJudge, B: Bell, G: Gate, R: Wait>(
+fn offer<'a, N: NamesRace, D: CrashDisk + Drop, J: EffortJudge, B: Bell, G: Gate, R: Wait>(
     rt: &R,
     alloc: Global,
     locked: &Mutex<Locked<'a, N, D, J, B>>,
@@ -117,7 +117,7 @@ fn offer<'a, N: Naming, D: CrashDisk + Drop, J: EffortJudge, B: Bell, G: Gate, R
 
 /// Gives back a result that was collected, if there is one.
 #[tactic(auto, using(crate::proofs::Passing::told_here))]
-fn collect<'a, N: Naming, D: CrashDisk + Drop, J: EffortJudge, B: Bell, G: Gate, R: Wait>(
+fn collect<'a, N: NamesRace, D: CrashDisk + Drop, J: EffortJudge, B: Bell, G: Gate, R: Wait>(
     rt: &R,
     locked: &Mutex<Locked<'a, N, D, J, B>>,
     farm: &Farm,
@@ -138,7 +138,7 @@ fn collect<'a, N: Naming, D: CrashDisk + Drop, J: EffortJudge, B: Bell, G: Gate,
 
 /// Hands in the result of the job that the seat holds. While there is no room for it, others are collected and given
 /// back.
-fn hand_in<'a, N: Naming, D: CrashDisk + Drop, J: EffortJudge, B: Bell, G: Gate, R: Wait>(
+fn hand_in<'a, N: NamesRace, D: CrashDisk + Drop, J: EffortJudge, B: Bell, G: Gate, R: Wait>(
     rt: &R,
     locked: &Mutex<Locked<'a, N, D, J, B>>,
     farm: &Farm,
@@ -165,7 +165,7 @@ fn hand_in<'a, N: Naming, D: CrashDisk + Drop, J: EffortJudge, B: Bell, G: Gate,
 
 /// Takes a job of the farm and hands its result in; where there is none, gives way. Whether the race goes on.
 #[tactic(auto, using(crate::proofs::Passing::asked_there))]
-fn work<'a, N: Naming, D: CrashDisk + Drop, J: EffortJudge, B: Bell, G: Gate, R: Wait>(
+fn work<'a, N: NamesRace, D: CrashDisk + Drop, J: EffortJudge, B: Bell, G: Gate, R: Wait>(
     rt: &R,
     alloc: Global,
     locked: &Mutex<Locked<'a, N, D, J, B>>,
@@ -196,7 +196,7 @@ fn work<'a, N: Naming, D: CrashDisk + Drop, J: EffortJudge, B: Bell, G: Gate, R:
 
 /// Asks the world for what is due and does it: offers a job, and where all jobs are out, or another thread asks, helps
 /// with them. Whether the race goes on.
-fn turn<'a, N: Naming, D: CrashDisk + Drop, J: EffortJudge, B: Bell, G: Gate, R: Wait>(
+fn turn<'a, N: NamesRace, D: CrashDisk + Drop, J: EffortJudge, B: Bell, G: Gate, R: Wait>(
     rt: &R,
     alloc: Global,
     locked: &Mutex<Locked<'a, N, D, J, B>>,
@@ -227,7 +227,7 @@ fn turn<'a, N: Naming, D: CrashDisk + Drop, J: EffortJudge, B: Bell, G: Gate, R:
 }
 
 /// Takes turns by way of a seat until nothing is due any more.
-pub fn session<'a, N: Naming, D: CrashDisk + Drop, J: EffortJudge, B: Bell, G: Gate, R: Wait>(
+pub fn session<'a, N: NamesRace, D: CrashDisk + Drop, J: EffortJudge, B: Bell, G: Gate, R: Wait>(
     rt: &R,
     alloc: Global,
     locked: &Mutex<Locked<'a, N, D, J, B>>,

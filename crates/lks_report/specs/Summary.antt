@@ -9,7 +9,7 @@ use Rattle.lks_base.specs.declared.names.Outcome.{Outcome}
 use Rattle.lks_base.specs.declared.names.Outcome.TheVariants.{Agreed, Inquorate, Split, NoSupplier}
 use Rattle.lks_report.specs.Alarms.{is_alarm}
 use Rattle.lks_report.specs.Text.{line}
-use Rattle.lks_report.specs.Words.{spaced}
+use Rattle.lks_report.specs.Words.{spaced_words}
 
 -- the notes of all entries, in order
 unfoldable pub all_notes : List Entry → List Note
@@ -37,7 +37,7 @@ is_replacement note = is_some (noted note).replaced
 -- the line of a drill: its seed, and how many entries, opened polls, agreed polls, replaced blocks and alarms it has
 unfoldable pub summary_text : ℕ → List Entry → List ℕ
 summary_text seed entries =
-    line (spaced (codes "drill" ∷ decimal seed ∷ codes "events" ∷ decimal (length entries)
+    line (spaced_words (codes "drill" ∷ decimal seed ∷ codes "events" ∷ decimal (length entries)
     ∷ codes "polls" ∷ decimal (count_by is_opening (all_notes entries))
     ∷ codes "agreed" ∷ decimal (count_by is_agreement (all_notes entries))
     ∷ codes "replaced" ∷ decimal (count_by is_replacement (all_notes entries))

@@ -14,7 +14,7 @@ use Rattle.lks_base.specs.declared.plans.PeerPlan.{PeerPlan}
 use Rattle.lks_base.specs.declared.plans.Plan.{Plan}
 use Rattle.lks_base.specs.Checking.{has_copy}
 use Rattle.lks_law.specs.Alarms.{alarm_noted}
-use Rattle.lks_report.specs.Words.{spaced, event_words, notes_words, outcome_words}
+use Rattle.lks_report.specs.Words.{spaced_words, event_words, notes_words, outcome_words}
 use Rattle.lks_report.specs.Scans.{actor, notes_of, version, inner_votes, outer_votes, outcome_of, tick_at}
 
 -- words and the end of their line
@@ -35,7 +35,7 @@ entry_lines entries = flat_map (λ n. entry_line n.0 n.1) (enumerate_from 1 entr
 unfoldable pub copy_line : PeerPlan → List Note → AuPlan → List ℕ
 copy_line peer notes au =
     if has_copy peer.copies au.id
-    then line (spaced (codes "copy" ∷ decimal peer.id ∷ decimal au.id ∷ decimal (version au.id notes) ∷ []))
+    then line (spaced_words (codes "copy" ∷ decimal peer.id ∷ decimal au.id ∷ decimal (version au.id notes) ∷ []))
     else []
 
 -- the copies of an honest peer
@@ -55,7 +55,7 @@ status_words (Some outcome) = outcome_words outcome
 -- a poll of the peer, with its inner and its outer votes
 unfoldable pub poll_line : ℕ → List Note → ℕ → ℕ → List ℕ
 poll_line peer notes number au =
-    line (spaced (codes "poll" ∷ decimal peer ∷ decimal number ∷ decimal au
+    line (spaced_words (codes "poll" ∷ decimal peer ∷ decimal number ∷ decimal au
     ∷ decimal (inner_votes number notes) ∷ decimal (outer_votes number notes)
     ∷ status_words (outcome_of number notes) ∷ []))
 
@@ -80,7 +80,7 @@ kind_words (raised.Overdue au) = codes "overdue" ∷ decimal au ∷ []
 
 -- the line of an alarm: its peer, its tick, and what it is of
 abbrev pub alarm_text : Alarm → List ℕ
-alarm_text alarm = line (spaced (codes "alarm" ∷ decimal alarm.peer ∷ decimal alarm.tick ∷ kind_words alarm.kind))
+alarm_text alarm = line (spaced_words (codes "alarm" ∷ decimal alarm.peer ∷ decimal alarm.tick ∷ kind_words alarm.kind))
 
 -- the line of a note that is an alarm
 unfoldable pub alarm_line : ℕ → ℕ → Note → List ℕ
@@ -96,7 +96,7 @@ alarm_lines entries = flat_map (λ n. entry_alarms (tick_at n.0 entries) n.1) (e
 
 -- the last line: how many entries there were
 unfoldable pub end_line : List Entry → List ℕ
-end_line entries = line (spaced (codes "end" ∷ decimal (length entries) ∷ []))
+end_line entries = line (spaced_words (codes "end" ∷ decimal (length entries) ∷ []))
 
 -- the whole report
 unfoldable pub text_of : Plan → List Entry → List ℕ

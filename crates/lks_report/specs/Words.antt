@@ -15,8 +15,8 @@ use Rattle.lks_words.specs.Printing.{behind}
 use Rattle.lks_words.specs.Steps.{own_words}
 
 -- words with a space between each two
-abbrev pub spaced : List (List ℕ) → List ℕ
-spaced words = join_with_byte 32 words
+abbrev pub spaced_words : List (List ℕ) → List ℕ
+spaced_words words = join_with_byte 32 words
 
 -- what the judge of effort proofs said, where it was asked
 unfoldable pub judged_words : Judged → List ℕ
@@ -47,11 +47,11 @@ unfoldable pub event_words : ℕ → ℕ → Event → List ℕ
 event_words from to (happened.Step s) = step_words from to s
 event_words from to (happened.Cut s true) = codes "cut kept " ++ step_words from to s
 event_words from to (happened.Cut s false) = codes "cut lost " ++ step_words from to s
-event_words from to (happened.Tick by) = spaced (codes "tick" ∷ decimal by ∷ [])
-event_words from to (happened.Lose envelope) = spaced (codes "lose" ∷ decimal envelope ∷ [])
+event_words from to (happened.Tick by) = spaced_words (codes "tick" ∷ decimal by ∷ [])
+event_words from to (happened.Lose envelope) = spaced_words (codes "lose" ∷ decimal envelope ∷ [])
 event_words from to (happened.Forge sender receiver bytes) =
-    spaced (codes "forge" ∷ decimal sender ∷ decimal receiver ∷ decimal (length bytes) ∷ [])
-event_words from to (happened.Crash peer) = spaced (codes "crash" ∷ decimal peer ∷ [])
+    spaced_words (codes "forge" ∷ decimal sender ∷ decimal receiver ∷ decimal (length bytes) ∷ [])
+event_words from to (happened.Crash peer) = spaced_words (codes "crash" ∷ decimal peer ∷ [])
 
 -- how a poll ended, with the block that it is about
 unfoldable pub outcome_words : Outcome → List ℕ
@@ -67,29 +67,29 @@ grade_word false = codes "high"
 
 -- a note; one on the peer's part in another peer's poll names that poll by its poller and its number
 unfoldable pub note_words : Note → List ℕ
-note_words (noted.Opened number au) = spaced (codes "opened" ∷ decimal number ∷ decimal au ∷ [])
-note_words (noted.Nominated number voter) = spaced (codes "nominated" ∷ decimal number ∷ decimal voter ∷ [])
-note_words (noted.Outer number count) = spaced (codes "outer" ∷ decimal number ∷ decimal count ∷ [])
-note_words (noted.VoteIn number voter inner) = spaced (codes "vote-in" ∷ decimal number ∷ decimal voter ∷ [])
-note_words (noted.Shut number) = spaced (codes "shut" ∷ decimal number ∷ [])
+note_words (noted.Opened number au) = spaced_words (codes "opened" ∷ decimal number ∷ decimal au ∷ [])
+note_words (noted.Nominated number voter) = spaced_words (codes "nominated" ∷ decimal number ∷ decimal voter ∷ [])
+note_words (noted.Outer number count) = spaced_words (codes "outer" ∷ decimal number ∷ decimal count ∷ [])
+note_words (noted.VoteIn number voter inner) = spaced_words (codes "vote-in" ∷ decimal number ∷ decimal voter ∷ [])
+note_words (noted.Shut number) = spaced_words (codes "shut" ∷ decimal number ∷ [])
 note_words (noted.Asked number block voter) =
-    spaced (codes "asked" ∷ decimal number ∷ decimal block ∷ decimal voter ∷ [])
+    spaced_words (codes "asked" ∷ decimal number ∷ decimal block ∷ decimal voter ∷ [])
 note_words (noted.RepairBad number block voter) =
-    spaced (codes "repair-bad" ∷ decimal number ∷ decimal block ∷ decimal voter ∷ [])
+    spaced_words (codes "repair-bad" ∷ decimal number ∷ decimal block ∷ decimal voter ∷ [])
 note_words (noted.Replaced number au block size) =
-    spaced (codes "replaced" ∷ decimal number ∷ decimal au ∷ decimal block ∷ decimal size ∷ [])
-note_words (noted.Closed number outcome) = spaced (codes "closed" ∷ decimal number ∷ outcome_words outcome ∷ [])
-note_words (noted.Overdue au) = spaced (codes "overdue" ∷ decimal au ∷ [])
+    spaced_words (codes "replaced" ∷ decimal number ∷ decimal au ∷ decimal block ∷ decimal size ∷ [])
+note_words (noted.Closed number outcome) = spaced_words (codes "closed" ∷ decimal number ∷ outcome_words outcome ∷ [])
+note_words (noted.Overdue au) = spaced_words (codes "overdue" ∷ decimal au ∷ [])
 note_words (noted.Joined poll au low) =
-    spaced (codes "joined" ∷ decimal poll.poller ∷ decimal poll.number ∷ decimal au ∷ grade_word low ∷ [])
+    spaced_words (codes "joined" ∷ decimal poll.poller ∷ decimal poll.number ∷ decimal au ∷ grade_word low ∷ [])
 note_words (noted.Committed poll version) =
-    spaced (codes "committed" ∷ decimal poll.poller ∷ decimal poll.number ∷ decimal version ∷ [])
-note_words (noted.Voted poll) = spaced (codes "voted" ∷ decimal poll.poller ∷ decimal poll.number ∷ [])
+    spaced_words (codes "committed" ∷ decimal poll.poller ∷ decimal poll.number ∷ decimal version ∷ [])
+note_words (noted.Voted poll) = spaced_words (codes "voted" ∷ decimal poll.poller ∷ decimal poll.number ∷ [])
 note_words (noted.Served poll block) =
-    spaced (codes "served" ∷ decimal poll.poller ∷ decimal poll.number ∷ decimal block ∷ [])
-note_words (noted.Ended poll) = spaced (codes "ended" ∷ decimal poll.poller ∷ decimal poll.number ∷ [])
+    spaced_words (codes "served" ∷ decimal poll.poller ∷ decimal poll.number ∷ decimal block ∷ [])
+note_words (noted.Ended poll) = spaced_words (codes "ended" ∷ decimal poll.poller ∷ decimal poll.number ∷ [])
 note_words (noted.Tuned quorum minority repairs) =
-    spaced (codes "tuned" ∷ decimal quorum ∷ decimal minority ∷ decimal repairs ∷ [])
+    spaced_words (codes "tuned" ∷ decimal quorum ∷ decimal minority ∷ decimal repairs ∷ [])
 
 -- the notes of an entry, or a hyphen for none
 unfoldable pub notes_words : List Note → List ℕ

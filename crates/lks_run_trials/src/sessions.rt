@@ -16,7 +16,7 @@ use lks_base::{
     Record, Rules, Seq,
 };
 use lks_blocks::{BlockPool, Refs};
-use lks_sessions::{Sessions, answer_invitation, answer_proof, answer_request, end, work};
+use lks_sessions::{Proof, Sessions, answer_invitation, answer_proof, answer_request, end, work};
 use lks_versions::Versions;
 use std::alloc::Global;
 use std::sync::Wait;
@@ -126,17 +126,15 @@ fn react(
         Step::Invite { tick } => {
             answer_invitation(alloc, own, sessions, copies, 1, tick, poll, 1)?
         }
-        Step::Prove { judged } => answer_proof(
-            alloc,
-            own,
-            sessions,
-            copies,
-            &[2, 3, 4],
-            poll,
-            NONCE,
-            HashKind::Sha256,
-            judged,
-        )?,
+        Step::Prove { judged } => {
+            let proof = Proof {
+                poll,
+                nonce: NONCE,
+                kind: HashKind::Sha256,
+                judged,
+            };
+            answer_proof(alloc, own, sessions, copies, &[2, 3, 4], &proof)?
+        }
         Step::Work => work(alloc, pool, own, sessions, poll)?,
         Step::Request { block } => answer_request(alloc, pool, sessions, poll, block)?,
         Step::End => end(alloc, sessions, poll)?,

@@ -10,7 +10,7 @@ use Rattle.lks_script.specs.StepRules.{is_said, is_said_vote, is_invitation, is_
 use Rattle.lks_script.specs.StepRules.{is_step_of}
 use Rattle.lks_script.specs.declared.steps.Step.{Step}
 use Rattle.lks_script.specs.declared.steps.Step.TheVariants as step
-use Rattle.lks_saying.specs.Sayings.{Saying, planned, proof_by, vote_by, said_by, MayBeSaid}
+use Rattle.lks_saying.specs.Sayings.{Saying, planned_peer, proof_by, vote_by, said_by, MayBeSaid}
 
 pub said_ends : (plan : Plan) (from to : ℕ) → is_said plan from to ≡ true
     → (has_corrupt plan.peers from ≡ true) × (has_peer plan.peers to ≡ true)
@@ -32,7 +32,7 @@ saying_may : (plan : Plan) (s : Step) → is_step_of plan s ≡ true → IfSome 
 unfolding said_by is_step_of is_invitation is_said_vote is_request is_repair is_nomination
 saying_may plan (step.SayPoll from to number au) legal =
     said_ends plan from to (and_parts (is_said plan from to) (has_au plan.aus au) legal).0
-saying_may plan (step.SayProof from to number) legal = proof_may plan from to number (planned plan from) legal
+saying_may plan (step.SayProof from to number) legal = proof_may plan from to number (planned_peer plan from) legal
 saying_may plan (step.SayRequest from to number block) legal =
     said_ends plan from to (and_parts (is_said plan from to) (nat_le block LAST_BLOCK) legal).0
 saying_may plan (step.SayReceipt from to number) legal = said_ends plan from to legal
@@ -44,7 +44,7 @@ saying_may plan (step.SayVote from to number au blocks) legal =
     (are_short blocks) legal in
     let first = and_parts (is_said plan from to && has_au plan.aus au) (is_within 1 MOST_BLOCKS (length blocks))
     all.0 in
-    vote_may plan from to (planned plan from) (planned plan to) number au blocks
+    vote_may plan from to (planned_peer plan from) (planned_peer plan to) number au blocks
     (and_parts (is_said plan from to) (has_au plan.aus au) first.0).0
 saying_may plan (step.SayRepair from to number block bytes) legal =
     let all = and_parts (is_said plan from to && nat_le block LAST_BLOCK) (nat_le (length bytes) MOST_BLOCK_BYTES)

@@ -30,7 +30,7 @@ use Rattle.lks_script.specs.declared.steps.Step.{Step}
 use Rattle.lks_script.specs.declared.steps.Step.TheVariants as step
 use Rattle.lks_saying.proofs.Hashed.{no_bytes, cons_bytes, append_bytes, joined_bytes, number_bytes, IsHash, is_hash}
 use Rattle.lks_saying.specs.Bytes.{AreBytes, GivesBytes}
-use Rattle.lks_saying.specs.Sayings.{planned, proof_by, count_for, vote_by, said_by}
+use Rattle.lks_saying.specs.Sayings.{planned_peer, proof_by, count_for, vote_by, said_by}
 
 -- ---- messages
 
@@ -189,7 +189,7 @@ module _ (plan : Plan) (good : plan_fault plan ≡ None)
   hashes_are second key [] = tt
   hashes_are second key (b ∷ blocks) = (is_hash second (key ++ b), hashes_are second (linked second key b) blocks)
 
-  planned_proof : (id : ℕ) (p : PeerPlan) → planned plan id ≡ Some p
+  planned_proof : (id : ℕ) (p : PeerPlan) → planned_peer plan id ≡ Some p
       → (length p.proof ≤ MOST_PROOF_BYTES) × AreBytes p.proof
   planned_proof id p found = (
     short_proof plan (λ x. x.id == id) p good found,
@@ -197,7 +197,7 @@ module _ (plan : Plan) (good : plan_fault plan ≡ None)
         (recursion_from_All (λ (x : PeerPlan). AreBytes x.proof) plan.peers proofs) found,
   )
 
-  proof_says : (from to number : ℕ) (sender : Option PeerPlan) → planned plan from ≡ sender
+  proof_says : (from to number : ℕ) (sender : Option PeerPlan) → planned_peer plan from ≡ sender
       → IfSome (proof_by from to number sender) (λ x. IsSayable x.message)
   proof_says from to number None is = tt
   proof_says from to number (Some p) is =
@@ -205,7 +205,7 @@ module _ (plan : Plan) (good : plan_fault plan ≡ None)
       proof_sayable number (nonce_from p.seed number) p.hash p.proof (nonce_is p.seed number) proof.0 proof.1
 
   vote_says : (from to : ℕ) (voter poller : Option PeerPlan) (number au : ℕ) (blocks : List (List ℕ))
-      → length blocks ≤ MOST_BLOCKS → planned plan from ≡ voter
+      → length blocks ≤ MOST_BLOCKS → planned_peer plan from ≡ voter
       → IfSome (vote_by plan from to voter poller number au blocks) (λ x. IsSayable x.message)
   vote_says from to None poller number au blocks few is = tt
   vote_says from to (Some v) None number au blocks few is = tt
@@ -228,7 +228,7 @@ module _ (plan : Plan) (good : plan_fault plan ≡ None)
   says_bytes step.Finish legal are = tt
   says_bytes (step.Forge from to bytes) legal are = tt
   says_bytes (step.SayPoll from to number au) legal are = invitation_sayable number au
-  says_bytes (step.SayProof from to number) legal are = proof_says from to number (planned plan from) refl
+  says_bytes (step.SayProof from to number) legal are = proof_says from to number (planned_peer plan from) refl
   says_bytes (step.SayRequest from to number block) legal are = request_sayable number block
   says_bytes (step.SayReceipt from to number) legal are = receipt_sayable number
   says_bytes (step.SayChallenge from to number agrees) legal are = challenge_sayable number agrees
@@ -242,7 +242,7 @@ module _ (plan : Plan) (good : plan_fault plan ≡ None)
       let first = and_parts (is_said plan from to && has_au plan.aus au) (is_within 1 MOST_BLOCKS (length blocks))
       all.0 in
       let few = and_parts (nat_le 1 (length blocks)) (nat_le (length blocks) MOST_BLOCKS) first.1 in
-      vote_says from to (planned plan from) (planned plan to) number au blocks
+      vote_says from to (planned_peer plan from) (planned_peer plan to) number au blocks
       (leb-true (length blocks) MOST_BLOCKS few.1) refl
   says_bytes (step.SayRepair from to number block bytes) legal are =
       let all = and_parts (is_said plan from to && nat_le block LAST_BLOCK) (nat_le (length bytes) MOST_BLOCK_BYTES)

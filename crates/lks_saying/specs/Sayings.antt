@@ -21,8 +21,8 @@ pub record Saying : Type 0 where
 abbrev pub saying : ℕ → ℕ → Message → Saying
 saying from to m = record { from = from; to = to; message = m }
 
-abbrev pub planned : Plan → ℕ → Option PeerPlan
-planned plan id = find (λ p. p.id == id) plan.peers
+abbrev pub planned_peer : Plan → ℕ → Option PeerPlan
+planned_peer plan id = find (λ p. p.id == id) plan.peers
 
 -- a proof names the nonce and the hash of the sender's own poll
 abbrev pub proof_by : ℕ → ℕ → ℕ → Option PeerPlan → Option Saying
@@ -58,13 +58,13 @@ said_by plan step.Settle = None
 said_by plan step.Finish = None
 said_by plan (step.Forge from to bytes) = None
 said_by plan (step.SayPoll from to number au) = Some (saying from to (message.Poll number au))
-said_by plan (step.SayProof from to number) = proof_by from to number (planned plan from)
+said_by plan (step.SayProof from to number) = proof_by from to number (planned_peer plan from)
 said_by plan (step.SayRequest from to number block) = Some (saying from to (message.RepairRequest number block))
 said_by plan (step.SayReceipt from to number) = Some (saying from to (message.Receipt number))
 said_by plan (step.SayChallenge from to number agrees) = Some (saying from to (message.PollChallenge number agrees))
 said_by plan (step.SayNominate from to number nominees) = Some (saying from to (message.Nominate number nominees))
 said_by plan (step.SayVote from to number au blocks) =
-    vote_by plan from to (planned plan from) (planned plan to) number au blocks
+    vote_by plan from to (planned_peer plan from) (planned_peer plan to) number au blocks
 said_by plan (step.SayRepair from to number block bytes) = Some (saying from to (message.Repair number block bytes))
 said_by plan (step.Crash peer) = None
 said_by plan (step.Cut calls choice s) = None

@@ -10,7 +10,7 @@ ghost use Rattle.lks_message.specs.Spelling.{IsWithin};
 ghost use Rattle.lks_base.specs.declared.limits.TheConstants.{LAST_BLOCK, MOST_BLOCKS, MOST_BLOCK_BYTES};
 ghost use Rattle.lks_base.specs.declared.limits.TheConstants.{MOST_NOMINEES, MOST_PROOF_BYTES};
 ghost use Rattle.lks_script.specs.StepRules.{is_step_of};
-ghost use Rattle.lks_saying.specs.Sayings.{saying, planned, proof_by, count_for, vote_over, vote_by, said_by};
+ghost use Rattle.lks_saying.specs.Sayings.{saying, planned_peer, proof_by, count_for, vote_over, vote_by, said_by};
 
 use lks_base::{
     AuId, AuPlan, Bytes, Hashes, Ids, Message, OutOfMemory, PeerId, PeerPlan, Plan, Seq,
@@ -23,7 +23,7 @@ use std::sync::ledger::{Blank, Ledger};
 
 /// The declared peer of this number.
 fn find_planned(plan: &Plan, id: PeerId) -> Option<&PeerPlan>
-    ensures { option_copied result ≡ planned plan.now id }
+    ensures { option_copied result ≡ planned_peer plan.now id }
 {
     plan.peers.as_slice().iter().find(|p| p.id == id)
 }
@@ -153,7 +153,8 @@ fn say_vote(
     requires good { plan_fault plan.now ≡ None }
     requires few { length blocks.now ≤ MOST_BLOCKS }
     ensures said { IfOk result
-        (λ s. s ≡ vote_by plan.now from to (planned plan.now from) (planned plan.now to) number au blocks.now) }
+        (λ s. s ≡ vote_by plan.now from to (planned_peer plan.now from)
+        (planned_peer plan.now to) number au blocks.now) }
     ensures within { IfOk result (λ s. IfSome s (λ x. IsWithin x.message)) }
 {
     let (Some(voter), Some(poller)) = (find_planned(plan, from), find_planned(plan, to)) else {
@@ -171,7 +172,7 @@ fn say_proof(
     number: u32,
 ) -> Result<Option<Saying>, OutOfMemory>
     requires { plan_fault plan.now ≡ None }
-    ensures said { IfOk result (λ s. s ≡ proof_by from to number (planned plan.now from)) }
+    ensures said { IfOk result (λ s. s ≡ proof_by from to number (planned_peer plan.now from)) }
     ensures within { IfOk result (λ s. IfSome s (λ x. IsWithin x.message)) }
 {
     let Some(sender) = find_planned(plan, from) else {

@@ -14,7 +14,7 @@ use Rattle.lks_script.specs.declared.faults.ScriptFault.{ScriptFault}
 use Rattle.lks_script.specs.declared.steps.Script.{Script}
 use Rattle.lks_script.specs.declared.steps.Step.{Step}
 use Rattle.lks_script.specs.StepRules.{is_step_of, are_steps_of, has_power_for}
-use Rattle.lks_lines.specs.PlanLines.{numbers_in, rules_in, are_good, begun}
+use Rattle.lks_lines.specs.PlanLines.{numbers_in, rules_in, are_good, begun_draft}
 use Rattle.lks_words.proofs.Decimals.{number_most}
 use Rattle.lks_words.proofs.Steps.{bind_some, if_some, same_some}
 use Rattle.lks_lines.proofs.Passing.{Peopled, AreAus, passes, begun_ready, aus_good, peer_good, list_good, hash_good}
@@ -53,7 +53,7 @@ sound_kept = record {
   turns = λ rules word n h e. record { good = h.good; few = le-leb n 4096 (number_most 4096 word n e); are = h.are };
   au = λ rules turns aus now words h e. record { good = h.good; few = h.few; are = aus_good aus now words h.are e };
   first_peer =
-      λ rules turns aus now words h. peer_good (begun rules turns aus) now words
+      λ rules turns aus now words h. peer_good (begun_draft rules turns aus) now words
       (begun_ready rules turns aus h.good h.few h.are);
   peer = λ at plan now words h. peer_good plan now words h.ready;
   list = λ kind at. list_good kind;

@@ -20,14 +20,14 @@ use Rattle.lks_script.specs.declared.steps.Step.{Step}
 use Rattle.lks_words.specs.Numbers.{number_in}
 use Rattle.lks_words.specs.Words.{parts}
 use Rattle.lks_script.specs.StepRules.{is_step_of, has_power_for}
-use Rattle.lks_lines.specs.PlanLines.{rules_in, aus_with, begun, draft_with_peer}
+use Rattle.lks_lines.specs.PlanLines.{rules_in, aus_with, begun_draft, draft_with_peer}
 use Rattle.lks_lines.specs.ListLines.{draft_with_list, draft_with_hash}
 use Rattle.lks_lines.specs.CopyLines.{draft_with_copy, draft_with_damage}
 use Rattle.lks_words.proofs.Steps.{bind_some, map_some, if_some, if_else, same_some}
 use Rattle.lks_script.specs.StepLines.{step_in, steps_with}
 use Rattle.lks_script.specs.Grammar.{title_line, rules_line, au_line, turns_line, peer_line, ruled_line, step_line}
 use Rattle.lks_script.specs.Grammar.{later_line, declares_peer, planned_line, stepped_line, line_in, means_nothing}
-use Rattle.lks_script.specs.Grammar.{with_line, ended, line_number, end_in, lines_in, script_of}
+use Rattle.lks_script.specs.Grammar.{with_line, script_of_draft, line_number, end_in, lines_in, script_of}
 
 -- a line of lists or copies keeps P
 abbrev pub IsKeptBy : (Draft → Type 0) → (PlanDraft → List (List ℕ) → Option PlanDraft) → Type 0
@@ -44,7 +44,7 @@ pub record IsKept (P : Draft → Type 0) : Type 0 where
   pub au : (rules : Rules) (turns : Option ℕ) (aus now : List AuPlan) (words : List (List ℕ))
       → P (Ruled rules turns aus) → aus_with aus words ≡ Some now → P (Ruled rules turns now)
   pub first_peer : (rules : Rules) (turns : Option ℕ) (aus : List AuPlan) (now : PlanDraft) (words : List (List ℕ))
-      → P (Ruled rules turns aus) → draft_with_peer (begun rules turns aus) words ≡ Some now
+      → P (Ruled rules turns aus) → draft_with_peer (begun_draft rules turns aus) words ≡ Some now
       → P (Planned part.Peers now)
   pub peer : (at : PlanPart) (plan now : PlanDraft) (words : List (List ℕ)) → P (Planned at plan)
       → draft_with_peer plan words ≡ Some now → P (Planned part.Peers now)
@@ -110,9 +110,9 @@ module _ (P : Draft → Type 0) (kept : IsKept P) where
       if_else (bytes_eq key (codes "au")) (au_line rules turns aus more) _ draft
       (made (λ now. Ruled rules turns now) (aus_with aus more) draft
       (λ now. kept.au rules turns aus now more h)) (
-      λ f. made (λ now. Planned part.Peers now) (draft_with_peer (begun rules turns aus) more) draft
+      λ f. made (λ now. Planned part.Peers now) (draft_with_peer (begun_draft rules turns aus) more) draft
       (λ now. kept.first_peer rules turns aus now more h)
-      (if_some (bytes_eq key (codes "peer")) (peer_line (begun rules turns aus) more) draft f).1)) e
+      (if_some (bytes_eq key (codes "peer")) (peer_line (begun_draft rules turns aus) more) draft f).1)) e
 
   step_kept : (plan : Plan) (steps : List Step) (key : List ℕ) (more : List (List ℕ)) (draft : Draft)
       → P (Stepped plan steps) → step_line plan steps key more ≡ Some draft → P draft
@@ -175,8 +175,8 @@ module _ (P : Draft → Type 0) (kept : IsKept P) where
   abbrev IsWhole : Script → Type 0
   IsWhole script = P (Stepped script.plan script.steps)
 
-  ended_kept : (draft : Draft) (script : Script) → P draft → ended draft ≡ Some script → IsWhole script
-  unfolding ended
+  ended_kept : (draft : Draft) (script : Script) → P draft → script_of_draft draft ≡ Some script → IsWhole script
+  unfolding script_of_draft
   ended_kept (Planned at plan) script h e =
       subst IsWhole (same_some (record { plan = plan.plan; steps = [] }) script e) (kept.no_steps at plan h)
   ended_kept (Stepped plan steps) script h e =
@@ -188,8 +188,8 @@ module _ (P : Draft → Type 0) (kept : IsKept P) where
   unfolding lines_in end_in
   lines_kept k draft [] script h e = absurd cc
   lines_kept k draft (last ∷ []) script h e =
-      let a = found_script (cond (eqb (length last) 0) (ended draft) None) (line_number k) script e in
-      ended_kept draft script h (if_some (eqb (length last) 0) (ended draft) script a).1
+      let a = found_script (cond (eqb (length last) 0) (script_of_draft draft) None) (line_number k) script e in
+      ended_kept draft script h (if_some (eqb (length last) 0) (script_of_draft draft) script a).1
   lines_kept k draft (line ∷ next ∷ lines) script h e =
       let a = found_draft (with_line draft line) (λ longer. lines_in (k + 1) longer (next ∷ lines)) (line_number k)
       script e in

@@ -20,7 +20,7 @@ use Rattle.lks_script.specs.declared.steps.Script.{Script}
 use Rattle.lks_script.specs.declared.steps.Step.{Step}
 use Rattle.lks_words.specs.Numbers.{◌>>=◌, number_in}
 use Rattle.lks_words.specs.Words.{parts}
-use Rattle.lks_lines.specs.PlanLines.{rules_in, aus_with, begun, draft_with_peer}
+use Rattle.lks_lines.specs.PlanLines.{rules_in, aus_with, begun_draft, draft_with_peer}
 use Rattle.lks_lines.specs.ListLines.{draft_with_list, draft_with_hash}
 use Rattle.lks_lines.specs.CopyLines.{draft_with_copy, draft_with_damage}
 use Rattle.lks_script.specs.StepLines.{steps_with}
@@ -57,7 +57,7 @@ unfoldable pub ruled_line : Rules → Option ℕ → List AuPlan → List (List 
 ruled_line rules turns aus (key ∷ more) =
     if bytes_eq key (codes "turns") then turns_line rules turns aus more
     else if bytes_eq key (codes "au") then au_line rules turns aus more
-    else if bytes_eq key (codes "peer") then peer_line (begun rules turns aus) more
+    else if bytes_eq key (codes "peer") then peer_line (begun_draft rules turns aus) more
     else None
 ruled_line rules turns aus _ = None
 
@@ -117,10 +117,10 @@ unfoldable pub with_line : Draft → List ℕ → Option Draft
 with_line draft line = if means_nothing line then Some draft else line_in draft (parts 32 line)
 
 -- the script, where its end may come here
-unfoldable pub ended : Draft → Option Script
-ended (Planned at plan) = Some (record { plan = plan.plan; steps = [] })
-ended (Stepped plan steps) = Some (record { plan = plan; steps = steps })
-ended _ = None
+unfoldable pub script_of_draft : Draft → Option Script
+script_of_draft (Planned at plan) = Some (record { plan = plan.plan; steps = [] })
+script_of_draft (Stepped plan steps) = Some (record { plan = plan; steps = steps })
+script_of_draft _ = None
 
 -- the number of a line, or the last one that has a place
 unfoldable pub line_number : ℕ → ℕ
@@ -129,7 +129,10 @@ line_number k = min k 4294967295
 -- behind the last line end: nothing, and the script is ended
 unfoldable pub end_in : ℕ → Draft → List ℕ → Result Script ℕ
 end_in k draft last =
-    elim (if length last == 0 then ended draft else None) [ Some script ↦ Ok script | None ↦ Err (line_number k) ]
+    elim (if length last == 0 then script_of_draft draft else None) [
+      | Some script ↦ Ok script
+      | None ↦ Err (line_number k)
+    ]
 
 -- the lines from the k-th on, and what stands behind the last line end
 unfoldable pub lines_in : ℕ → Draft → List (List ℕ) → Result Script ℕ

@@ -6,7 +6,7 @@ ghost use Rattle.lks_script.specs.declared.drafts.Draft.TheVariants as drafts;
 ghost use Rattle.lks_script.specs.declared.drafts.PlanPart.TheVariants as parts;
 ghost use Rattle.lks_script.specs.Grammar.{title_line, rules_line, turns_line, au_line, peer_line, ruled_line};
 ghost use Rattle.lks_script.specs.Grammar.{in_peers, step_line, later_line, declares_peer, planned_line, stepped_line};
-ghost use Rattle.lks_script.specs.Grammar.{line_in, ended};
+ghost use Rattle.lks_script.specs.Grammar.{line_in, script_of_draft};
 
 use crate::step_lines::add_step;
 use crate::steps::{Script, Step};
@@ -253,9 +253,9 @@ pub fn read_line(alloc: Global, draft: Draft, words: &[&[u8]]) -> Result<Draft, 
 }
 
 /// The script, where its end may come here.
-#[tactic(auto, unfolding(crate::specs::Grammar::ended))]
+#[tactic(auto, unfolding(crate::specs::Grammar::script_of_draft))]
 pub fn into_script(alloc: Global, draft: Draft) -> Option<Script>
-    ensures { result ≡ ended draft }
+    ensures { result ≡ script_of_draft draft }
 {
     match draft {
         Draft::Blank => None,

@@ -22,4 +22,4 @@ pub use invitations::answer_invitation;
 pub use jobs::{accept, job, tag_waiting};
 pub use repairs::{answer_request, end};
 pub use sessions::Sessions;
-pub use votes::{answer_proof, work};
+pub use votes::{Proof, answer_proof, work};

@@ -62,25 +62,33 @@ fn write_vote(
     write(alloc, &message, poll.poller)
 }
 
+/// A proof of the poller's effort as it came in, and what the judge said of it.
+#[derive(Drop)]
+pub struct Proof<'a> {
+    pub poll: PollName,
+    pub nonce: &'a [u8; 32],
+    pub kind: HashKind,
+    pub judged: Judged,
+}
+
 fn commit_to(
     alloc: Global,
     own: &Station,
     refs: &[PeerId],
-    poll: PollName,
     version: u32,
-    nonce: &[u8; 32],
-    kind: HashKind,
+    proof: &Proof<'_>,
 ) -> Result<Reaction, OutOfMemory>
-    ensures { IfOk result (λ r. r ≡ commits own.now refs.now poll version nonce.now kind Judged.Accepted) }
+    ensures { IfOk result
+        (λ r. r ≡ commits own.now refs.now proof.now.poll version proof.now.nonce.now proof.now.kind Judged.Accepted) }
 {
     let item = Record::Committed {
-        poll,
-        nonce: *nonce,
+        poll: proof.poll,
+        nonce: *proof.nonce,
         version,
-        kind,
+        kind: proof.kind,
     };
     let mut sends = Vec::new(alloc);
-    sends.push(write_nomination(alloc, own, refs, poll)?)?;
+    sends.push(write_nomination(alloc, own, refs, proof.poll)?)?;
     adding(alloc, item, Seq::from_vec(sends))
 }
 
@@ -88,17 +96,15 @@ fn commit(
     alloc: Global,
     own: &Station,
     refs: &[PeerId],
-    poll: PollName,
     version: u32,
-    nonce: &[u8; 32],
-    kind: HashKind,
-    judged: Judged,
+    proof: &Proof<'_>,
 ) -> Result<Reaction, OutOfMemory>
-    ensures { IfOk result (λ r. r ≡ commits own.now refs.now poll version nonce.now kind judged) }
+    ensures { IfOk result
+        (λ r. r ≡ commits own.now refs.now proof.now.poll version proof.now.nonce.now proof.now.kind proof.now.judged) }
 {
-    match judged {
-        Judged::Accepted => commit_to(alloc, own, refs, poll, version, nonce, kind),
-        Judged::Refused => adding(alloc, Record::Ended { poll }, no_sends(alloc)),
+    match proof.judged {
+        Judged::Accepted => commit_to(alloc, own, refs, version, proof),
+        Judged::Refused => adding(alloc, Record::Ended { poll: proof.poll }, no_sends(alloc)),
         Judged::NotAsked => Ok(no_reaction(alloc)),
     }
 }
@@ -107,41 +113,40 @@ fn nominate_again(
     alloc: Global,
     own: &Station,
     refs: &[PeerId],
-    poll: PollName,
     committed: &Committed,
-    nonce: &[u8; 32],
-    kind: HashKind,
+    proof: &Proof<'_>,
 ) -> Result<Reaction, OutOfMemory>
-    ensures { IfOk result (λ r. r ≡ commits_again own.now refs.now poll committed.now.commitment nonce.now kind None) }
+    ensures { IfOk result
+        (λ r. r
+        ≡ commits_again own.now refs.now proof.now.poll committed.now.commitment proof.now.nonce.now
+        proof.now.kind None) }
 {
-    if !committed.repeats(nonce, kind) {
+    if !committed.repeats(proof.nonce, proof.kind) {
         return Ok(no_reaction(alloc));
     }
-    sending(alloc, write_nomination(alloc, own, refs, poll)?)
+    sending(alloc, write_nomination(alloc, own, refs, proof.poll)?)
 }
 
 fn vote_again(
     alloc: Global,
     own: &Station,
     refs: &[PeerId],
-    poll: PollName,
     session: &CastSession,
-    nonce: &[u8; 32],
-    kind: HashKind,
+    proof: &Proof<'_>,
 ) -> Result<Reaction, OutOfMemory>
     requires sendable { IsCastWell (cast_of session.now) }
     requires proof { length own.now.proof ≤ MOST_PROOF_BYTES }
     ensures { IfOk result
         (λ r. r
-        ≡ commits_again own.now refs.now poll session.now.voted.committed.commitment nonce.now kind
-        (Some session.now.voted.hashes)) }
+        ≡ commits_again own.now refs.now proof.now.poll session.now.voted.committed.commitment proof.now.nonce.now
+        proof.now.kind (Some session.now.voted.hashes)) }
 {
-    if !session.voted.committed().repeats(nonce, kind) {
+    if !session.voted.committed().repeats(proof.nonce, proof.kind) {
         return Ok(no_reaction(alloc));
     }
     let mut sends = Vec::new(alloc);
-    sends.push(write_nomination(alloc, own, refs, poll)?)?;
-    sends.push(write_vote(alloc, own, poll, session.voted.hashes())?)?;
+    sends.push(write_nomination(alloc, own, refs, proof.poll)?)?;
+    sends.push(write_vote(alloc, own, proof.poll, session.voted.hashes())?)?;
     Ok(telling(alloc, Seq::from_vec(sends)))
 }
 
@@ -155,26 +160,24 @@ pub fn answer_proof(
     sessions: &Sessions,
     copies: &[Held],
     refs: &[PeerId],
-    poll: PollName,
-    nonce: &[u8; 32],
-    kind: HashKind,
-    judged: Judged,
+    proof: &Proof<'_>,
 ) -> Result<Reaction, OutOfMemory>
     requires proof { length own.now.proof ≤ MOST_PROOF_BYTES }
     requires sendable { IsSendable (voter_of sessions.now) }
     ensures { IfOk result
         (λ r. r
-        ≡ proof_in own.now (voter_of sessions.now) (copies_of copies.now) refs.now poll nonce.now kind judged) }
+        ≡ proof_in own.now (voter_of sessions.now) (copies_of copies.now) refs.now proof.now.poll proof.now.nonce.now
+        proof.now.kind proof.now.judged) }
 {
-    if let Some(session) = sessions.find_joined(poll) {
+    if let Some(session) = sessions.find_joined(proof.poll) {
         let version = version_of(copies, session.joined.au());
-        return commit(alloc, own, refs, poll, version, nonce, kind, judged);
+        return commit(alloc, own, refs, version, proof);
     }
-    if let Some(session) = sessions.find_pinned(poll) {
-        return nominate_again(alloc, own, refs, poll, &session.committed, nonce, kind);
+    if let Some(session) = sessions.find_pinned(proof.poll) {
+        return nominate_again(alloc, own, refs, &session.committed, proof);
     }
-    match sessions.find_cast(poll) {
-        Some(session) => vote_again(alloc, own, refs, poll, session, nonce, kind),
+    match sessions.find_cast(proof.poll) {
+        Some(session) => vote_again(alloc, own, refs, session, proof),
         None => Ok(no_reaction(alloc)),
     }
 }

@@ -4,7 +4,7 @@ use Rattle.std.specs.Prelude.{slice_set}
 use Rattle.std.proofs.lemmas.List.{get_or-append_right}
 use Rattle.lks_blocks.specs.Block.{Block, bytes_of}
 use Rattle.lks_blocks.proofs.Bytes.{bytes_set}
-use Rattle.lks_versions.specs.Shelf.{Shelf, newest_of, replaced}
+use Rattle.lks_versions.specs.Shelf.{Shelf, newest_of, with_replaced}
 
 last_of : (lists : List (List Block)) (list : List Block)
     → get_or (lists ++ list ∷ []) (length (lists ++ list ∷ []) - 1) [] ≡ list
@@ -16,10 +16,10 @@ last_of lists list =
     ∙ ap (λ k. get_or (list ∷ []) k []) here
 
 pub newest_replaced : (s : Shelf) (b : ℕ) (block : Block)
-    → newest_of (replaced s b block) ≡ slice_set (newest_of s) b block
+    → newest_of (with_replaced s b block) ≡ slice_set (newest_of s) b block
 newest_replaced s b block = last_of s.lists (slice_set (newest_of s) b block)
 
-pub bytes_replaced : (old new : Shelf) (b : ℕ) (block : Block) (bytes : List ℕ) → new ≡ replaced old b block
+pub bytes_replaced : (old new : Shelf) (b : ℕ) (block : Block) (bytes : List ℕ) → new ≡ with_replaced old b block
     → block.bytes ≡ bytes
     → bytes_of (newest_of new) ≡ slice_set (bytes_of (newest_of old)) b bytes
 bytes_replaced old new b block bytes is same =

@@ -3,7 +3,7 @@ use Rattle.std.specs.Prelude.{◌≡◌, ℕ, zero, suc, List, [], ◌∷◌, �
 use Rattle.std.proofs.Common.{sym, ap, refl, subst}
 use Rattle.std.proofs.lemmas.List.Elements.{All-nil, All-cons, All-head, All-tail, All-push}
 use Rattle.lks_blocks.specs.Block.{Block, AllOf, all_none, all_set}
-use Rattle.lks_versions.specs.Shelf.{Shelf, version_of, newest_of, current_of, replaced}
+use Rattle.lks_versions.specs.Shelf.{Shelf, version_of, newest_of, current_of, with_replaced}
 
 -- each block of each version is of this pool
 unfoldable pub EachOf : List ℕ → List (List Block) → Type 0
@@ -38,7 +38,7 @@ pub each_newest : (pool : List ℕ) (s : Shelf) (list : List Block) → list ≡
 each_newest pool s list is each = each_at pool s (current_of s) list is each
 
 -- of what a replacement leaves
-pub each_replaced : (pool : List ℕ) (old new : Shelf) (b : ℕ) (block : Block) → new ≡ replaced old b block
+pub each_replaced : (pool : List ℕ) (old new : Shelf) (b : ℕ) (block : Block) → new ≡ with_replaced old b block
     → block.pool ≡ pool → EachOf pool old.lists → EachOf pool new.lists
 each_replaced pool old new b block is of each =
     each_put pool old.lists new.lists _ (ap (λ (s : Shelf). s.lists) is) each

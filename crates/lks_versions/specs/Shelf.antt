@@ -24,13 +24,13 @@ abbrev pub newest_of : Shelf → List Block
 newest_of s = version_of s (current_of s)
 
 -- one version more, which has another block b than the newest
-abbrev pub replaced : Shelf → ℕ → Block → Shelf
-replaced s b block = record s { lists = s.lists ++ slice_set (newest_of s) b block ∷ [] }
+abbrev pub with_replaced : Shelf → ℕ → Block → Shelf
+with_replaced s b block = record s { lists = s.lists ++ slice_set (newest_of s) b block ∷ [] }
 
 -- the same, where block b is now one of this pool with these bytes
 abbrev pub IsReplaced : List ℕ → Shelf → Shelf → ℕ → List ℕ → Type 0
 IsReplaced pool before after b bytes =
-    (block : Block) × (block.pool ≡ pool) × (block.bytes ≡ bytes) × (after ≡ replaced before b block)
+    (block : Block) × (block.pool ≡ pool) × (block.bytes ≡ bytes) × (after ≡ with_replaced before b block)
 
 -- the version is the newest, or a session pins it
 abbrev pub IsKept : Shelf → ℕ → Type 0

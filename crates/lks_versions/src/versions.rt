@@ -6,7 +6,7 @@ ghost use Rattle.lks_base.specs.declared.names.PollName.{PollName};
 ghost use Rattle.lks_blocks.specs.Block.{Block, AllOf, bytes_of};
 ghost use Rattle.lks_versions.specs.Each.{EachOf};
 ghost use Rattle.lks_versions.specs.Pins.{pin_of, pins_with, pins_without};
-ghost use Rattle.lks_versions.specs.Shelf.{current_of, newest_of, version_of, first_index, replaced, IsKept};
+ghost use Rattle.lks_versions.specs.Shelf.{current_of, newest_of, version_of, first_index, with_replaced, IsKept};
 ghost use Rattle.lks_versions.specs.Shelf.{IsReplaced};
 ghost use Rattle.lks_versions.specs.Whole.{IsCounted};
 
@@ -166,7 +166,7 @@ impl Versions {
         requires block { b < length (newest_of self.old) }
         requires room { current_of self.old < 4294967295 }
         ensures number { IfOk result (λ k. k ≡ current_of self.old + 1) }
-        ensures lists { OnOk result (self.new ≡ replaced self.old b r) }
+        ensures lists { OnOk result (self.new ≡ with_replaced self.old b r) }
         ensures added { IfOk result (λ k. version_of self.new k ≡ slice_set (newest_of self.old) b r) }
         ensures kept { (k : ℕ) → k ≤ current_of self.old → version_of self.new k ≡ version_of self.old k }
         ensures back { IfErr result (λ back. back ≡ r) }

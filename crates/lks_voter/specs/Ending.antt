@@ -9,13 +9,13 @@ abbrev pub poll_of : Session → PollName
 poll_of (session.Joined joined) = joined.poll
 poll_of (session.Committed committed) = committed.joined.poll
 poll_of (session.Voted vote) = vote.committed.joined.poll
-poll_of (session.Ended ended) = ended.poll
+poll_of (session.Ended ended_session) = ended_session.poll
 
 abbrev pub au_of : Session → ℕ
 au_of (session.Joined joined) = joined.au
 au_of (session.Committed committed) = committed.joined.au
 au_of (session.Voted vote) = vote.committed.joined.au
-au_of (session.Ended ended) = ended.au
+au_of (session.Ended ended_session) = ended_session.au
 
-abbrev pub ended : Session → Ending
-ended s = record { poll = poll_of s; au = au_of s }
+abbrev pub ended_session : Session → Ending
+ended_session s = record { poll = poll_of s; au = au_of s }

@@ -1,7 +1,7 @@
 //! A session in whichever state it is.
 
 ghost use Rattle.std.specs.Prelude.{◌≡◌};
-ghost use Rattle.lks_voter.specs.Ending.{poll_of, au_of, ended};
+ghost use Rattle.lks_voter.specs.Ending.{poll_of, au_of, ended_session};
 
 use crate::commitments::{Committed, Ended, Joined};
 use crate::votes::Voted;
@@ -43,7 +43,7 @@ impl Session {
 
     /// Ends the session, if it isn't over already.
     pub fn end(self) -> Ended
-        ensures { result ≡ ended self }
+        ensures { result ≡ ended_session self }
     {
         Ended::of(self.poll(), self.au())
     }

@@ -33,7 +33,7 @@ use Rattle.lks_world.specs.Cuts.{taker_of, FallsShort, Cuts, CutsOff}
 use Rattle.lks_world.specs.Endings.{AreMade, BurnsUnless, PeersEnd, HasEnded, SitesBurnFor, event_for, is_whole}
 use Rattle.lks_world.specs.Endings.{notes_for, sends_for}
 use Rattle.lks_world.specs.Hosts.{peer_in, peers_of, with_added, HaveGoneOn, IsAbsent}
-use Rattle.lks_world.specs.Kept.{kept}
+use Rattle.lks_world.specs.Kept.{with_event}
 use Rattle.lks_world.specs.Sites.{hosts_of, Counted, StandsAt}
 use Rattle.lks_world.specs.States.{left_after, world_in, sends_in, events_in, IsStateOf, Becomes}
 use Rattle.lks_world.specs.declared.cutting.Ending.{Ending}
@@ -194,7 +194,7 @@ module _ {D : Type 0} (f : Face D) (plan : Plan) where
         by_peer (Some x) there honest = honest x refl
 
     pub cuts_alone : (t : State D) → taken (world_in f s) ≡ None
-        → Becomes f plan (kept (events_in s) (events.Step p)) t → Cuts plan (events_in s) calls p (events_in t)
+        → Becomes f plan (with_event (events_in s) (events.Step p)) t → Cuts plan (events_in s) calls p (events_in t)
     cuts_alone t none b = record {
       alone = λ is. b.events;
       short =
@@ -205,13 +205,14 @@ module _ {D : Type 0} (f : Face D) (plan : Plan) where
 
     pub cuts_whole : (m : State D) (after : List Event) → length (events_in s) < MOST_EVENTS
         → IsSome (taken (world_in f s)) → HasEnded f plan calls s p m true
-        → after ≡ kept (events_in m) (events.Crash (taker_of s.bag.items p)) → Cuts plan (events_in s) calls p after
+        → after ≡ with_event (events_in m) (events.Crash (taker_of s.bag.items p))
+        → Cuts plan (events_in s) calls p after
     cuts_whole m after room there end is_crash = record {
       alone = λ none. absurd (some_there there none);
       short = λ (short : FallsShort plan (events_in s) calls p). absurd (never short end.1);
       whole =
           λ x honest spent. is_crash
-          ∙ (λ i. kept ((end.0.events ∙ sym (kept_room (events_in s) (events.Step p) room)) i)
+          ∙ (λ i. with_event ((end.0.events ∙ sym (kept_room (events_in s) (events.Step p) room)) i)
           (events.Crash (taker_of (is.world i).bag p)));
     }
       where
@@ -248,7 +249,7 @@ off_full plan history calls (Some p) full = record {
       record { is_kept = false; early = λ early. refl; more = sym (kept_full history (events.Cut p false) full) };
   whole = λ x honest spent.
       let crash = events.Crash (taker_of (world plan history).bag p) in
-      sym (ap (λ es. kept es crash) (kept_full history (events.Step p) full) ∙ kept_full history crash full);
+      sym (ap (λ es. with_event es crash) (kept_full history (events.Step p) full) ∙ kept_full history crash full);
 }
 
 -- Calls of the world's disks, and then a step that makes none.

@@ -33,15 +33,16 @@ use Rattle.lks_saying.proofs.Ends.{said_may}
 use Rattle.lks_saying.proofs.Sayable.{IsSayable, says_bytes}
 use Rattle.lks_saying.specs.Bytes.{AreBytes, GivesBytes, GiveBytes}
 use Rattle.lks_saying.specs.Sayings.{Saying, MayBeSaid, said_by}
-use Rattle.lks_world.specs.Follows.{next_event, done_within, done, lost, delivered_again, spoken, Performs, Follows}
-use Rattle.lks_world.specs.Kept.{kept}
+use Rattle.lks_world.specs.Follows.{next_event, done_within, done, next_lost, delivered_again, with_saying, Performs}
+use Rattle.lks_world.specs.Follows.{Follows}
+use Rattle.lks_world.specs.Kept.{with_event}
 use Rattle.lks_world.specs.declared.settling.Course.TheVariants.{Settling, Delivering, Finishing}
 
 -- ---- one event more, or a few
 
 module _ (plan : Plan) where
   kept_history : (history : List Event) (e : Event) → IsHistory plan history → MayHappen plan (world plan history) e
-      → IsHistory plan (kept history e)
+      → IsHistory plan (with_event history e)
   kept_history history e is may = by_room (nat_lt (length history) MOST_EVENTS) refl
     where
       by_room : (b : Bool) → nat_lt (length history) MOST_EVENTS ≡ b
@@ -89,12 +90,12 @@ module _ (plan : Plan) where
           let same : event_of verdict plan history d ≡ e = cc in
           subst (MayHappen plan (world plan history)) same (may history d due)
 
-  lost_history : Verdicts → (history : List Event) → IsHistory plan history → IsHistory plan (lost plan history)
-  unfolding lost
+  lost_history : Verdicts → (history : List Event) → IsHistory plan history → IsHistory plan (next_lost plan history)
+  unfolding next_lost
   lost_history verdict history is = by_next (next_to_lose plan history) refl
     where
       by_next : (o : Option ℕ) → next_to_lose plan history ≡ o
-          → IsHistory plan (option_map_or (λ i. kept history (events.Lose i)) o history)
+          → IsHistory plan (option_map_or (λ i. with_event history (events.Lose i)) o history)
       by_next None none = is
       by_next (Some i) waits = kept_history history (events.Lose i) is (lose_may verdict plan history i waits)
 
@@ -104,14 +105,14 @@ module _ (plan : Plan) where
   again_history verdict i history is = by_sent (nat_lt i (length (world plan history).bag)) refl
     where
       by_sent : (b : Bool) → nat_lt i (length (world plan history).bag) ≡ b
-          → IsHistory plan (cond b (kept history (delivery_of verdict plan history i)) history)
+          → IsHistory plan (cond b (with_event history (delivery_of verdict plan history i)) history)
       by_sent true sent =
           kept_history history (delivery_of verdict plan history i) is
           (delivery_may verdict plan history i (ltb-true i (length (world plan history).bag) sent))
       by_sent false never = is
 
   spoken_history : (history : List Event) (said : Option Saying) → IfSome said (MayBeSaid plan)
-      → IfSome said (λ x. IsSayable x.message) → IsHistory plan history → IsHistory plan (spoken history said)
+      → IfSome said (λ x. IsSayable x.message) → IsHistory plan history → IsHistory plan (with_saying history said)
   spoken_history history None may sayable is = is
   spoken_history history (Some x) may sayable is =
       kept_history history (events.Forge x.from x.to (spelling x.message)) is
@@ -121,9 +122,9 @@ module _ (plan : Plan) where
 
   done_then_crashed : (history : List Event) (p : PeerStep) (id : ℕ) (s : Standing)
       → MayStep plan (world plan history) p → peer_at id (world plan history).peers ≡ Some s
-      → IsHistory plan history → IsHistory plan (kept (kept history (events.Step p)) (events.Crash id))
+      → IsHistory plan history → IsHistory plan (with_event (with_event history (events.Step p)) (events.Crash id))
   done_then_crashed history p id s may there is =
-      kept_history (kept history (events.Step p)) (events.Crash id) (kept_history history (events.Step p) is may)
+      kept_history (with_event history (events.Step p)) (events.Crash id) (kept_history history (events.Step p) is may)
       (honest_at plan history id s there)
 
   cut_off_history : (history after : List Event) (calls : ℕ) (p : PeerStep) → MayStep plan (world plan history) p
@@ -168,7 +169,7 @@ module _ (plan : Plan) where
 module _ (verdict : Verdicts) (plan : Plan) (good : plan_fault plan ≡ None)
     (proofs : All (λ (p : PeerPlan). AreBytes p.proof) plan.peers) where
   said_history : (history after : List Event) (s : Step) → IsHistory plan history → is_step_of plan s ≡ true
-      → GivesBytes s → after ≡ spoken history (said_by plan s) → IsHistory plan after
+      → GivesBytes s → after ≡ with_saying history (said_by plan s) → IsHistory plan after
   said_history history after s is legal are made =
       subst (IsHistory plan) (sym made)
       (spoken_history plan history (said_by plan s) (said_may plan s (said_by plan s) refl legal)

@@ -56,7 +56,7 @@ use Rattle.lks_world.specs.Sites.{hosts_of, StandsAt}
 use Rattle.lks_world.specs.States.{events_in, site_steps, IsStateOf}
 use Rattle.lks_world.specs.declared.sites.Site.{Site}
 use Rattle.lks_world.specs.declared.sites.Site.TheVariants as site
-use Rattle.lks_world.specs.declared.giving.Next.TheVariants as next
+use Rattle.lks_world.specs.declared.giving.NextDue.TheVariants as next
 use Rattle.lks_world.specs.declared.settling.Course.TheVariants.{Finishing}
 use Rattle.lks_world.specs.declared.settling.OwnSteps.TheVariants.{Ready, Turns}
 use Rattle.lks_world.specs.declared.states.State.{State}

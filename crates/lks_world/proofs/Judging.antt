@@ -35,8 +35,8 @@ use Rattle.lks_world.proofs.OwnSteps.{step_may, cut_legal}
 use Rattle.lks_world.proofs.DueLaws.{course_may, course_asks}
 use Rattle.lks_world.proofs.Watched.{step_asks, cut_asks}
 use Rattle.lks_world.specs.Cuts.{taker_of, due_cut, step_cut, step_due, IsCutOff, Cuts, CutsOff}
-use Rattle.lks_world.specs.Follows.{next_event, done_within, done, lost, delivered_again, spoken, Performs}
-use Rattle.lks_world.specs.Kept.{kept}
+use Rattle.lks_world.specs.Follows.{next_event, done_within, done, next_lost, delivered_again, with_saying, Performs}
+use Rattle.lks_world.specs.Kept.{with_event}
 use Rattle.lks_world.specs.States.{next_of}
 use Rattle.lks_world.specs.declared.settling.Course.{Course}
 use Rattle.lks_world.specs.declared.settling.Course.TheVariants.{Settling, Delivering, Finishing}
@@ -87,7 +87,7 @@ module _ (verdict : Verdicts) (plan : Plan) where
   Says history e = IsJudged verdict (questions plan history) (world plan history) e
 
   kept_judged : (history : List Event) (e : Event) → AreJudged verdict plan history → Says history e
-      → AreJudged verdict plan (kept history e)
+      → AreJudged verdict plan (with_event history e)
   kept_judged history e all is = by_room (nat_lt (length history) MOST_EVENTS)
     where
       by_room : (b : Bool) → AreJudged verdict plan (cond b (history ++ e ∷ []) history)
@@ -137,11 +137,13 @@ module _ (verdict : Verdicts) (plan : Plan) where
           (due_judged history d (course_may plan history verdict course d due)
           (course_asks plan history course d due))
 
-  lost_judged : (history : List Event) → AreJudged verdict plan history → AreJudged verdict plan (lost plan history)
-  unfolding lost
+  lost_judged : (history : List Event) → AreJudged verdict plan history
+      → AreJudged verdict plan (next_lost plan history)
+  unfolding next_lost
   lost_judged history all = by_next (next_to_lose plan history)
     where
-      by_next : (o : Option ℕ) → AreJudged verdict plan (option_map_or (λ i. kept history (events.Lose i)) o history)
+      by_next : (o : Option ℕ)
+          → AreJudged verdict plan (option_map_or (λ i. with_event history (events.Lose i)) o history)
       by_next None = all
       by_next (Some i) = kept_judged history (events.Lose i) all tt
 
@@ -150,12 +152,13 @@ module _ (verdict : Verdicts) (plan : Plan) where
   unfolding delivered_again
   again_judged i history all = by_sent (nat_lt i (length (world plan history).bag))
     where
-      by_sent : (b : Bool) → AreJudged verdict plan (cond b (kept history (delivery_of verdict plan history i)) history)
+      by_sent : (b : Bool)
+          → AreJudged verdict plan (cond b (with_event history (delivery_of verdict plan history i)) history)
       by_sent true = kept_judged history (delivery_of verdict plan history i) all refl
       by_sent false = all
 
   spoken_judged : (history after : List Event) (said : Option Saying) → AreJudged verdict plan history
-      → after ≡ spoken history said → AreJudged verdict plan after
+      → after ≡ with_saying history said → AreJudged verdict plan after
   spoken_judged history after None all made = subst (AreJudged verdict plan) (sym made) all
   spoken_judged history after (Some x) all made =
       subst (AreJudged verdict plan) (sym made)
@@ -169,9 +172,9 @@ module _ (verdict : Verdicts) (plan : Plan) where
   cuts_judged history after calls p says cuts all =
       by_peer (peer_at (taker_of (world plan history).bag p) (world plan history).peers) refl
     where
-      whole : (id : ℕ) → AreJudged verdict plan (kept (kept history (events.Step p)) (events.Crash id))
+      whole : (id : ℕ) → AreJudged verdict plan (with_event (with_event history (events.Step p)) (events.Crash id))
       whole id =
-          kept_judged (kept history (events.Step p)) (events.Crash id)
+          kept_judged (with_event history (events.Step p)) (events.Crash id)
           (kept_judged history (events.Step p) all says) tt
 
       short : IsCutOff history calls p after → AreJudged verdict plan after
@@ -229,7 +232,7 @@ module _ (verdict : Verdicts) (plan : Plan) where
   -- ---- a step of a script
 
   said_judged : (history after : List Event) (s : Step) → AreJudged verdict plan history
-      → after ≡ spoken history (said_by plan s) → AreJudged verdict plan after
+      → after ≡ with_saying history (said_by plan s) → AreJudged verdict plan after
   said_judged history after s all made = spoken_judged history after (said_by plan s) all made
 
   went_on : (course : Course) (times : ℕ) (history after : List Event) → AreJudged verdict plan history

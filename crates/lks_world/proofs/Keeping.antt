@@ -28,15 +28,16 @@ use Rattle.lks_world.proofs.Sends.{few_envelopes, few_sent, most_sent}
 use Rattle.lks_world.specs.Begun.{HaveBegun}
 use Rattle.lks_world.specs.Hosts.{peer_in, peers_of, AreReady, IsHostAt}
 use Rattle.lks_world.specs.Follows.{done_within, done}
-use Rattle.lks_world.specs.Kept.{kept}
+use Rattle.lks_world.specs.Kept.{with_event}
 use Rattle.lks_world.specs.declared.states.State.{State}
 use Rattle.lks_world.specs.Sites.{hosts_of}
 use Rattle.lks_world.specs.States.{events_of, events_in, sends_in, world_in, IsStateOf, Becomes, Extends}
 
-pub kept_room : (history : List Event) (e : Event) → length history < MOST_EVENTS → kept history e ≡ history ++ e ∷ []
+pub kept_room : (history : List Event) (e : Event) → length history < MOST_EVENTS
+    → with_event history e ≡ history ++ e ∷ []
 kept_room history e room = rw (lt-ltb (length history) MOST_EVENTS room) refl
 
-pub kept_full : (history : List Event) (e : Event) → MOST_EVENTS ≤ length history → kept history e ≡ history
+pub kept_full : (history : List Event) (e : Event) → MOST_EVENTS ≤ length history → with_event history e ≡ history
 kept_full history e full = rw (le-ltb (length history) MOST_EVENTS full) refl
 
 begun_world : (plan : Plan) (peers : List Standing) → peers ≡ map (standing_of plan) (filter is_honest plan.peers)
@@ -67,7 +68,7 @@ module _ {D : Type 0} (f : Face D) where
   count_events s = length-map s.history.items (λ (e : Entry). e.event)
 
   pub room_kept : (plan : Plan) (s t : State D) (e : Event) → 0 < MOST_EVENTS - length s.history.items
-      → Becomes f plan (events_in s ++ e ∷ []) t → Becomes f plan (kept (events_in s) e) t
+      → Becomes f plan (events_in s ++ e ∷ []) t → Becomes f plan (with_event (events_in s) e) t
   room_kept plan s t e room b =
       record {
         state = b.state;
@@ -75,7 +76,7 @@ module _ {D : Type 0} (f : Face D) where
       }
 
   pub full_kept : (plan : Plan) (s : State D) (e : Event) → MOST_EVENTS - length s.history.items ≤ 0
-      → IsStateOf f plan s → Becomes f plan (kept (events_in s) e) s
+      → IsStateOf f plan s → Becomes f plan (with_event (events_in s) e) s
   full_kept plan s e full is =
       record { state = is; events = sym (kept_full (events_in s) e (omega (arith, full, count_events s))) }
 
@@ -90,7 +91,7 @@ module _ {D : Type 0} (f : Face D) where
       subst (Extends plan s.history.items) (sym same)
       (record { more = []; events = sym (append-nil (events_in s)); happened = is.happened; entries = is.entries })
 
-  pub extends_kept : (plan : Plan) (s t : State D) (e : Event) → Becomes f plan (kept (events_in s) e) t
+  pub extends_kept : (plan : Plan) (s t : State D) (e : Event) → Becomes f plan (with_event (events_in s) e) t
       → Extends plan s.history.items t.history.items
   extends_kept plan s t e b =
       record {

@@ -27,8 +27,8 @@ use Rattle.lks_world.proofs.OwnSteps.{step_may}
 use Rattle.lks_world.proofs.DueLaws.{course_may, course_asks}
 use Rattle.lks_world.proofs.Watched.{step_asks}
 use Rattle.lks_world.specs.Doable.{IsDoable}
-use Rattle.lks_world.specs.Follows.{next_event, lost, delivered_again}
-use Rattle.lks_world.specs.Kept.{kept}
+use Rattle.lks_world.specs.Follows.{next_event, next_lost, delivered_again}
+use Rattle.lks_world.specs.Kept.{with_event}
 use Rattle.lks_world.specs.Hosts.{peers_of}
 use Rattle.lks_world.specs.declared.settling.Course.{Course}
 use Rattle.lks_world.specs.declared.settling.Course.TheVariants.{Settling, Delivering, Finishing}
@@ -137,24 +137,28 @@ module _ {D : Type 0} (f : Face D) (plan : Plan) (s : State D) (is : IsStateOf f
       verdict_any before q = true
 
   pub is_lost : (t : State D) (i : ℕ) → slice_get s.pending.items 0 ≡ Some i
-      → Becomes f plan (kept (events_in s) (Lose i)) t → Becomes f plan (lost plan (events_in s)) t
-  unfolding lost next_to_lose
+      → Becomes f plan (with_event (events_in s) (Lose i)) t → Becomes f plan (next_lost plan (events_in s)) t
+  unfolding next_lost next_to_lose
   is_lost t i first b =
       let next = waiting_is s.pending.items i first ∙ ap first_waiting is.pending in
       record {
         state = b.state;
-        events = b.events ∙ ap (λ o. option_map_or (λ k. kept (events_in s) (Lose k)) o (events_in s)) next;
+        events = b.events ∙ ap (λ o. option_map_or (λ k. with_event (events_in s) (Lose k)) o (events_in s)) next;
       }
 
-  pub nothing_lost : slice_get s.pending.items 0 ≡ None → Becomes f plan (lost plan (events_in s)) s
-  unfolding lost next_to_lose
+  pub nothing_lost : slice_get s.pending.items 0 ≡ None → Becomes f plan (next_lost plan (events_in s)) s
+  unfolding next_lost next_to_lose
   nothing_lost none =
       let next = none_waits s.pending.items none ∙ ap first_waiting is.pending in
-      record { state = is; events = ap (λ o. option_map_or (λ k. kept (events_in s) (Lose k)) o (events_in s)) next }
+      record {
+        state = is;
+        events = ap (λ o. option_map_or (λ k. with_event (events_in s) (Lose k)) o (events_in s)) next;
+      }
 
   abbrev again_in : Verdicts → ℕ → World → List Event
   again_in verdict i w =
-      if nat_lt i (length w.bag) then kept (events_in s) (delivery_of verdict plan (events_in s) i) else events_in s
+      if nat_lt i (length w.bag) then with_event (events_in s) (delivery_of verdict plan (events_in s) i)
+      else events_in s
 
   again_is : (verdict : Verdicts) (i : ℕ)
       → again_in verdict i (world_in f s) ≡ delivered_again verdict i plan (events_in s)
@@ -162,15 +166,19 @@ module _ {D : Type 0} (f : Face D) (plan : Plan) (s : State D) (is : IsStateOf f
   again_is verdict i = ap (again_in verdict i) is.world
 
   pub kept_again : (verdict : Verdicts) (i : ℕ) → nat_lt i (length s.bag.items) ≡ true
-      → kept (events_in s) (delivery_of verdict plan (events_in s) i) ≡ delivered_again verdict i plan (events_in s)
+      → with_event (events_in s) (delivery_of verdict plan (events_in s) i)
+      ≡ delivered_again verdict i plan (events_in s)
   kept_again verdict i stands =
-      let here : kept (events_in s) (delivery_of verdict plan (events_in s) i) ≡ again_in verdict i (world_in f s) =
-      ap (λ c. if c then kept (events_in s) (delivery_of verdict plan (events_in s) i) else events_in s) (sym stands) in
+      let here : with_event (events_in s) (delivery_of verdict plan (events_in s) i)
+      ≡ again_in verdict i (world_in f s) =
+      ap (λ c. if c then with_event (events_in s) (delivery_of verdict plan (events_in s) i) else events_in s)
+      (sym stands) in
       here ∙ again_is verdict i
 
   pub never_sent : (verdict : Verdicts) (i : ℕ) → nat_lt i (length s.bag.items) ≡ false
       → Becomes f plan (delivered_again verdict i plan (events_in s)) s
   never_sent verdict i beyond =
       let here : events_in s ≡ again_in verdict i (world_in f s) =
-      ap (λ c. if c then kept (events_in s) (delivery_of verdict plan (events_in s) i) else events_in s) (sym beyond) in
+      ap (λ c. if c then with_event (events_in s) (delivery_of verdict plan (events_in s) i) else events_in s)
+      (sym beyond) in
       record { state = is; events = here ∙ again_is verdict i }

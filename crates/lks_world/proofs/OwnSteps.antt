@@ -21,7 +21,7 @@ use Rattle.lks_script.specs.declared.steps.TheConstants.{MOST_CUT_CALLS}
 use Rattle.lks_script.specs.declared.steps.Step.TheVariants as step
 use Rattle.lks_saying.proofs.Ends.{said_ends}
 use Rattle.lks_saying.specs.Sayings.{said_by, IsSaying}
-use Rattle.lks_world.specs.Follows.{spoken, Performs}
+use Rattle.lks_world.specs.Follows.{with_saying, Performs}
 
 session_may : (plan : Plan) (voter : ℕ) (poll : PollName) → is_session plan voter poll ≡ true
     → has_honest plan.peers voter ≡ true
@@ -91,7 +91,7 @@ forgery_may plan given from to bytes is legal =
     (ends.0, ends.1, leb-true (length bytes) MOST_FORGED_BYTES all.1)
 
 pub says : (verdict : Verdicts) (plan : Plan) (history after : List Event) (s : Step) → IsSaying s
-    → after ≡ spoken history (said_by plan s) → Performs verdict plan history s after
+    → after ≡ with_saying history (said_by plan s) → Performs verdict plan history s after
 says verdict plan history after (step.SayPoll from to number au) saying is = is
 says verdict plan history after (step.SayProof from to number) saying is = is
 says verdict plan history after (step.SayRequest from to number block) saying is = is

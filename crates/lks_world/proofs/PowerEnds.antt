@@ -21,7 +21,7 @@ use Rattle.lks_world.specs.Cuts.{taker_of}
 use Rattle.lks_world.specs.Disks.{honest_disks}
 use Rattle.lks_world.specs.Endings.{BurnsFor, MayLosePower, PowerEnds, is_whole}
 use Rattle.lks_world.specs.Hosts.{disk_in, disks_of, peers_of, KeepsPower, LosesPower}
-use Rattle.lks_world.specs.Kept.{kept}
+use Rattle.lks_world.specs.Kept.{with_event}
 use Rattle.lks_world.specs.Powers.{burns_by, cuts_by, HavePowerOf, IsQuiet, raised_at}
 use Rattle.lks_world.specs.Sites.{hosts_of, disks_at, disks_on, ids_at, ids_on, id_for, AreSites, Powered, SitesPower}
 use Rattle.lks_world.specs.declared.cutting.Ending.{Ending}
@@ -193,7 +193,7 @@ module _ {D : Type 0} (f : Face D) (plan : Plan) where
 
   -- a step was done, and then the power was cut: a crash, if there was room for it
   pub sites_done : (before mid after : List Event) (s : PeerStep) (id : ℕ) (xs ys : List (Site D))
-      → mid ≡ before ++ events.Step s ∷ [] → after ≡ kept mid (events.Crash id) → length before < MOST_EVENTS
+      → mid ≡ before ++ events.Step s ∷ [] → after ≡ with_event mid (events.Crash id) → length before < MOST_EVENTS
       → Powered f [] (id ∷ []) xs ys
       → SitesPower {T = Unit {0}} f plan (id ∷ []) before after xs ys (Ok tt)
   sites_done before mid after s id xs ys step crash room p = by_room (nat_lt (length mid) MOST_EVENTS) refl crash

@@ -17,8 +17,8 @@ use Rattle.lks_message.specs.Spelling.{spelling}
 use Rattle.lks_saying.specs.Sayings.{Saying}
 use Rattle.lks_world.specs.Counts.{honest_ids}
 use Rattle.lks_world.specs.Disks.{honest_disks}
-use Rattle.lks_world.specs.Follows.{lost, spoken}
-use Rattle.lks_world.specs.Kept.{kept}
+use Rattle.lks_world.specs.Follows.{next_lost, with_saying}
+use Rattle.lks_world.specs.Kept.{with_event}
 use Rattle.lks_world.specs.Powers.{burns_by, cuts_by, burns_from, cuts_from, burns_in, cuts_in, HavePower}
 use Rattle.lks_world.specs.Powers.{HavePowerOf, IsQuiet, Power, power_of, raised_at, raised_each}
 use Rattle.lks_world.specs.declared.faults.WorldFault.{WorldFault}
@@ -91,7 +91,7 @@ module _ (plan : Plan) (history : List Event) where
       }
 
   pub quiet_kept : (e : Event) → ((w : World) → (burns_by w e ≡ []) × (cuts_by w e ≡ []))
-      → IsQuiet plan history (kept history e)
+      → IsQuiet plan history (with_event history e)
   quiet_kept e quiet = by_room (nat_lt (length history) MOST_EVENTS)
     where
       by_room : (b : Bool) → IsQuiet plan history (cond b (history ++ e ∷ []) history)
@@ -101,15 +101,16 @@ module _ (plan : Plan) (history : List Event) where
   pub quiet_step : (s : PeerStep) → IsQuiet plan history (history ++ events.Step s ∷ [])
   quiet_step s = quiet_event (events.Step s) (λ w. (refl, refl))
 
-  pub quiet_spoken : (o : Option Saying) → IsQuiet plan history (spoken history o)
+  pub quiet_spoken : (o : Option Saying) → IsQuiet plan history (with_saying history o)
   quiet_spoken None = quiet_same
   quiet_spoken (Some said) = quiet_kept (events.Forge said.from said.to (spelling said.message)) (λ w. (refl, refl))
 
-  pub quiet_lost : IsQuiet plan history (lost plan history)
-  unfolding lost
+  pub quiet_lost : IsQuiet plan history (next_lost plan history)
+  unfolding next_lost
   quiet_lost = by_first (next_to_lose plan history)
     where
-      by_first : (o : Option ℕ) → IsQuiet plan history (option_map_or (λ i. kept history (events.Lose i)) o history)
+      by_first : (o : Option ℕ)
+          → IsQuiet plan history (option_map_or (λ i. with_event history (events.Lose i)) o history)
       by_first None = quiet_same
       by_first (Some i) = quiet_kept (events.Lose i) (λ w. (refl, refl))
 

@@ -15,7 +15,7 @@ use Rattle.lks_law.specs.Questions.{event_of, questions}
 use Rattle.lks_law.specs.World.{Standing, World, world}
 use Rattle.lks_watch.specs.declared.watches.Watch.{Watch}
 use Rattle.lks_world.proofs.SiteLaws.{counted_same}
-use Rattle.lks_world.specs.Beside.{unplaced, unplaced_at, ArePooled, AreSameSites, IsPooled}
+use Rattle.lks_world.specs.Beside.{without_places, unplaced_at, ArePooled, AreSameSites, IsPooled}
 use Rattle.lks_world.specs.Counts.{fault_in, ServesHonest}
 use Rattle.lks_world.specs.Doable.{IsDoable}
 use Rattle.lks_world.specs.Hosts.{disks_of, peer_in, peers_of, IsHostAt}
@@ -45,21 +45,22 @@ module _ {D : Type 0} where
   disks_plain (site.Host h ∷ ss) = ap (λ ds. h.journal.disk ∷ ds) (disks_plain ss)
   disks_plain (site.Idle d ∷ ss) = ap (λ ds. d ∷ ds) (disks_plain ss)
 
-  hosts_plain : (ss : List (Site D)) → hosts_of (map unplaced_at ss) ≡ map unplaced (hosts_of ss)
+  hosts_plain : (ss : List (Site D)) → hosts_of (map unplaced_at ss) ≡ map without_places (hosts_of ss)
   hosts_plain [] = refl
-  hosts_plain (site.Host h ∷ ss) = ap (λ hs. unplaced h ∷ hs) (hosts_plain ss)
+  hosts_plain (site.Host h ∷ ss) = ap (λ hs. without_places h ∷ hs) (hosts_plain ss)
   hosts_plain (site.Idle d ∷ ss) = hosts_plain ss
 
-  disks_still : (hs : List (Host D)) → disks_of (map unplaced hs) ≡ disks_of hs
+  disks_still : (hs : List (Host D)) → disks_of (map without_places hs) ≡ disks_of hs
   disks_still [] = refl
   disks_still (h ∷ hs) = ap (λ ds. h.journal.disk ∷ ds) (disks_still hs)
 
-  peers_still : (f : Face D) (hs : List (Host D)) → peers_of f (map unplaced hs) ≡ peers_of f hs
+  peers_still : (f : Face D) (hs : List (Host D)) → peers_of f (map without_places hs) ≡ peers_of f hs
   peers_still f [] = refl
   peers_still f (h ∷ hs) = ap (λ (ps : List Standing). peer_in f h ∷ ps) (peers_still f hs)
 
   -- the hosts of sites that are the same
-  hosts_same : (xs ys : List (Site D)) → AreSameSites xs ys → map unplaced (hosts_of ys) ≡ map unplaced (hosts_of xs)
+  hosts_same : (xs ys : List (Site D)) → AreSameSites xs ys
+      → map without_places (hosts_of ys) ≡ map without_places (hosts_of xs)
   hosts_same xs ys same = sym (hosts_plain ys) ∙ ap hosts_of same ∙ hosts_plain xs
 
   pub same_ids : (xs ys : List (Site D)) → AreSameSites xs ys → ids_at ys ≡ ids_at xs
@@ -74,12 +75,12 @@ module _ {D : Type 0} where
   -- a host that was there
   same_host : (xs ys : List (Site D)) → AreSameSites xs ys → (place : ℕ) (k : Host D)
       → slice_get (hosts_of ys) place ≡ Some k
-      → (h : Host D) × (slice_get (hosts_of xs) place ≡ Some h) × (unplaced h ≡ unplaced k)
+      → (h : Host D) × (slice_get (hosts_of xs) place ≡ Some h) × (without_places h ≡ without_places k)
   same_host xs ys same place k there =
-      from_map unplaced (slice_get (hosts_of xs) place) (unplaced k)
-      (sym (slice_get-map unplaced (hosts_of xs) place)
-      ∙ ap (λ hs. slice_get hs place) (sym (hosts_same xs ys same)) ∙ slice_get-map unplaced (hosts_of ys) place
-      ∙ ap (option_map unplaced) there)
+      from_map without_places (slice_get (hosts_of xs) place) (without_places k)
+      (sym (slice_get-map without_places (hosts_of xs) place)
+      ∙ ap (λ hs. slice_get hs place) (sym (hosts_same xs ys same)) ∙ slice_get-map without_places (hosts_of ys) place
+      ∙ ap (option_map without_places) there)
 
   -- one of the sites
   pub same_set : (xs : List (Site D)) (i : ℕ) (s t : Site D) → s ≡ get_or xs i s → unplaced_at t ≡ unplaced_at s
@@ -123,10 +124,11 @@ module _ {D : Type 0} (f : Face D) where
   same_peers xs ys same =
       sym (peers_still f (hosts_of ys)) ∙ ap (peers_of f) (hosts_same xs ys same) ∙ peers_still f (hosts_of xs)
 
-  host_plain : (pool : List ℕ) (batches : List (List Record)) (n : ℕ) (h k : Host D) → unplaced h ≡ unplaced k
+  host_plain : (pool : List ℕ) (batches : List (List Record)) (n : ℕ) (h k : Host D)
+      → without_places h ≡ without_places k
       → IsHostAt f pool batches n h → IsHostAt f pool batches n k
   host_plain pool batches n h k same is = back (subst (IsHostAt f pool batches n) same there) where
-    there : IsHostAt f pool batches n (unplaced h)
+    there : IsHostAt f pool batches n (without_places h)
     there = record {
       stands = record { state = is.stands.state; disk = is.stands.disk; read = is.stands.read; fit = is.stands.fit };
       pooled = is.pooled;
@@ -135,7 +137,7 @@ module _ {D : Type 0} (f : Face D) where
       unfused = is.unfused;
     }
 
-    back : IsHostAt f pool batches n (unplaced k) → IsHostAt f pool batches n k
+    back : IsHostAt f pool batches n (without_places k) → IsHostAt f pool batches n k
     back was = record {
       stands =
           record { state = was.stands.state; disk = was.stands.disk; read = was.stands.read; fit = was.stands.fit };

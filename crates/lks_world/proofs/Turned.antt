@@ -28,7 +28,7 @@ use Rattle.lks_world.specs.Giving.{HasTurn, TakesTurn}
 use Rattle.lks_world.specs.Sites.{disks_at, id_at, AreSites, Counted}
 use Rattle.lks_world.specs.States.{events_in, events_of, AreLeft, Becomes}
 use Rattle.lks_world.specs.Watched.{StopsBy}
-use Rattle.lks_world.specs.Worlds.{HasHalted, HaveServed, IsKept, halted, seen_in}
+use Rattle.lks_world.specs.Worlds.{HasHalted, HaveServed, IsKept, halting_fault, seen_in}
 use Rattle.lks_world.specs.declared.faults.WorldFault.{WorldFault}
 use Rattle.lks_world.specs.declared.faults.WorldFault.TheVariants.{Memory}
 use Rattle.lks_world.specs.declared.sites.Site.{Site}
@@ -41,7 +41,7 @@ none_there None is = refl
 none_there (Some fault) is = absurd cc
 
 -- a fault that stopped a world before stays
-pub halted_still : (o : Option WorldFault) → is_some o ≡ true → o ≡ halted o
+pub halted_still : (o : Option WorldFault) → is_some o ≡ true → o ≡ halting_fault o
 halted_still None is = absurd cc
 halted_still (Some fault) is = refl
 

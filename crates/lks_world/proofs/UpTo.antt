@@ -22,9 +22,10 @@ use Rattle.lks_script.specs.declared.steps.Step.TheVariants as step
 use Rattle.lks_world.proofs.Ending.{off_full}
 use Rattle.lks_world.proofs.Keeping.{kept_room}
 use Rattle.lks_world.specs.Cuts.{taker_of, step_cut, FallsShort, Cuts, CutsOff}
-use Rattle.lks_world.specs.Follows.{IsUpTo, Performs, delivered_again, done, done_within, lost, next_event, spoken}
+use Rattle.lks_world.specs.Follows.{IsUpTo, Performs, delivered_again, done, done_within, next_lost, next_event}
+use Rattle.lks_world.specs.Follows.{with_saying}
 use Rattle.lks_world.specs.Follows.{step_in}
-use Rattle.lks_world.specs.Kept.{kept}
+use Rattle.lks_world.specs.Kept.{with_event}
 
 -- a history that goes on from another one
 abbrev pub GoesFrom : List Event → List Event → Type 0
@@ -33,7 +34,7 @@ GoesFrom history after = (rest : List Event) × (after ≡ history ++ rest)
 stays_there : (history : List Event) → GoesFrom history history
 stays_there history = ([], sym (append-nil history))
 
-pub kept_front : (history : List Event) (e : Event) → GoesFrom history (kept history e)
+pub kept_front : (history : List Event) (e : Event) → GoesFrom history (with_event history e)
 kept_front history e = by_room (nat_lt (length history) MOST_EVENTS)
   where
     by_room : (b : Bool) → GoesFrom history (cond b (history ++ e ∷ []) history)
@@ -67,11 +68,11 @@ pub all_done_front : (next : Plan → List Event → Option Event) (times : ℕ)
 unfolding done
 all_done_front next times plan history = done_front next _ plan history
 
-lost_front : (plan : Plan) (history : List Event) → GoesFrom history (lost plan history)
-unfolding lost
+lost_front : (plan : Plan) (history : List Event) → GoesFrom history (next_lost plan history)
+unfolding next_lost
 lost_front plan history = by_next (next_to_lose plan history)
   where
-    by_next : (o : Option ℕ) → GoesFrom history (option_map_or (λ i. kept history (events.Lose i)) o history)
+    by_next : (o : Option ℕ) → GoesFrom history (option_map_or (λ i. with_event history (events.Lose i)) o history)
     by_next None = stays_there history
     by_next (Some i) = kept_front history (events.Lose i)
 
@@ -80,11 +81,11 @@ pub again_front : (verdict : Verdicts) (i : ℕ) (plan : Plan) (history : List E
 unfolding delivered_again
 again_front verdict i plan history = by_sent (nat_lt i (length (world plan history).bag))
   where
-    by_sent : (b : Bool) → GoesFrom history (cond b (kept history (delivery_of verdict plan history i)) history)
+    by_sent : (b : Bool) → GoesFrom history (cond b (with_event history (delivery_of verdict plan history i)) history)
     by_sent true = kept_front history (delivery_of verdict plan history i)
     by_sent false = stays_there history
 
-spoken_front : (history : List Event) (said : Option Saying) → GoesFrom history (spoken history said)
+spoken_front : (history : List Event) (said : Option Saying) → GoesFrom history (with_saying history said)
 spoken_front history None = stays_there history
 spoken_front history (Some x) = kept_front history _
 
@@ -102,9 +103,9 @@ one_begun P history whole rest e p is front named =
     record { whole = whole; is = is; rest = e ∷ rest; front = front; begun = inr (sym named) }
 
 pub kept_begun : (P : List Event → Type 0) (history : List Event) (p : PeerStep) → length history < MOST_EVENTS
-    → P (kept history (events.Step p)) → IsUpTo P history (Some p)
+    → P (with_event history (events.Step p)) → IsUpTo P history (Some p)
 kept_begun P history p room is =
-    one_begun P history (kept history (events.Step p)) [] (events.Step p) p is
+    one_begun P history (with_event history (events.Step p)) [] (events.Step p) p is
     (kept_room history (events.Step p) room) refl
 
 -- A step during which the power fails was begun.
@@ -134,7 +135,7 @@ module _ (plan : Plan) (history : List Event) (calls : ℕ) (p : PeerStep) (room
   unfolding crashes
   spent x there is =
       let rest = kept_front (history ++ events.Step p ∷ []) crashes in
-      one_begun (Cuts plan history calls p) history (kept (kept history (events.Step p)) crashes) rest.0
+      one_begun (Cuts plan history calls p) history (with_event (with_event history (events.Step p)) crashes) rest.0
       (events.Step p) p
       (record {
         alone = λ none. let both : None ≡ Some x = sym none ∙ there in absurd cc;
@@ -143,13 +144,13 @@ module _ (plan : Plan) (history : List Event) (calls : ℕ) (p : PeerStep) (room
             (elim is [ inl none ↦ short.adds none | inr four ↦ omega (arith, short.few, four) ]);
         whole = λ y honest again. refl;
       })
-      (ap (λ es. kept es crashes) (kept_room history (events.Step p) room) ∙ rest.1
+      (ap (λ es. with_event es crashes) (kept_room history (events.Step p) room) ∙ rest.1
       ∙ append_assoc history (events.Step p ∷ []) rest.0) refl
 
   short : (x : Standing) → taken ≡ Some x → (records ≡ [] → ⊥) → calls < 4
       → IsUpTo (Cuts plan history calls p) history (Some p)
   short x there some few =
-      one_begun (Cuts plan history calls p) history (kept history (events.Cut p false)) [] (events.Cut p false) p
+      one_begun (Cuts plan history calls p) history (with_event history (events.Cut p false)) [] (events.Cut p false) p
       (record {
         alone = λ none. let both : None ≡ Some x = sym none ∙ there in absurd cc;
         short = λ is. record { is_kept = false; early = λ early. refl; more = refl };

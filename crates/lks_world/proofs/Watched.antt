@@ -37,9 +37,9 @@ use Rattle.lks_watch.specs.Watching.{Watching, Ears, Asks, Rings, Watches, Watch
 use Rattle.lks_watch.specs.declared.watches.Watch.{Watch}
 use Rattle.lks_world.specs.Cuts.{due_cut}
 use Rattle.lks_world.specs.Endings.{PeersEnd, event_for, notes_for}
-use Rattle.lks_world.specs.Follows.{lost, spoken}
+use Rattle.lks_world.specs.Follows.{next_lost, with_saying}
 use Rattle.lks_world.specs.Hosts.{peers_of}
-use Rattle.lks_world.specs.Kept.{kept}
+use Rattle.lks_world.specs.Kept.{with_event}
 use Rattle.lks_world.specs.Sites.{hosts_of}
 use Rattle.lks_world.specs.States.{events_in, world_in, IsStateOf}
 use Rattle.lks_law.specs.Questions.{OwnAsksNothing}
@@ -97,7 +97,7 @@ asked_nothing e w s x none =
 
 module _ (plan : Plan) (history : List Event) (x : Watching) where
   pub quiet_kept : (e : Event) → ((w : World) → (asked_by w e ≡ []) × (alarms_by w e ≡ []))
-      → Watches plan history (kept history e) x x
+      → Watches plan history (with_event history e) x x
   quiet_kept e quiet = by_room (nat_lt (length history) MOST_EVENTS)
     where
       by_room : (b : Bool) → Watches plan history (cond b (history ++ e ∷ []) history) x x
@@ -108,18 +108,19 @@ module _ (plan : Plan) (history : List Event) (x : Watching) where
           (subst (λ (raised : List Alarm). Rings raised x x) (sym none.1) (rings_nothing x))
       by_room false = watches_same plan history x
 
-  pub crash_quiet : (peer : ℕ) → Watches plan history (kept history (events.Crash peer)) x x
+  pub crash_quiet : (peer : ℕ) → Watches plan history (with_event history (events.Crash peer)) x x
   crash_quiet peer = quiet_kept (events.Crash peer) (λ w. (refl, refl))
 
-  pub spoken_quiet : (o : Option Saying) → Watches plan history (spoken history o) x x
+  pub spoken_quiet : (o : Option Saying) → Watches plan history (with_saying history o) x x
   spoken_quiet None = watches_same plan history x
   spoken_quiet (Some said) = quiet_kept (events.Forge said.from said.to (spelling said.message)) (λ w. (refl, refl))
 
-  pub lost_quiet : Watches plan history (lost plan history) x x
-  unfolding lost
+  pub lost_quiet : Watches plan history (next_lost plan history) x x
+  unfolding next_lost
   lost_quiet = by_first (next_to_lose plan history)
     where
-      by_first : (o : Option ℕ) → Watches plan history (option_map_or (λ i. kept history (events.Lose i)) o history) x x
+      by_first : (o : Option ℕ)
+          → Watches plan history (option_map_or (λ i. with_event history (events.Lose i)) o history) x x
       by_first None = watches_same plan history x
       by_first (Some i) = quiet_kept (events.Lose i) (λ w. (refl, refl))
 

@@ -21,11 +21,11 @@ pub record IsForDue (pool : List ℕ) (due : Due) (d : JobDone) : Type 0 where
   pub work : due ≡ dues.Own (step_named (name_done d))
 
 -- a host but for where its deposits are told to stand
-abbrev pub unplaced : {D : Type 0} → Host D → Host D
-unplaced h = record h { peer = record h.peer { places = [] } }
+abbrev pub without_places : {D : Type 0} → Host D → Host D
+without_places h = record h { peer = record h.peer { places = [] } }
 
 abbrev pub unplaced_at : {D : Type 0} → Site D → Site D
-unplaced_at (site.Host h) = site.Host (unplaced h)
+unplaced_at (site.Host h) = site.Host (without_places h)
 unplaced_at (site.Idle d) = site.Idle d
 
 -- nothing changed but what was told of places

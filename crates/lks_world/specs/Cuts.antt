@@ -17,7 +17,7 @@ use Rattle.lks_law.specs.Questions.{Verdicts, judgement_on, question_at, questio
 use Rattle.lks_law.specs.World.{Standing, peer_at, world}
 use Rattle.lks_script.specs.declared.steps.CutStep.{CutStep}
 use Rattle.lks_script.specs.declared.steps.CutStep.TheVariants as cut
-use Rattle.lks_world.specs.Kept.{kept}
+use Rattle.lks_world.specs.Kept.{with_event}
 
 -- who takes a step: of a delivery the receiver
 abbrev pub taker_of : List Envelope → PeerStep → ℕ
@@ -46,7 +46,7 @@ step_cut verdict plan history given = option_map (step_due verdict plan history)
 pub record IsCutOff (history : List Event) (calls : ℕ) (s : PeerStep) (after : List Event) : Type 0 where
   pub is_kept : Bool
   pub early : calls < 2 → is_kept ≡ false
-  pub more : after ≡ kept history (events.Cut s is_kept)
+  pub more : after ≡ with_event history (events.Cut s is_kept)
 
 -- an honest peer takes the step, which adds records, and fewer calls are made than the four that write them
 pub record FallsShort (plan : Plan) (history : List Event) (calls : ℕ) (s : PeerStep) : Type 0 where
@@ -59,13 +59,13 @@ pub record FallsShort (plan : Plan) (history : List Event) (calls : ℕ) (s : Pe
 pub record Cuts (plan : Plan) (history : List Event) (calls : ℕ) (s : PeerStep) (after : List Event) : Type 0 where
   -- where no honest peer takes it, it is done
   pub alone : peer_at (taker_of (world plan history).bag s) (world plan history).peers ≡ None
-      → after ≡ kept history (events.Step s)
+      → after ≡ with_event history (events.Step s)
   -- where its power falls short, it is cut off
   pub short : FallsShort plan history calls s → IsCutOff history calls s after
   -- else it is done, and then the power fails
   pub whole : (p : Standing) → peer_at (taker_of (world plan history).bag s) (world plan history).peers ≡ Some p
       → (added_by (world plan history) s ≡ []) ⊎ (4 ≤ calls)
-      → after ≡ kept (kept history (events.Step s)) (events.Crash (taker_of (world plan history).bag s))
+      → after ≡ with_event (with_event history (events.Step s)) (events.Crash (taker_of (world plan history).bag s))
 
 -- the same of what a line cuts off: nothing happens where it is no step
 abbrev pub CutsOff : Plan → List Event → ℕ → Option PeerStep → List Event → Type 0

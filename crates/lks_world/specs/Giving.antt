@@ -107,8 +107,8 @@ Takes old new taken.Finished = (new ≡ old) × IsOver old
 -- Results.
 
 -- the jobs that are out when this one isn't any more
-abbrev pub without : JobName → List JobName → List JobName
-without name out = filter (λ other. not (is_job name other)) out
+abbrev pub without_job : JobName → List JobName → List JobName
+without_job name out = filter (λ other. not (is_job name other)) out
 
 abbrev pub peer_named : JobName → ℕ
 peer_named (names.Vote peer poll) = peer
@@ -140,4 +140,4 @@ GivesFresh d old new back.Late = IsUsedUp old × (new ≡ old)
 
 -- what is answered where a result is given back
 abbrev pub Gives : {D J B : Type 0} → JobDone → Seen D J B → Seen D J B → Back → Type 0
-Gives d old new answer = GivesFresh d (record old { out = without (name_done d) old.out }) new answer
+Gives d old new answer = GivesFresh d (record old { out = without_job (name_done d) old.out }) new answer

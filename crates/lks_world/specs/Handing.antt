@@ -18,8 +18,8 @@ use Rattle.lks_work.specs.declared.results.JobDone.{JobDone}
 use Rattle.lks_world.specs.Giving.{peer_named}
 use Rattle.lks_world.specs.Hosts.{peer_in, peers_of}
 use Rattle.lks_world.specs.Sites.{hosts_of}
-use Rattle.lks_world.specs.declared.giving.Next.{Next}
-use Rattle.lks_world.specs.declared.giving.Next.TheVariants as next
+use Rattle.lks_world.specs.declared.giving.NextDue.{NextDue}
+use Rattle.lks_world.specs.declared.giving.NextDue.TheVariants as next
 use Rattle.lks_world.specs.declared.sites.Site.{Site}
 use Rattle.lks_world.specs.declared.sites.Site.TheVariants as site
 
@@ -60,7 +60,7 @@ IsBesideWork (dues.Delivery i) = Unit {0}
 IsBesideWork (dues.Own s) = is_work s ≡ false
 
 -- what is due beside work: it comes first of what is due, or no envelope waits and work is ready, or nothing is due
-abbrev pub IsNext : Plan → List Event → Next → Type 0
+abbrev pub IsNext : Plan → List Event → NextDue → Type 0
 IsNext plan history (next.Due d) = IsBesideWork d × (slice_get (dues plan history) 0 ≡ Some d)
 IsNext plan history next.Work = (pending plan history ≡ []) × (ready (world plan history) ≢ [])
 IsNext plan history next.Nothing = dues plan history ≡ []

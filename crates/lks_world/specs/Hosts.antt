@@ -108,11 +108,11 @@ pub record LosesPower {D T : Type 0} (f : Face D) (disk now : D) (result : Resul
   pub burns : OnErr result ((f.burns now ≡ f.burns disk) ⊎ (f.burns now ≡ raised (f.burns disk)))
 
 -- what a refusal of a peer's host is to the world, in which no fuse is set
-abbrev pub blamed : ℕ → HostFault → WorldFault
-blamed peer host.Failed = Disk peer
-blamed peer host.Cut = Memory
-blamed peer host.Memory = Memory
-blamed peer (host.Stale expected found) = Memory
+abbrev pub fault_at : ℕ → HostFault → WorldFault
+fault_at peer host.Failed = Disk peer
+fault_at peer host.Cut = Memory
+fault_at peer host.Memory = Memory
+fault_at peer (host.Stale expected found) = Memory
 
 -- there is no such peer, so nobody adds its records
 pub record IsAbsent (id : ℕ) (peers : List Standing) : Type 0 where

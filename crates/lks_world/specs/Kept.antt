@@ -4,5 +4,5 @@ use Rattle.lks_base.specs.declared.events.Event.{Event}
 use Rattle.lks_base.specs.declared.limits.TheConstants.{MOST_EVENTS}
 
 -- one more event, unless the history is full
-abbrev pub kept : List Event → Event → List Event
-kept history e = if nat_lt (length history) MOST_EVENTS then history ++ e ∷ [] else history
+abbrev pub with_event : List Event → Event → List Event
+with_event history e = if nat_lt (length history) MOST_EVENTS then history ++ e ∷ [] else history

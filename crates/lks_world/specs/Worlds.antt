@@ -154,6 +154,6 @@ SpendsPower f verdict s old new result =
     Spends f (verdict old.judge) old.plan s old.history new.history (fault_in result) old.disks new.disks
 
 -- the fault of a world that was stopped, by want of memory if by nothing before
-abbrev pub halted : Option WorldFault → Option WorldFault
-halted None = Some Memory
-halted (Some fault) = Some fault
+abbrev pub halting_fault : Option WorldFault → Option WorldFault
+halting_fault None = Some Memory
+halting_fault (Some fault) = Some fault

@@ -15,7 +15,7 @@ ghost use Rattle.lks_watch.specs.declared.watches.Watch.{Watch};
 ghost use Rattle.lks_farm.specs.Batches.{AreDoneOf};
 ghost use Rattle.lks_world.specs.Beside.{IsFor, IsForDue};
 ghost use Rattle.lks_world.specs.Doable.{IsDoable};
-ghost use Rattle.lks_world.specs.Kept.{kept};
+ghost use Rattle.lks_world.specs.Kept.{with_event};
 ghost use Rattle.lks_world.specs.Sites.{Counted, SitesPower};
 ghost use Rattle.lks_world.specs.Stopping.{HasStopped};
 ghost use Rattle.lks_world.specs.Watched.{StopsBy};
@@ -182,7 +182,7 @@ pub fn add_due<R: Wait, D: CrashDisk, J: EffortJudge, B: Bell>(
     ensures becomes { (plan : Plan) → IsDoable D.face J.heard plan state.old watch.old due →
         OnOk result
         (Becomes D.face plan
-        (kept (events_in state.old) (event_of (J.verdict watch.old.judge) plan (events_in state.old) due))
+        (with_event (events_in state.old) (event_of (J.verdict watch.old.judge) plan (events_in state.old) due))
         state.new) }
     ensures watches { (plan : Plan) → IsDoable D.face J.heard plan state.old watch.old due →
         OnOk result
@@ -192,7 +192,7 @@ pub fn add_due<R: Wait, D: CrashDisk, J: EffortJudge, B: Bell>(
         OnErr result
         (HasStopped D.face (ears J.heard J.verdict B.rung B.limit) plan
         (λ after. after
-        ≡ kept (events_in state.old) (event_of (J.verdict watch.old.judge) plan (events_in state.old) due))
+        ≡ with_event (events_in state.old) (event_of (J.verdict watch.old.judge) plan (events_in state.old) due))
         (events_in state.old) watch.old state.new watch.new) }
     ensures extends { (plan : Plan) → IsDoable D.face J.heard plan state.old watch.old due →
         Extends plan state.old.history.items state.new.history.items }
@@ -223,7 +223,7 @@ pub fn add_forgery<D: CrashDisk>(
     requires state { (plan : Plan) × IsStateOf D.face plan state.old }
     ensures becomes { (plan : Plan) → IsStateOf D.face plan state.old → has_corrupt plan.peers from ≡ true
         → has_peer plan.peers to ≡ true → length bytes ≤ MOST_FORGED_BYTES →
-        OnOk result (Becomes D.face plan (kept (events_in state.old) (events.Forge from to bytes)) state.new) }
+        OnOk result (Becomes D.face plan (with_event (events_in state.old) (events.Forge from to bytes)) state.new) }
     ensures extends { (plan : Plan) → IsStateOf D.face plan state.old → has_corrupt plan.peers from ≡ true
         → has_peer plan.peers to ≡ true → length bytes ≤ MOST_FORGED_BYTES →
         Extends plan state.old.history.items state.new.history.items }
@@ -244,7 +244,7 @@ pub fn add_ticks<D: CrashDisk>(state: &mut State<'_, D>, by: u32) -> Result<(), 
     requires few { by ≤ MOST_TICKS }
     requires state { (plan : Plan) × IsStateOf D.face plan state.old }
     ensures becomes { (plan : Plan) → IsStateOf D.face plan state.old →
-        OnOk result (Becomes D.face plan (kept (events_in state.old) (events.Tick by)) state.new) }
+        OnOk result (Becomes D.face plan (with_event (events_in state.old) (events.Tick by)) state.new) }
     ensures extends { (plan : Plan) → IsStateOf D.face plan state.old
         → Extends plan state.old.history.items state.new.history.items }
     ensures err { OnErr result (state.new.history.items ≡ state.old.history.items) }
@@ -260,7 +260,7 @@ pub fn add_ticks<D: CrashDisk>(state: &mut State<'_, D>, by: u32) -> Result<(), 
 /// The loss of an envelope that stands in the bag.
 pub fn add_loss<D: CrashDisk>(state: &mut State<'_, D>, envelope: u32) -> Result<(), OutOfMemory>
     ensures becomes { (plan : Plan) → IsStateOf D.face plan state.old → WasSent (world_in D.face state.old) envelope →
-        OnOk result (Becomes D.face plan (kept (events_in state.old) (events.Lose envelope)) state.new) }
+        OnOk result (Becomes D.face plan (with_event (events_in state.old) (events.Lose envelope)) state.new) }
     ensures extends { (plan : Plan) → IsStateOf D.face plan state.old → WasSent (world_in D.face state.old) envelope →
         Extends plan state.old.history.items state.new.history.items }
     ensures err { OnErr result (state.new.history.items ≡ state.old.history.items) }
@@ -276,7 +276,7 @@ pub fn add_loss<D: CrashDisk>(state: &mut State<'_, D>, envelope: u32) -> Result
 /// The crash of a peer that was reopened.
 pub fn add_crash<D: CrashDisk>(state: &mut State<'_, D>, peer: PeerId) -> Result<(), OutOfMemory>
     ensures becomes { (plan : Plan) → IsStateOf D.face plan state.old → IsHonest plan peer →
-        OnOk result (Becomes D.face plan (kept (events_in state.old) (events.Crash peer)) state.new) }
+        OnOk result (Becomes D.face plan (with_event (events_in state.old) (events.Crash peer)) state.new) }
     ensures extends { (plan : Plan) → IsStateOf D.face plan state.old → IsHonest plan peer
         → Extends plan state.old.history.items state.new.history.items }
     ensures err { OnErr result (state.new.history.items ≡ state.old.history.items) }

@@ -6,7 +6,7 @@ ghost use Rattle.lks_base.specs.declared.events.Due.TheVariants as dues;
 ghost use Rattle.lks_blocks.specs.Block.{AllOf};
 ghost use Rattle.lks_farm.specs.Batches.{AreDoneOf, AreOf};
 ghost use Rattle.lks_work.specs.Names.{name_done, refs_done, step_named};
-ghost use Rattle.lks_world.specs.Beside.{unplaced, unplaced_at, ArePooled, AreSameSites, IsForDue, IsPooled};
+ghost use Rattle.lks_world.specs.Beside.{without_places, unplaced_at, ArePooled, AreSameSites, IsForDue, IsPooled};
 
 use crate::sites::{Site, place_of};
 use crate::states::State;
@@ -69,7 +69,7 @@ fn add_job<D: Disk>(
     beside: &[JobDone],
     jobs: &mut Vec<Job>,
 ) -> Result<(), OutOfMemory>
-    ensures same { unplaced host.new ≡ unplaced host.old }
+    ensures same { without_places host.new ≡ without_places host.old }
     ensures of { (pool : List ℕ) → host.old.peer.pool ≡ pool → AreOf pool jobs.old.items → AreOf pool jobs.new.items }
 {
     let Some(name) = job_of(s) else {
@@ -90,7 +90,7 @@ fn add_jobs<D: Disk>(
     beside: &[JobDone],
     jobs: &mut Vec<Job>,
 ) -> Result<(), OutOfMemory>
-    ensures same { unplaced host.new ≡ unplaced host.old }
+    ensures same { without_places host.new ≡ without_places host.old }
     ensures of { (pool : List ℕ) → host.old.peer.pool ≡ pool → AreOf pool jobs.old.items → AreOf pool jobs.new.items }
 {
     for k in 0..u32::MAX {

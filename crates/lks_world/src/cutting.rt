@@ -26,7 +26,7 @@ ghost use Rattle.lks_world.specs.Endings.{PeersEnd, PowerEnds, SitesBurnFor, end
 ghost use Rattle.lks_world.specs.Endings.{notes_for, sends_for};
 ghost use Rattle.lks_world.specs.Hosts.{peer_in, peers_of, IsReady, AreReady, GoesOn, HaveGoneOn, HaveFallen};
 ghost use Rattle.lks_world.specs.Hosts.{HasActed, LosesPower};
-ghost use Rattle.lks_world.specs.Kept.{kept};
+ghost use Rattle.lks_world.specs.Kept.{with_event};
 ghost use Rattle.lks_world.specs.Sites.{hosts_of, Counted, Powered, SitesBurn, SitesPower};
 ghost use Rattle.lks_world.specs.States.{events_in, world_in, IsStateOf, AreLeft, Becomes, Extends};
 ghost use Rattle.lks_world.specs.Spending.{cut_of};
@@ -42,7 +42,7 @@ use crate::sites::{Site, place_of};
 use crate::states::{Done, State, actor, note_step, nothing_done};
 use lks_base::{Due, Event, Input, Note, OutOfMemory, PeerId, PeerStep, Plan, Reaction, Seq};
 use lks_blocks::BlockPool;
-use lks_disk::{CrashDisk, Disk};
+use lks_disk::{CrashDisk, Disk, Setting};
 use lks_host::{AfterCut, Host, cut_step, restart};
 use lks_outside::{Bell, EffortJudge};
 use lks_script::CutStep;
@@ -141,8 +141,9 @@ fn cut_input<R: Wait, D: CrashDisk>(
     ensures burns { IfOk result
         (λ e. BurnsFor D.face power.calls power.choice e host.old.journal.disk host.new.journal.disk) }
 {
-    let (calls, choice) = (u32::from(power.calls), u64::from(power.choice));
-    match cut_step(rt, pool, host, plan, tick, input, calls, choice) {
+    let calls = u32::from(power.calls);
+    let choice = u64::from(power.choice);
+    match cut_step(rt, pool, host, plan, tick, input, Setting { calls, choice }) {
         Ok(outcome) => Ok(note_outcome(host, outcome)?),
         Err(fault) => Err(blame(host.id(), fault)),
     }
@@ -456,7 +457,8 @@ pub fn crash<R: Wait, D: CrashDisk>(
     requires good { plan_fault plan.now ≡ None }
     requires honest { IsHonest plan.now peer }
     requires state { IsStateOf D.face plan.now state.old }
-    ensures becomes { OnOk result (Becomes D.face plan.now (kept (events_in state.old) (events.Crash peer)) state.new) }
+    ensures becomes { OnOk result
+        (Becomes D.face plan.now (with_event (events_in state.old) (events.Crash peer)) state.new) }
     ensures err { OnErr result (state.new.history.items ≡ state.old.history.items) }
     ensures extends { Extends plan.now state.old.history.items state.new.history.items }
     ensures fallen { OnErr result (AreLeft D.face plan.now None state.new) }

@@ -8,7 +8,7 @@ ghost use Rattle.lks_message.specs.Spelling.{IsWithin};
 ghost use Rattle.lks_script.specs.StepRules.{is_step_of};
 ghost use Rattle.lks_saying.specs.Sayings.{IsSaying, MayBeSaid};
 ghost use Rattle.lks_watch.specs.Watching.{ears, Watching, Watches, WatchesBy};
-ghost use Rattle.lks_world.specs.Follows.{done, lost, delivered_again, next_event, spoken, Performs};
+ghost use Rattle.lks_world.specs.Follows.{done, next_lost, delivered_again, next_event, with_saying, Performs};
 ghost use Rattle.lks_script.specs.declared.steps.CutStep.{CutStep};
 ghost use Rattle.lks_world.specs.Cuts.{step_cut};
 ghost use Rattle.lks_world.specs.Sites.{Counted, SitesBurn, SitesPower};
@@ -90,7 +90,7 @@ fn go_on<R: Threads + Wait + Sync, D: CrashDisk, J: EffortJudge, B: Bell, G: Gat
 /// The first envelope that waits is lost.
 fn lose_first<D: CrashDisk>(state: &mut State<'_, D>) -> Result<(), OutOfMemory>
     ensures becomes { (plan : Planned) → IsStateOf D.face plan state.old →
-        OnOk result (Becomes D.face plan (lost plan (events_in state.old)) state.new) }
+        OnOk result (Becomes D.face plan (next_lost plan (events_in state.old)) state.new) }
     ensures extends { (plan : Planned) → IsStateOf D.face plan state.old
         → Extends plan state.old.history.items state.new.history.items }
     ensures err { OnErr result (state.new.history.items ≡ state.old.history.items) }
@@ -153,7 +153,7 @@ fn speak<D: CrashDisk>(
     requires within { IfSome said.now (λ x. IsWithin x.message) }
     requires state { (plan : Planned) × IsStateOf D.face plan state.old }
     ensures becomes { (plan : Planned) → IsStateOf D.face plan state.old → IfSome said.now (MayBeSaid plan) →
-        OnOk result (Becomes D.face plan (spoken (events_in state.old) said.now) state.new) }
+        OnOk result (Becomes D.face plan (with_saying (events_in state.old) said.now) state.new) }
     ensures extends { (plan : Planned) → IsStateOf D.face plan state.old → IfSome said.now (MayBeSaid plan) →
         Extends plan state.old.history.items state.new.history.items }
     ensures err { OnErr result (state.new.history.items ≡ state.old.history.items) }

@@ -2,7 +2,7 @@
 
 ghost use Rattle.std.specs.Prelude.{◌≡◌, ◌≢◌, true};
 ghost use Rattle.lks_host.specs.Faults.{breaks};
-ghost use Rattle.lks_world.specs.Hosts.{blamed};
+ghost use Rattle.lks_world.specs.Hosts.{fault_at};
 ghost use Rattle.lks_world.specs.declared.faults.WorldFault.TheVariants.{Memory};
 
 use lks_base::{OutOfMemory, PeerId};
@@ -46,7 +46,7 @@ impl<T: Drop> From<AllocFailed<T>> for WorldFault {
 pub fn blame(peer: PeerId, fault: HostFault) -> WorldFault
     requires cut { fault ≢ HostFault.Cut }
     requires breaks { breaks fault ≡ true }
-    ensures { result ≡ blamed peer fault }
+    ensures { result ≡ fault_at peer fault }
 {
     match fault {
         HostFault::Failed => WorldFault::Disk { peer },

@@ -6,7 +6,7 @@ ghost use Rattle.std.specs.List.{flat_map};
 ghost use Rattle.lks_blocks.specs.Block.{AllOf};
 ghost use Rattle.lks_work.specs.Names.{is_left, name_done, name_of, refs_of};
 ghost use Rattle.lks_world.specs.Beside.{unplaced_at, ArePooled, AreSameSites, IsPooled};
-ghost use Rattle.lks_world.specs.Giving.{peer_named, site_works, without};
+ghost use Rattle.lks_world.specs.Giving.{peer_named, site_works, without_job};
 ghost use Rattle.lks_base.specs.declared.plans.Plan.{Plan};
 ghost use Rattle.lks_world.specs.Handing.{Expects, IsExpectedAt, IsJobAt, IsNext, IsReadyAt};
 ghost use Rattle.lks_world.specs.States.{IsStateOf, events_in};
@@ -123,7 +123,7 @@ pub fn hand_out<D: Disk>(
 }
 
 /// What is due beside work.
-pub enum Next {
+pub enum NextDue {
     /// This comes first.
     Due(Due),
     /// No envelope waits, and work is ready.
@@ -133,24 +133,24 @@ pub enum Next {
 }
 
 /// What is due beside work: the first envelope that waits, or a turn where there is neither this nor work.
-pub fn next_beside_work<D: CrashDisk>(state: &State<'_, D>) -> Next
+pub fn next_beside_work<D: CrashDisk>(state: &State<'_, D>) -> NextDue
     ensures { (plan : Plan) → IsStateOf D.face plan state.now → IsNext plan (events_in state.now) result }
 {
     if let Some(envelope) = first_waiting(state) {
-        return Next::Due(Due::Delivery { envelope });
+        return NextDue::Due(Due::Delivery { envelope });
     }
     if first_step(&state.sites, OwnSteps::Ready).is_some() {
-        return Next::Work;
+        return NextDue::Work;
     }
     match first_step(&state.sites, OwnSteps::Turns) {
-        Some(due) => Next::Due(due),
-        None => Next::Nothing,
+        Some(due) => NextDue::Due(due),
+        None => NextDue::Nothing,
     }
 }
 
 /// The job isn't out any more.
 pub fn take_in(out: &mut Vec<JobName>, name: JobName)
-    ensures { out.new.items ≡ without name out.old.items }
+    ensures { out.new.items ≡ without_job name out.old.items }
 {
     out.retain(|other| !name.is(*other));
 }

@@ -14,9 +14,9 @@ impl<D: Disk> Names<Vec<D>> for Faults {
 }
 
 /// How many alarms each bell wants.
-pub struct Limits;
+pub struct BellLimits;
 
-impl<B: Bell> Names<Vec<B>> for Limits {
+impl<B: Bell> Names<Vec<B>> for BellLimits {
     ghost use Rattle.std.specs.Prelude.{map};
 
     ghost numbers = { λ bells. map B.limit bells.items };

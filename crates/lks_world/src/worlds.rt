@@ -18,7 +18,7 @@ ghost use Rattle.lks_world.specs.Giving.{Gives, HasTurn, IsExpected, IsUsedUp, S
 ghost use Rattle.lks_world.specs.Giving.{GivesWork, AreWorksOut, GivesFresh};
 ghost use Rattle.lks_world.specs.Beside.{IsForDue};
 ghost use Rattle.lks_world.specs.Worlds.{AreSilent, Begins, HasWatched, HaveServed, PerformsIn, Remembers};
-ghost use Rattle.lks_world.specs.Worlds.{SpendsPower, StandsAtFault, halted};
+ghost use Rattle.lks_world.specs.Worlds.{SpendsPower, StandsAtFault, halting_fault};
 ghost use Rattle.lks_blocks.specs.Block.{AllOf};
 ghost use Rattle.lks_base.specs.declared.events.Due.TheVariants as dues;
 ghost use Rattle.lks_law.specs.Due.{dues, next_to_settle, IsEventOf};
@@ -31,8 +31,8 @@ use crate::copies::copy_entry;
 use crate::doing::perform;
 use crate::faults::WorldFault;
 use crate::giving;
-use crate::giving::{Back, Next, Taken, hand_out, next_beside_work, take_in, work_left};
-use crate::marks::{Faults, Limits};
+use crate::giving::{Back, NextDue, Taken, hand_out, next_beside_work, take_in, work_left};
+use crate::marks::{BellLimits, Faults};
 use crate::settling::{Course, next};
 use crate::sites::{turn_round, unsite};
 use crate::states::State;
@@ -124,7 +124,7 @@ impl<'a, D: CrashDisk + Drop, J: EffortJudge, B: Bell> World<'a, D, J, B> {
         ensures made { OnErr result (HaveBegunUpTo D.face plan disks.items (disks_made result)) }
         ensures power { map (power_of D.face) (disks_made result) ≡ map (power_of D.face) disks.items }
     {
-        let first_limits = Tag::of::<Vec<B>, Limits>(&bells);
+        let first_limits = Tag::of::<Vec<B>, BellLimits>(&bells);
         let first_faults = Tag::of::<Vec<D>, Faults>(&disks);
         turn_round(&mut disks);
         match begin(alloc, rt, pool, &plan, &mut disks) {
@@ -244,7 +244,7 @@ impl<'a, D: CrashDisk + Drop, J: EffortJudge, B: Bell> World<'a, D, J, B> {
 
     /// The world takes no further step. A fault that stopped it before stays.
     pub fn halt(&mut self)
-        ensures { self.new ≡ record self.old { stopped = halted self.old.stopped } }
+        ensures { self.new ≡ record self.old { stopped = halting_fault self.old.stopped } }
     {
         if self.stopped.is_none() {
             self.stopped = Some(WorldFault::Memory);
@@ -415,12 +415,12 @@ impl<'a, D: CrashDisk + Drop, J: EffortJudge, B: Bell> World<'a, D, J, B> {
         ensures stopped { self.new.stopped ≡ fault_in result }
     {
         match next_beside_work(&self.state) {
-            Next::Due(due) => match self.do_turn(rt, due, None) {
+            NextDue::Due(due) => match self.do_turn(rt, due, None) {
                 Ok(()) => Ok(Taken::Did),
                 Err(fault) => Err(fault),
             },
-            Next::Work => Ok(Taken::Out),
-            Next::Nothing => Ok(Taken::Finished),
+            NextDue::Work => Ok(Taken::Out),
+            NextDue::Nothing => Ok(Taken::Finished),
         }
     }
 

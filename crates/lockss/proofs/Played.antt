@@ -25,8 +25,8 @@ use Rattle.lockss.proofs.ToldAgain.{told_again}
 use Rattle.lockss.specs.Filed.{filed_from, journals_text}
 use Rattle.lockss.specs.ReadingBack.{AreOn, CanRead, IsPreface, ReadsBack, TellsJournals}
 use Rattle.lockss.specs.declared.journals.Preface.{Preface}
-use Rattle.lockss.specs.declared.playing.Course.{Course}
-use Rattle.lockss.specs.declared.playing.Course.TheVariants.{Open, Over}
+use Rattle.lockss.specs.declared.playing.Progress.{Progress}
+use Rattle.lockss.specs.declared.playing.Progress.TheVariants.{Open, Over}
 use Rattle.lks_law.proofs.Holding.{is_safe}
 use Rattle.lks_law.specs.Alarms.{alarms}
 use Rattle.lks_law.specs.Histories.{IsHistory}
@@ -168,14 +168,14 @@ some_told Journals reads plan history = omega arith
 
 -- what was told first, of a world in which the steps were done
 pub comes_first : {D K J B : Type 0} (e : Senses D K J B) (command : Play) (steps : List Step)
-    (first now : Seen D J B) (before after : K) (course : Course)
-    → TellsFirst e command first.plan now.history before after course
+    (first now : Seen D J B) (before after : K) (progress : Progress)
+    → TellsFirst e command first.plan now.history before after progress
     → ((answer : Result Bool WriteStop)
     → Tells e ((deed_of command).told first.plan now.history) (has_any (alarms first.plan now.history)) before
     after answer
     → IsPlayed e command steps first now before after answer)
-    → ComesIn e command steps first now before after course
-comes_first {K = K} e command steps first now before after course is played = by_course course is
+    → ComesIn e command steps first now before after progress
+comes_first {K = K} e command steps first now before after progress is played = by_progress progress is
   where
     untold : (deed_of command).reads_back ≡ true → after ≡ before
         → IsPlayed e command steps first now before after (Err writing.Memory)
@@ -186,13 +186,13 @@ comes_first {K = K} e command steps first now before after course is played = by
               (some_told command reads first.plan now.history) (ap e.taken same ∙ is),
         )
 
-    by_course : (course : Course) → TellsFirst e command first.plan now.history before after course
-        → ComesIn e command steps first now before after course
-    by_course (Over (Told told)) is = (is.0, played told is.1)
-    by_course (Over (Untold fault)) is = (is.0, is.1, is.2, untold is.0 is.2)
-    by_course (Over (Stopped fault)) is = absurd is
-    by_course (Over (Unmade fault)) is = absurd is
-    by_course (Open preface) is = (is.0, is.1, is.2, untold is.0 is.2)
+    by_progress : (progress : Progress) → TellsFirst e command first.plan now.history before after progress
+        → ComesIn e command steps first now before after progress
+    by_progress (Over (Told told)) is = (is.0, played told is.1)
+    by_progress (Over (Untold fault)) is = (is.0, is.1, is.2, untold is.0 is.2)
+    by_progress (Over (Stopped fault)) is = absurd is
+    by_progress (Over (Unmade fault)) is = absurd is
+    by_progress (Open preface) is = (is.0, is.1, is.2, untold is.0 is.2)
 
 -- the lines of the plan, and behind them those of the journals, are what is told
 tells_all : {D K J B : Type 0} (e : Senses D K J B) (command : Play) → (deed_of command).reads_back ≡ true
@@ -450,9 +450,9 @@ module _ {D K J B : Type 0} (e : Senses D K J B) (command : Play) (s : Script) (
     open_as p is (Stopped fault) tells = absurd tells
     open_as p is (Unmade fault) tells = absurd tells
 
-    pub played_as : (course : Course) → ComesIn e command steps first now before.sink after.sink course
+    pub played_as : (progress : Progress) → ComesIn e command steps first now before.sink after.sink progress
         → (played : Played)
-        → GoesOn e.face e.taken e.failed course after.disks last.disks after.sink last.sink played
+        → GoesOn e.face e.taken e.failed progress after.disks last.disks after.sink last.sink played
         → PlaysTo e (deed_of command) s before last played
     played_as (Over whole) is played goes =
         subst (λ (d : Devices D K J B). PlaysTo e (deed_of command) s before d played)
@@ -467,8 +467,8 @@ module _ {D K J B : Type 0} (e : Senses D K J B) (command : Play) (s : Script) (
     played_as (Open p) is played goes = open_as p is played goes
 
   -- the disks can be read back, where they are to be
-  pub can_read_as : (course : Course) → ComesIn e command steps first now before.sink after.sink course
-      → AreUnfused e.face after.disks → IfOpen course (λ p. CanRead e.face p.owners.items after.disks)
+  pub can_read_as : (progress : Progress) → ComesIn e command steps first now before.sink after.sink progress
+      → AreUnfused e.face after.disks → IfOpen progress (λ p. CanRead e.face p.owners.items after.disks)
   unfolding played_whole
   can_read_as (Over played) is unfused = tt
   can_read_as (Open p) is unfused =

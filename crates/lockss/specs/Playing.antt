@@ -28,8 +28,8 @@ use Rattle.lockss.specs.ReadingBack.{IsPreface, TellsJournals}
 use Rattle.lockss.specs.declared.ends.Played.{Played}
 use Rattle.lockss.specs.declared.ends.Played.TheVariants.{Stopped, Told, Unmade, Untold}
 use Rattle.lockss.specs.declared.journals.Preface.{Preface}
-use Rattle.lockss.specs.declared.playing.Course.{Course}
-use Rattle.lockss.specs.declared.playing.Course.TheVariants.{Open, Over}
+use Rattle.lockss.specs.declared.playing.Progress.{Progress}
+use Rattle.lockss.specs.declared.playing.Progress.TheVariants.{Open, Over}
 
 -- A world in which nothing happened yet was made on these disks, with this judge and these bells; each honest peer's
 -- journal begins.
@@ -88,7 +88,7 @@ pub record IsStopped {D K J B : Type 0} (e : Senses D K J B) (steps : List Step)
 
 -- what was told first of a world in which all steps were done: all that is told, or what is told before its journals
 -- and nothing yet
-abbrev pub TellsFirst : {D K J B : Type 0} → Senses D K J B → Play → Plan → List Event → K → K → Course → Type 0
+abbrev pub TellsFirst : {D K J B : Type 0} → Senses D K J B → Play → Plan → List Event → K → K → Progress → Type 0
 TellsFirst e command plan history before after (Over (Told told)) =
     ((deed_of command).reads_back ≡ false)
     × Tells e ((deed_of command).told plan history) (has_any (alarms plan history)) before after told
@@ -101,7 +101,7 @@ TellsFirst e command plan history before after (Open preface) =
 
 -- how far the steps were played in a world that was made; where its journals are to be told, nothing is told yet
 abbrev pub ComesIn : {D K J B : Type 0} → Senses D K J B → Play → List Step → Seen D J B → Seen D J B → K → K
-    → Course → Type 0
+    → Progress → Type 0
 ComesIn e command steps first now before after (Over (Told told)) =
     ((deed_of command).reads_back ≡ false) × IsPlayed e command steps first now before after told
 ComesIn e command steps first now before after (Over (Untold fault)) =
@@ -114,12 +114,12 @@ ComesIn e command steps first now before after (Open preface) =
     × IsPlayed e command steps first now before after (Err writing.Memory)
 
 -- where journals are to be told
-abbrev pub IfOpen : Course → (Preface → Type 0) → Type 0
+abbrev pub IfOpen : Progress → (Preface → Type 0) → Type 0
 IfOpen (Over played) P = Unit {0}
 IfOpen (Open preface) P = P preface
 
 -- what came of it at the end: what had come, or what is told of the journals
-abbrev pub GoesOn : {D K : Type 0} → Face D → (K → Option (List ℕ)) → (K → ℕ) → Course → List D → List D → K → K
+abbrev pub GoesOn : {D K : Type 0} → Face D → (K → Option (List ℕ)) → (K → ℕ) → Progress → List D → List D → K → K
     → Played → Type 0
 GoesOn f taken failed (Over played) disks after sink sink_after result =
     (result ≡ played) × (after ≡ disks) × (sink_after ≡ sink)

@@ -41,7 +41,7 @@ use std::thread::Threads;
 
 /// How far a world was played before its disks are given back.
 #[derive(Drop)]
-pub enum Course {
+pub enum Progress {
     /// It is over.
     Over(Played),
     /// All steps were done, and the journals are to be told.
@@ -133,18 +133,18 @@ fn tell_first<K: Sink, D: CrashDisk + Drop, J: EffortJudge, B: Bell>(
     command: Play,
     world: &World<'_, D, J, B>,
     sink: &mut K,
-) -> Course
+) -> Progress
     ensures tells { TellsFirst (senses D.face (ears J.heard J.verdict B.rung B.limit) K.taken K.faults) command
         world.now.plan world.now.history sink.old sink.new result }
     ensures count { K.faults sink.old ≤ K.faults sink.new }
 {
     match command {
         Play::Replay | Play::Drill { .. } => {
-            Course::Over(Played::Told(tell(alloc, command, world, sink)))
+            Progress::Over(Played::Told(tell(alloc, command, world, sink)))
         }
         Play::Journals => match begin_journals(alloc, world.plan(), world.history()) {
-            Ok(preface) => Course::Open(preface),
-            Err(_) => Course::Over(Played::Untold(WorldFault::Memory)),
+            Ok(preface) => Progress::Open(preface),
+            Err(_) => Progress::Over(Played::Untold(WorldFault::Memory)),
         },
     }
 }
@@ -165,7 +165,7 @@ fn play_in<
     world: &mut World<'_, D, J, B>,
     steps: &[Step],
     sink: &mut K,
-) -> Course
+) -> Progress
     requires running { world.old.stopped ≡ None }
     requires legal { are_steps_of world.old.plan steps.now ≡ true }
     ensures plan { world.new.plan ≡ world.old.plan }
@@ -175,7 +175,7 @@ fn play_in<
 {
     match perform_all(rt, gate, world, steps) {
         Ok(()) => tell_first(alloc, command, world, sink),
-        Err(fault) => Course::Over(Played::Stopped(fault)),
+        Err(fault) => Progress::Over(Played::Stopped(fault)),
     }
 }
 
@@ -198,17 +198,17 @@ pub fn hand_back<D: Drop, J: Drop, B: Drop>(
 /// Reads the journals back and tells them, where they are to be told.
 fn go_on<K: Sink, D: CrashDisk + Drop>(
     alloc: Global,
-    course: Course,
+    progress: Progress,
     sink: &mut K,
     disks: &mut Vec<D>,
 ) -> Played
-    requires can { IfOpen course (λ p. CanRead D.face p.owners.items disks.old.items) }
-    ensures goes { GoesOn D.face K.taken K.faults course disks.old.items disks.new.items sink.old sink.new result }
+    requires can { IfOpen progress (λ p. CanRead D.face p.owners.items disks.old.items) }
+    ensures goes { GoesOn D.face K.taken K.faults progress disks.old.items disks.new.items sink.old sink.new result }
     ensures count { K.faults sink.old ≤ K.faults sink.new }
 {
-    match course {
-        Course::Over(played) => played,
-        Course::Open(preface) => tell_journals(alloc, preface, sink, disks),
+    match progress {
+        Progress::Over(played) => played,
+        Progress::Open(preface) => tell_journals(alloc, preface, sink, disks),
     }
 }
 
@@ -286,7 +286,7 @@ pub fn play<
         Ok(world) => world,
         Err(fault) => return Played::Unmade(fault),
     };
-    let course = play_in(alloc, rt, gate, command, &mut world, steps.as_slice(), sink);
+    let progress = play_in(alloc, rt, gate, command, &mut world, steps.as_slice(), sink);
     hand_back(world.into_parts(), disks, judge, bells);
-    go_on(alloc, course, sink, disks)
+    go_on(alloc, progress, sink, disks)
 }

@@ -20,7 +20,7 @@ use std::test::Fail;
 
 /// How results come back.
 #[derive(Clone, Copy)]
-pub enum Order {
+pub enum ReturnOrder {
     /// Each at once.
     AtOnce,
     /// Where all that is due is work whose jobs are out: those of all these jobs, the last one first.
@@ -45,8 +45,8 @@ fn word_of(back: Back) -> &'static str {
 
 /// How far a world was driven.
 #[derive(Drop)]
-pub struct Course {
-    order: Order,
+pub struct Driven {
+    order: ReturnOrder,
     /// What became of each result that came back, in words: it was kept; its work wasn't ready any more, or was so over
     /// another version; or the turns were used up.
     pub came: String,
@@ -56,11 +56,11 @@ pub struct Course {
     recalled: Option<usize>,
 }
 
-impl Course {
-    pub fn new(alloc: Global, order: Order) -> Course
+impl Driven {
+    pub fn new(alloc: Global, order: ReturnOrder) -> Driven
         ensures { result.held.items ≡ [] }
     {
-        Course {
+        Driven {
             order,
             came: String::new(alloc),
             held: VecDeque::new(alloc),
@@ -75,8 +75,8 @@ impl Course {
             → IfSome result (λ done. AllOf pool (refs_done done)) }
     {
         match self.order {
-            Order::AtOnce | Order::LastFirst => self.held.pop_back(),
-            Order::Twice => self.held.pop_front(),
+            ReturnOrder::AtOnce | ReturnOrder::LastFirst => self.held.pop_back(),
+            ReturnOrder::Twice => self.held.pop_front(),
         }
     }
 }
@@ -85,17 +85,17 @@ impl Course {
 fn give_next<R: Wait, D: CrashDisk + Drop, J: EffortJudge, B: Bell>(
     rt: &R,
     world: &mut World<'_, D, J, B>,
-    course: &mut Course,
+    driven: &mut Driven,
 ) -> Result<(), Fail>
     requires running { world.old.stopped ≡ None }
-    requires of { AreDoneOf world.old.pool course.old.held.items }
+    requires of { AreDoneOf world.old.pool driven.old.held.items }
     ensures running { OnOk result (world.new.stopped ≡ None) }
     ensures pool { world.new.pool ≡ world.old.pool }
-    ensures of { OnOk result (AreDoneOf world.new.pool course.new.held.items) }
+    ensures of { OnOk result (AreDoneOf world.new.pool driven.new.held.items) }
 {
-    if let Some(done) = course.next() {
+    if let Some(done) = driven.next() {
         let back = world.give_back(rt, done)?;
-        course.came.push_str(word_of(back))?;
+        driven.came.push_str(word_of(back))?;
     }
     Ok(())
 }
@@ -104,29 +104,29 @@ fn give_next<R: Wait, D: CrashDisk + Drop, J: EffortJudge, B: Bell>(
 fn give<R: Wait, D: CrashDisk + Drop, J: EffortJudge, B: Bell>(
     rt: &R,
     world: &mut World<'_, D, J, B>,
-    course: &mut Course,
+    driven: &mut Driven,
     count: usize,
 ) -> Result<(), Fail>
     requires running { world.old.stopped ≡ None }
-    requires of { AreDoneOf world.old.pool course.old.held.items }
+    requires of { AreDoneOf world.old.pool driven.old.held.items }
     ensures running { OnOk result (world.new.stopped ≡ None) }
     ensures pool { world.new.pool ≡ world.old.pool }
-    ensures of { OnOk result (AreDoneOf world.new.pool course.new.held.items) }
+    ensures of { OnOk result (AreDoneOf world.new.pool driven.new.held.items) }
 {
     for _ in 0..count {
-        give_next(rt, world, course)?;
+        give_next(rt, world, driven)?;
     }
     Ok(())
 }
 
 /// Hashes a job that was handed out.
-fn hash(alloc: Global, pool: &BlockPool, course: &mut Course, job: Job) -> Result<(), OutOfMemory>
+fn hash(alloc: Global, pool: &BlockPool, driven: &mut Driven, job: Job) -> Result<(), OutOfMemory>
     requires job { AllOf pool.now (refs_of job) }
-    requires of { AreDoneOf pool.now course.old.held.items }
-    ensures { OnOk result (AreDoneOf pool.now course.new.held.items) }
+    requires of { AreDoneOf pool.now driven.old.held.items }
+    ensures { OnOk result (AreDoneOf pool.now driven.new.held.items) }
 {
     let done = hash_job(alloc, pool, &FreeGate, job)?;
-    course.held.push_back(done)?;
+    driven.held.push_back(done)?;
     Ok(())
 }
 
@@ -136,21 +136,21 @@ fn work<R: Wait, D: CrashDisk + Drop, J: EffortJudge, B: Bell>(
     rt: &R,
     pool: &BlockPool,
     world: &mut World<'_, D, J, B>,
-    course: &mut Course,
+    driven: &mut Driven,
     job: Job,
 ) -> Result<(), Fail>
     requires running { world.old.stopped ≡ None }
     requires pool { pool.now ≡ world.old.pool }
     requires job { AllOf pool.now (refs_of job) }
-    requires of { AreDoneOf world.old.pool course.old.held.items }
+    requires of { AreDoneOf world.old.pool driven.old.held.items }
     ensures running { OnOk result (world.new.stopped ≡ None) }
     ensures pool { world.new.pool ≡ world.old.pool }
-    ensures of { OnOk result (AreDoneOf world.new.pool course.new.held.items) }
+    ensures of { OnOk result (AreDoneOf world.new.pool driven.new.held.items) }
 {
-    hash(alloc, pool, course, job)?;
-    match course.order {
-        Order::AtOnce => give_next(rt, world, course),
-        Order::LastFirst | Order::Twice => Ok(()),
+    hash(alloc, pool, driven, job)?;
+    match driven.order {
+        ReturnOrder::AtOnce => give_next(rt, world, driven),
+        ReturnOrder::LastFirst | ReturnOrder::Twice => Ok(()),
     }
 }
 
@@ -158,23 +158,23 @@ fn work<R: Wait, D: CrashDisk + Drop, J: EffortJudge, B: Bell>(
 fn go_on<R: Wait, D: CrashDisk + Drop, J: EffortJudge, B: Bell>(
     rt: &R,
     world: &mut World<'_, D, J, B>,
-    course: &mut Course,
+    driven: &mut Driven,
 ) -> Result<(), Fail>
     requires running { world.old.stopped ≡ None }
-    requires of { AreDoneOf world.old.pool course.old.held.items }
+    requires of { AreDoneOf world.old.pool driven.old.held.items }
     ensures running { OnOk result (world.new.stopped ≡ None) }
     ensures pool { world.new.pool ≡ world.old.pool }
-    ensures of { OnOk result (AreDoneOf world.new.pool course.new.held.items) }
+    ensures of { OnOk result (AreDoneOf world.new.pool driven.new.held.items) }
 {
-    let held = course.held.len();
-    match course.order {
-        Order::AtOnce => Err("a job is out whose result is held".into()),
-        Order::LastFirst => give(rt, world, course, held),
-        Order::Twice => match course.recalled.take() {
-            Some(count) => give(rt, world, course, count),
+    let held = driven.held.len();
+    match driven.order {
+        ReturnOrder::AtOnce => Err("a job is out whose result is held".into()),
+        ReturnOrder::LastFirst => give(rt, world, driven, held),
+        ReturnOrder::Twice => match driven.recalled.take() {
+            Some(count) => give(rt, world, driven, count),
             None => {
                 world.recall();
-                course.recalled = Some(held);
+                driven.recalled = Some(held);
                 Ok(())
             }
         },
@@ -187,19 +187,19 @@ fn take<R: Wait, D: CrashDisk + Drop, J: EffortJudge, B: Bell>(
     rt: &R,
     pool: &BlockPool,
     world: &mut World<'_, D, J, B>,
-    course: &mut Course,
+    driven: &mut Driven,
 ) -> Result<bool, Fail>
     requires running { world.old.stopped ≡ None }
     requires pool { pool.now ≡ world.old.pool }
-    requires of { AreDoneOf world.old.pool course.old.held.items }
+    requires of { AreDoneOf world.old.pool driven.old.held.items }
     ensures running { OnOk result (world.new.stopped ≡ None) }
     ensures pool { world.new.pool ≡ world.old.pool }
-    ensures of { OnOk result (AreDoneOf world.new.pool course.new.held.items) }
+    ensures of { OnOk result (AreDoneOf world.new.pool driven.new.held.items) }
 {
     match world.take_due(rt)? {
         Taken::Did => {}
-        Taken::Work(job) => work(alloc, rt, pool, world, course, job)?,
-        Taken::Out => go_on(rt, world, course)?,
+        Taken::Work(job) => work(alloc, rt, pool, world, driven, job)?,
+        Taken::Out => go_on(rt, world, driven)?,
         Taken::Finished => return Ok(false),
     }
     Ok(true)
@@ -211,19 +211,19 @@ pub fn drive<R: Wait, D: CrashDisk + Drop, J: EffortJudge, B: Bell>(
     rt: &R,
     pool: &BlockPool,
     world: &mut World<'_, D, J, B>,
-    course: &mut Course,
+    driven: &mut Driven,
 ) -> Result<(), Fail>
     requires running { world.old.stopped ≡ None }
     requires pool { pool.now ≡ world.old.pool }
-    requires of { AreDoneOf world.old.pool course.old.held.items }
+    requires of { AreDoneOf world.old.pool driven.old.held.items }
     ensures running { OnOk result (world.new.stopped ≡ None) }
     ensures pool { world.new.pool ≡ world.old.pool }
-    ensures of { OnOk result (AreDoneOf world.new.pool course.new.held.items) }
+    ensures of { OnOk result (AreDoneOf world.new.pool driven.new.held.items) }
 {
     for _ in 0..200u32 {
-        if !take(alloc, rt, pool, world, course)? {
-            let held = course.held.len();
-            return give(rt, world, course, held);
+        if !take(alloc, rt, pool, world, driven)? {
+            let held = driven.held.len();
+            return give(rt, world, driven, held);
         }
     }
     Err("something is still due".into())

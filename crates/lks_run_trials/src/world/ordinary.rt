@@ -8,7 +8,7 @@ ghost use Rattle.lks_farm.specs.Batches.{AreDoneOf};
 ghost use Rattle.lks_script.specs.StepRules.{are_steps_of};
 ghost use Rattle.lks_world.specs.Held.{AreFresh, IsFresh};
 
-use crate::world::driving::{Course, Order, drive};
+use crate::world::driving::{Driven, ReturnOrder, drive};
 use lks_base::{Entry, MOST_PEERS, Plan};
 use lks_blocks::BlockPool;
 use lks_disk::{CrashDisk, Disk, MemDisk};
@@ -115,7 +115,7 @@ end 1
 struct Case {
     /// A line behind the rules, if any.
     turns: &'static str,
-    order: Order,
+    order: ReturnOrder,
     /// What became of the results that came back.
     came: &'static str,
     /// Whether no envelope waits and no work is ready in the end.
@@ -129,7 +129,7 @@ struct Case {
 /// Three votes and two tallies come back.
 const AGREES: Case = Case {
     turns: "",
-    order: Order::AtOnce,
+    order: ReturnOrder::AtOnce,
     came: "kept kept kept kept kept",
     quiet: true,
     begins: OPENED,
@@ -140,20 +140,20 @@ const AGREES: Case = Case {
 const CASES: [Case; 5] = [
     AGREES,
     Case {
-        order: Order::LastFirst,
+        order: ReturnOrder::LastFirst,
         ..AGREES
     },
     // The second result of each job is stale; that of the first tally comes back where the tally of the repaired copy
     // is ready.
     Case {
-        order: Order::Twice,
+        order: ReturnOrder::Twice,
         came: "kept kept kept gone gone gone kept outdated kept gone",
         ..AGREES
     },
     // Three votes come back after the last turn.
     Case {
         turns: "turns 12\n",
-        order: Order::LastFirst,
+        order: ReturnOrder::LastFirst,
         came: "late late late",
         quiet: false,
         begins: NOMINATED,
@@ -162,7 +162,7 @@ const CASES: [Case; 5] = [
     },
     Case {
         turns: "turns 0\n",
-        order: Order::LastFirst,
+        order: ReturnOrder::LastFirst,
         came: "",
         quiet: false,
         begins: OPENED,
@@ -311,15 +311,15 @@ fn play_in<R: Threads + Wait + Sync, D: CrashDisk + Drop, J: EffortJudge, B: Bel
     pool: &BlockPool,
     world: &mut World<'_, D, J, B>,
     steps: &[Step],
-    course: &mut Course,
+    driven: &mut Driven,
 ) -> Result<Ending, Fail>
     requires running { world.old.stopped ≡ None }
     requires legal { are_steps_of world.old.plan steps.now ≡ true }
     requires pool { pool.now ≡ world.old.pool }
-    requires of { AreDoneOf world.old.pool course.old.held.items }
+    requires of { AreDoneOf world.old.pool driven.old.held.items }
 {
     perform(rt, world, steps)?;
-    drive(alloc, rt, pool, world, course)?;
+    drive(alloc, rt, pool, world, driven)?;
     finish(alloc, world)
 }
 
@@ -329,15 +329,15 @@ fn play<R: Threads + Wait + Sync>(
     rt: &R,
     pool: &BlockPool,
     script: Script,
-    course: &mut Course,
+    driven: &mut Driven,
 ) -> Result<Ending, Fail>
     requires good { plan_fault script.plan ≡ None }
     requires legal { are_steps_of script.plan script.steps ≡ true }
-    requires of { AreDoneOf pool.now course.old.held.items }
+    requires of { AreDoneOf pool.now driven.old.held.items }
 {
     let Script { plan, steps } = script;
     let mut world = world_of(alloc, rt, pool, plan)?;
-    play_in(alloc, rt, pool, &mut world, steps.as_slice(), course)
+    play_in(alloc, rt, pool, &mut world, steps.as_slice(), driven)
 }
 
 /// Whether the piece stands in the text.
@@ -377,9 +377,9 @@ fn ordinary_use_by_what_is_given_out(rt: HostRuntime) -> Result<(), Fail> {
     for (at, case) in CASES.iter().enumerate() {
         let pool = BlockPool::new(alloc)?;
         let script = script_of(alloc, case.turns, DAMAGE)?;
-        let mut course = Course::new(alloc, case.order);
-        let seen = play(alloc, &rt, &pool, script, &mut course)?;
-        compare(&rt, at, case, course.came.as_str(), &seen);
+        let mut driven = Driven::new(alloc, case.order);
+        let seen = play(alloc, &rt, &pool, script, &mut driven)?;
+        compare(&rt, at, case, driven.came.as_str(), &seen);
     }
     Ok(())
 }

@@ -4,9 +4,9 @@ use Rattle.std.specs.Int.{div_ceil}
 use Rattle.std.proofs.lemmas.List.{nil_from_length}
 use Rattle.std.proofs.lemmas.Grind.{common_steps}
 use Rattle.std.proofs.lemmas.List.Sums.{fold_more}
-use Rattle.lks_draw.specs.Picks.{picked, words_taken}
-use Rattle.lks_draw.specs.Words.{words_of, moved}
-use Rattle.lks_choice.specs.Circles.{Filled, filled, filled_by, candidates, circle_of, HasComeTo}
+use Rattle.lks_draw.specs.Picks.{picked_members, words_taken}
+use Rattle.lks_draw.specs.Words.{words_of, draw_after}
+use Rattle.lks_choice.specs.Circles.{Filled, filled_circle, filled_by, candidates, circle_of, HasComeTo}
 use Rattle.lks_choice.proofs.Filling.{filled-peers, filled-words, circle_law}
 use Rattle.lks_choice.proofs.circles.outer_circle.Goals as goal
 
@@ -33,20 +33,20 @@ loop-nominees-preserved c =
     let those = c.in_ok-those.those.items in
     let so_far : Filled = filled_by d c.args.own c.args.inner.now c.args.size share (take i c.args.nominated.now) in
     let more : filled_by d c.args.own c.args.inner.now c.args.size share (take (i + 1) c.args.nominated.now)
-    ≡ filled d c.args.own c.args.inner.now c.args.size share so_far c.nominees-item.result =
-    fold_more (filled d c.args.own c.args.inner.now c.args.size share) (record { peers = []; words = 0 })
+    ≡ filled_circle d c.args.own c.args.inner.now c.args.size share so_far c.nominees-item.result =
+    fold_more (filled_circle d c.args.own c.args.inner.now c.args.size share) (record { peers = []; words = 0 })
     c.args.nominated.now i c.nominees-item.result c.loop-nominees-test.true
-    ∙ ap (filled d c.args.own c.args.inner.now c.args.size share so_far) (sym c.nominees-item.is) in
+    ∙ ap (filled_circle d c.args.own c.args.inner.now c.args.size share so_far) (sym c.nominees-item.is) in
     let those_is : those
     ≡ candidates c.args.own c.args.inner.now c.loop-nominees.peers.items c.nominees-item.result = search rules
     in
     let most_is : c.min-most.result ≡ min share (c.args.size - length c.loop-nominees.peers.items) = search rules in
     let members = c.in_ok-members.members.items in
     let members_is : members
-    ≡ picked (words_of c.loop-nominees.draws.key) c.loop-nominees.draws.place those c.min-most.result = search
+    ≡ picked_members (words_of c.loop-nominees.draws.key) c.loop-nominees.draws.place those c.min-most.result = search
     rules in
     let moved_is : c.pick.new.draws
-    ≡ moved c.loop-nominees.draws (words_taken those c.min-most.result) = search rules in
+    ≡ draw_after c.loop-nominees.draws (words_taken those c.min-most.result) = search rules in
     let grown : c.extend_from_slice.new.self.items ≡ c.loop-nominees.peers.items ++ members = search rules in
     record {
       peers = grown
@@ -58,7 +58,7 @@ loop-nominees-preserved c =
           ∙ filled-words d c.loop-nominees.draws c.args.own c.args.inner.now c.args.size share so_far
           c.nominees-item.result c.loop-nominees.peers.items those c.min-most.result
           inv.peers inv.draws those_is most_is
-          ∙ sym (ap (λ (f : Filled). moved d f.words) more);
+          ∙ sym (ap (λ (f : Filled). draw_after d f.words) more);
     }
 
 pub returns-in_err-members-clause-err : goal.returns-in_err-members-clause-err
@@ -81,16 +81,16 @@ returns-in_err-extend_from_slice-clause-err c =
     let those = c.in_ok-those.those.items in
     let so_far : Filled = filled_by d c.args.own c.args.inner.now c.args.size share (take i c.args.nominated.now) in
     let more : filled_by d c.args.own c.args.inner.now c.args.size share (take (i + 1) c.args.nominated.now)
-    ≡ filled d c.args.own c.args.inner.now c.args.size share so_far c.nominees-item.result =
-    fold_more (filled d c.args.own c.args.inner.now c.args.size share) (record { peers = []; words = 0 })
+    ≡ filled_circle d c.args.own c.args.inner.now c.args.size share so_far c.nominees-item.result =
+    fold_more (filled_circle d c.args.own c.args.inner.now c.args.size share) (record { peers = []; words = 0 })
     c.args.nominated.now i c.nominees-item.result c.loop-nominees-test.true
-    ∙ ap (filled d c.args.own c.args.inner.now c.args.size share so_far) (sym c.nominees-item.is) in
+    ∙ ap (filled_circle d c.args.own c.args.inner.now c.args.size share so_far) (sym c.nominees-item.is) in
     let those_is : those
     ≡ candidates c.args.own c.args.inner.now c.loop-nominees.peers.items c.nominees-item.result = search rules
     in
     let most_is : c.min-most.result ≡ min share (c.args.size - length c.loop-nominees.peers.items) = search rules in
     let moved_is : c.pick.new.draws
-    ≡ moved c.loop-nominees.draws (words_taken those c.min-most.result) = search rules in
+    ≡ draw_after c.loop-nominees.draws (words_taken those c.min-most.result) = search rules in
     let share_is : share ≡ div_ceil c.args.size (length c.args.nominated.now) = search rules in
     let come : HasComeTo d c.args.own c.args.inner.now c.args.nominated.now c.args.size c.pick.new.draws = record {
       count = i + 1;
@@ -98,7 +98,7 @@ returns-in_err-extend_from_slice-clause-err c =
           ∙ filled-words d c.loop-nominees.draws c.args.own c.args.inner.now c.args.size share so_far
           c.nominees-item.result c.loop-nominees.peers.items those c.min-most.result
           inv.peers inv.draws those_is most_is
-          ∙ sym (ap (λ (f : Filled). moved d f.words) more));
+          ∙ sym (ap (λ (f : Filled). draw_after d f.words) more));
     } in
     on_err _ come
 

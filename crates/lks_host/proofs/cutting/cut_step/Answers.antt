@@ -63,30 +63,30 @@ lies_cut : (g : Over) (c : In-Err-Cut g) (batches : List (List Record))
     → StandsFor g.D.Disk.face c.args.host.now batches
     → LiesOn g.D.Disk.face c.fuse.new.self.peer.own c.power_cut.new.self.journal.disk batches
     ⊎
-    ((2 ≤ c.args.calls)
+    ((2 ≤ c.args.fuse.calls)
     × LiesOn g.D.Disk.face c.fuse.new.self.peer.own c.power_cut.new.self.journal.disk
     (with_batch batches (answered c.fuse.new.self.peer c.args.tick c.args.input.now).records))
 lies_cut g c batches at =
     let stood = c.fuse.ensures.stands batches at in
     let read = c.step-done.ensures.read (enough g c) in
     cut_lies g.D.Disk.face c.fuse.new.self c.step-done.new.self c.power_cut.new.self.journal.disk batches
-    (answered c.fuse.new.self.peer c.args.tick c.args.input.now).records c.args.calls
+    (answered c.fuse.new.self.peer c.args.tick c.args.input.now).records c.args.fuse.calls
     (as_journal c.step-done.result) stood
     read.fit (c.step-done.ensures.adds (tells g c.fuse.new.self.journal.disk) batches stood) (is_cut g c)
     c.fuse.ensures.fused.left read.read c.power_cut.ensures.lost
 
 -- the fuse was too short for it, and burned
 short_fuse : (g : Over) (c : In-Err-Cut g)
-    → IsCutShort (answered c.args.host.now.peer c.args.tick c.args.input.now) c.args.calls
+    → IsCutShort (answered c.args.host.now.peer c.args.tick c.args.input.now) c.args.fuse.calls
 short_fuse g c =
     let some = some_added g c in
-    let few : c.args.calls
+    let few : c.args.fuse.calls
     < 4 = omega (
       arith,
       ((c.step-done.ensures.stepped.calls.called some).fuse.cut (is_cut g c)).1,
       c.fuse.ensures.fused.left,
     ) in
-    subst (λ (k : Knowing). IsCutShort (answered k c.args.tick c.args.input.now) c.args.calls) c.fuse.ensures.peer
+    subst (λ (k : Knowing). IsCutShort (answered k c.args.tick c.args.input.now) c.args.fuse.calls) c.fuse.ensures.peer
     (record { adds = some; few = few })
 
 burned : (g : Over) (c : In-Err-Cut g)
@@ -134,7 +134,7 @@ returns-in_ok-recover-in-Ok-clause-cuts g c = λ batches at.
     let same : c.in-Ok.reaction
     ≡ answered c.args.host.now.peer c.args.tick c.args.input.now = c.in-Ok.ensures.stepped.reaction ∙ still in
     let now = (answered c.fuse.new.self.peer c.args.tick c.args.input.now).records in
-    let spent : (now ≡ [] → ⊥) → 4 ≤ c.args.calls = λ some.
+    let spent : (now ≡ [] → ⊥) → 4 ≤ c.args.fuse.calls = λ some.
     let passed : g.D.Disk.face.left c.step-done.new.self.journal.disk + 4
     ≡ g.D.Disk.face.left c.fuse.new.self.journal.disk = (c.in-Ok.ensures.stepped.calls.called some).fuse.passes
     c.fuse.ensures.fused.fused in
@@ -162,11 +162,11 @@ returns-then-found-before-clause-cuts g c = λ batches at.
     let cut = (goal.at.returns-then-found-before-clause-cuts g c).In-Err-Cut in
     let still = ap (λ (k : Knowing). answered k c.args.tick c.args.input.now) c.fuse.ensures.peer in
     let records = (answered c.fuse.new.self.peer c.args.tick c.args.input.now).records in
-    let read = cut_read g.D.Disk.face c.recover-in-Err-Cut.new.self batches records c.args.calls
+    let read = cut_read g.D.Disk.face c.recover-in-Err-Cut.new.self batches records c.args.fuse.calls
     c.in_ok-found-in-Err-Cut.found c.power_cut.new.self c.fuse.new.self.peer.own (same_own g cut)
     (some_added g cut) (lies_cut g cut batches at)
     c.in_ok-found-in-Err-Cut.ensures.recovers in
-    let kept = kept_by_count g.D.Disk.face c.recover-in-Err-Cut.new.self batches records c.args.calls
+    let kept = kept_by_count g.D.Disk.face c.recover-in-Err-Cut.new.self batches records c.args.fuse.calls
     c.in_ok-found-in-Err-Cut.found c.count-before.result read (c.count-before.ensures.all batches at)
     c.if-found-before.true in (
       kept.last ∙ ap (λ (r : Reaction). r.records) still,
@@ -185,11 +185,11 @@ returns-then-found-before-clause-end g c =
     let stands = c.requires.can.stands (tells g c.args.host.now.journal.disk) in
     let batches = stands.0 in
     let records = (answered c.fuse.new.self.peer c.args.tick c.args.input.now).records in
-    let read = cut_read g.D.Disk.face c.recover-in-Err-Cut.new.self batches records c.args.calls
+    let read = cut_read g.D.Disk.face c.recover-in-Err-Cut.new.self batches records c.args.fuse.calls
     c.in_ok-found-in-Err-Cut.found c.power_cut.new.self c.fuse.new.self.peer.own (same_own g cut)
     (some_added g cut) (lies_cut g cut batches stands.1)
     c.in_ok-found-in-Err-Cut.ensures.recovers in
-    let kept = kept_by_count g.D.Disk.face c.recover-in-Err-Cut.new.self batches records c.args.calls
+    let kept = kept_by_count g.D.Disk.face c.recover-in-Err-Cut.new.self batches records c.args.fuse.calls
     c.in_ok-found-in-Err-Cut.found c.count-before.result read (c.count-before.ensures.all batches stands.1)
     c.if-found-before.true in
     let told = c.step-done.ensures.read (enough g cut) in
@@ -204,11 +204,11 @@ pub returns-else-found-before-clause-cuts : goal.returns-else-found-before-claus
 returns-else-found-before-clause-cuts g c = λ batches at.
     let cut = (goal.at.returns-else-found-before-clause-cuts g c).In-Err-Cut in
     let records = (answered c.fuse.new.self.peer c.args.tick c.args.input.now).records in
-    let read = cut_read g.D.Disk.face c.recover-in-Err-Cut.new.self batches records c.args.calls
+    let read = cut_read g.D.Disk.face c.recover-in-Err-Cut.new.self batches records c.args.fuse.calls
     c.in_ok-found-in-Err-Cut.found c.power_cut.new.self c.fuse.new.self.peer.own (same_own g cut)
     (some_added g cut) (lies_cut g cut batches at)
     c.in_ok-found-in-Err-Cut.ensures.recovers in
-    let lost = lost_by_count g.D.Disk.face c.recover-in-Err-Cut.new.self batches records c.args.calls
+    let lost = lost_by_count g.D.Disk.face c.recover-in-Err-Cut.new.self batches records c.args.fuse.calls
     c.in_ok-found-in-Err-Cut.found c.count-before.result read (c.count-before.ensures.all batches at)
     (omega (arith, c.if-found-before.false)) in (
       short_fuse g cut,
@@ -225,11 +225,11 @@ returns-else-found-before-clause-end g c =
     let batches = stands.0 in
     let stood = c.fuse.ensures.stands batches stands.1 in
     let records = (answered c.fuse.new.self.peer c.args.tick c.args.input.now).records in
-    let read = cut_read g.D.Disk.face c.recover-in-Err-Cut.new.self batches records c.args.calls
+    let read = cut_read g.D.Disk.face c.recover-in-Err-Cut.new.self batches records c.args.fuse.calls
     c.in_ok-found-in-Err-Cut.found c.power_cut.new.self c.fuse.new.self.peer.own (same_own g cut)
     (some_added g cut) (lies_cut g cut batches stands.1)
     c.in_ok-found-in-Err-Cut.ensures.recovers in
-    let lost = lost_by_count g.D.Disk.face c.recover-in-Err-Cut.new.self batches records c.args.calls
+    let lost = lost_by_count g.D.Disk.face c.recover-in-Err-Cut.new.self batches records c.args.fuse.calls
     c.in_ok-found-in-Err-Cut.found c.count-before.result read (c.count-before.ensures.all batches stands.1)
     (omega (arith, c.if-found-before.false)) in
     omega (arith, lost.stands.disk.end, stood.disk.end, c.fuse.ensures.end)

@@ -1,12 +1,12 @@
 use Rattle.std.proofs.Common.{◌≡◌, ◌≤◌, ℕ, List, length, take, drop, true, refl, rules, ap, ◌∙◌}
 use Rattle.std.specs.Prelude.{nat_le, min}
 use Rattle.std.proofs.lemmas.List.{length-take}
-use Rattle.lks_node.specs.Framing.{sized, Whole}
+use Rattle.lks_node.specs.Framing.{sized_frame, Whole}
 use Rattle.lks_node.proofs.frames.read_body.Goals as goal
 
 -- a body that is all there
 whole_is : (most size : ℕ) (rest body : List ℕ) → size ≤ most → size ≤ length body → body ≡ take size rest
-    → sized most size rest ≡ Whole body (drop size rest)
+    → sized_frame most size rest ≡ Whole body (drop size rest)
 whole_is most size rest body fits whole is =
     let there : length body ≡ min size (length rest) = ap length is ∙ length-take size rest in
     let one : nat_le size most ≡ true = search rules in

@@ -1,7 +1,7 @@
 use Rattle.std.proofs.Common.{◌≡◌, ℕ, Some, refl, rules, subst, sym}
 use Rattle.std.specs.Prelude.{map, string_bytes}
 use Rattle.lks_node.specs.Words.{asked_in}
-use Rattle.lks_node.specs.declared.ends.End.TheVariants.{Unopened}
+use Rattle.lks_node.specs.declared.ends.NodeEnd.TheVariants.{Unopened}
 use Rattle.lks_node.proofs.Completing.{completes_over, same_id}
 use Rattle.lks_node.specs.Complete.{Completes}
 use Rattle.lks_node.specs.Promise.{ComesOver, Told}

@@ -19,7 +19,7 @@ use Rattle.lks_world.proofs.Watched.{crash_quiet}
 use Rattle.lks_world.specs.Cuts.{taker_of, Cuts}
 use Rattle.lks_world.specs.Endings.{HasEnded}
 use Rattle.lks_world.specs.Hosts.{peers_of, IsAbsent}
-use Rattle.lks_world.specs.Kept.{kept}
+use Rattle.lks_world.specs.Kept.{with_event}
 use Rattle.lks_world.specs.Sites.{hosts_of, SitesPower, StandsAt}
 use Rattle.lks_world.specs.States.{events_in, IsStateOf}
 use Rattle.lks_world.specs.declared.faults.WorldFault.{WorldFault}
@@ -177,7 +177,7 @@ returns-in_ok-add_crash-clause-cuts g c =
     let b = c.in_ok-add_crash.ensures.becomes plan end.0.state honest in (
       b.state,
       cuts_whole f plan s p c.args.power.calls is m (events_in c.add_crash.new.state) (room_left f s room) there end
-          (subst (λ (n : ℕ). events_in c.add_crash.new.state ≡ kept (events_in m) (events.Crash n)) id b.events),
+          (subst (λ (n : ℕ). events_in c.add_crash.new.state ≡ with_event (events_in m) (events.Crash n)) id b.events),
     )
 
 pub returns-in_ok-add_crash-clause-extends : goal.returns-in_ok-add_crash-clause-extends
@@ -284,7 +284,7 @@ returns-in_err-add_crash-clause-stops g c = λ first asks.
     let end = ended g at.After-add_crash in
     let same = ap events_of c.in_err-add_crash.ensures.err in
     let cuts = Cuts plan (events_in s) c.args.power.calls p in
-    let after = kept (events_in m) (events.Crash (taker_of s.bag.items p)) in
+    let after = with_event (events_in m) (events.Crash (taker_of s.bag.items p)) in
     let is = cuts_whole f plan s p c.args.power.calls c.requires.state.0 m after (room_left f s c.requires.state.1)
     (somebody g at.After-cut_there) end refl in
     err_then c.from_residual-in_err-add_crash.result
@@ -367,7 +367,7 @@ returns-in_ok-add_crash-clause-power g c =
     let b = c.in_ok-add_crash.ensures.becomes plan end.0.state honest in
     of_taker f plan s c.args.s (events_in t) t.sites.items (Ok (tt {0})) c.requires.state.0
     (sites_done f plan (events_in s) (events_in m) (events_in t) c.args.s id s.sites.items t.sites.items
-    end.0.events (b.events ∙ ap (λ (n : ℕ). kept (events_in m) (events.Crash n)) (taker_is g at.After-taker-id))
+    end.0.events (b.events ∙ ap (λ (n : ℕ). with_event (events_in m) (events.Crash n)) (taker_is g at.After-taker-id))
     (room_left f s c.requires.state.1)
     (subst (λ (ss : List (Site g.row.D.Denot)). PowersEnd f id s.sites.items ss true)
     (sym c.in_ok-add_crash.ensures.sites) (was_done g at.After-add_crash)))

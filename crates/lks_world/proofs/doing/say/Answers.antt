@@ -5,7 +5,7 @@ use Rattle.lks_saying.specs.Sayings.{said_by}
 use Rattle.lks_watch.specs.Watching.{Watches}
 use Rattle.lks_world.proofs.OwnSteps.{says}
 use Rattle.lks_world.proofs.Watched.{spoken_quiet}
-use Rattle.lks_world.specs.Follows.{spoken}
+use Rattle.lks_world.specs.Follows.{with_saying}
 use Rattle.lks_world.specs.States.{events_in}
 use Rattle.lks_world.proofs.PowerLaws.{quiet_spoken}
 use Rattle.lks_world.specs.Powers.{IsQuiet}
@@ -22,7 +22,8 @@ returns-clause-performs g c =
     let history = events_in c.args.state.now in
     ok_then c.speak.result
     (λ b.
-    let said = subst (λ said. events_in c.speak.new.state ≡ spoken history said) c.in_ok-said.ensures.said b.events in (
+    let said = subst
+    (λ said. events_in c.speak.new.state ≡ with_saying history said) c.in_ok-said.ensures.said b.events in (
       λ verdict. says verdict c.args.plan.now history (events_in c.speak.new.state) c.args.step.now
           c.requires.saying said,
       λ x. subst (λ h. Watches c.args.plan.now history h x x) (sym said)

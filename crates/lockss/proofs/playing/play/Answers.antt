@@ -18,17 +18,17 @@ go_on-requires-clause-can g c = λ κs lives.
     let e = senses g.D.Disk.face (ears g.J.EffortJudge.heard g.J.EffortJudge.verdict g.B.Bell.rung g.B.Bell.limit)
     g.K.Sink.taken g.K.Sink.faults in
     let before = devices c.args.disks.now.items c.args.sink.now c.args.judge.now c.args.bells.now.items in
-    let mid = devices c.hand_back.new.disks.items c.play_in-course.new.sink c.hand_back.new.judge
+    let mid = devices c.hand_back.new.disks.items c.play_in-progress.new.sink c.hand_back.new.judge
     c.hand_back.new.bells.items in
     let starts = c.in-Ok-start.ensures.starts in
-    can_read_as e c.args.command c.args.script before mid c.in-Ok-start.world c.play_in-course.new.world
+    can_read_as e c.args.command c.args.script before mid c.in-Ok-start.world c.play_in-progress.new.world
     c.as_slice.result.now starts.asked
-    c.requires.good c.requires.given starts.is _ _ starts.begins c.as_slice.ensures c.play_in-course.ensures.plan
+    c.requires.good c.requires.given starts.is _ _ starts.begins c.as_slice.ensures c.play_in-progress.ensures.plan
     (c.hand_back.ensures.disks ∙ c.into_parts.ensures.disks)
     (c.hand_back.ensures.judge ∙ ap Some c.into_parts.ensures.watched.0)
     (c.hand_back.ensures.bells ∙ c.into_parts.ensures.watched.1)
-    starts.made starts.calm c.into_parts.ensures.happened c.into_parts.ensures.holds c.play_in-course.result
-    c.play_in-course.ensures.comes
+    starts.made starts.calm c.into_parts.ensures.happened c.into_parts.ensures.holds c.play_in-progress.result
+    c.play_in-progress.ensures.comes
     (subst (AreUnfused g.D.Disk.face) (sym c.hand_back.ensures.disks) c.into_parts.ensures.unfused)
 
 pub returns-clause-plays : goal.returns-clause-plays
@@ -36,18 +36,18 @@ returns-clause-plays g c =
     let e = senses g.D.Disk.face (ears g.J.EffortJudge.heard g.J.EffortJudge.verdict g.B.Bell.rung g.B.Bell.limit)
     g.K.Sink.taken g.K.Sink.faults in
     let before = devices c.args.disks.now.items c.args.sink.now c.args.judge.now c.args.bells.now.items in
-    let mid = devices c.hand_back.new.disks.items c.play_in-course.new.sink c.hand_back.new.judge
+    let mid = devices c.hand_back.new.disks.items c.play_in-progress.new.sink c.hand_back.new.judge
     c.hand_back.new.bells.items in
     let after = devices c.go_on.new.disks.items c.go_on.new.sink c.hand_back.new.judge c.hand_back.new.bells.items in
     let starts = c.in-Ok-start.ensures.starts in
-    played_as e c.args.command c.args.script before mid c.in-Ok-start.world c.play_in-course.new.world
+    played_as e c.args.command c.args.script before mid c.in-Ok-start.world c.play_in-progress.new.world
     c.as_slice.result.now starts.asked
-    c.requires.good c.requires.given starts.is _ _ starts.begins c.as_slice.ensures c.play_in-course.ensures.plan
+    c.requires.good c.requires.given starts.is _ _ starts.begins c.as_slice.ensures c.play_in-progress.ensures.plan
     (c.hand_back.ensures.disks ∙ c.into_parts.ensures.disks)
     (c.hand_back.ensures.judge ∙ ap Some c.into_parts.ensures.watched.0)
     (c.hand_back.ensures.bells ∙ c.into_parts.ensures.watched.1)
     starts.made starts.calm c.into_parts.ensures.happened c.into_parts.ensures.holds after refl refl c.requires.said
-    c.play_in-course.result c.play_in-course.ensures.comes c.go_on.result c.go_on.ensures.goes
+    c.play_in-progress.result c.play_in-progress.ensures.comes c.go_on.result c.go_on.ensures.goes
 
 pub returns-in_default-clause-plays : goal.returns-in_default-clause-plays
 returns-in_default-clause-plays g c =

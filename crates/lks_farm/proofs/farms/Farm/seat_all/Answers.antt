@@ -1,7 +1,7 @@
 use Rattle.std.proofs.Common.{◌≡◌, ℕ, ◌+◌, ◌-◌, List, [], sym, ap, ◌∙◌, subst, rules, arith}
 use Rattle.lks_farm.specs.declared.rule.View.{View}
 use Rattle.lks_farm.specs.Seats.{AreFresh, FarmName, SeatSeen, all_parts, badges_of}
-use Rattle.lks_farm.specs.Sharing.{known}
+use Rattle.lks_farm.specs.Sharing.{view_knowing}
 use Rattle.lks_farm.proofs.Seating.{fresh_all, parts_more, seat_more}
 use Rattle.lks_farm.proofs.farms.Farm.seat_all.Goals as goal
 
@@ -34,11 +34,11 @@ loop-number-preserved c =
       jobs_of = c.split-mine.ensures.same.0 ∙ i.jobs_of;
       results_of = c.split-theirs.ensures.same.0 ∙ i.results_of;
       jobs =
-          c.split-mine.ensures.left ∙ ap (λ (v : View). known (v.parts - 1) v.pool v.put v.got) i.jobs
-          ∙ ap (λ (m : ℕ). known m farm.pool [] []) less;
+          c.split-mine.ensures.left ∙ ap (λ (v : View). view_knowing (v.parts - 1) v.pool v.put v.got) i.jobs
+          ∙ ap (λ (m : ℕ). view_knowing m farm.pool [] []) less;
       results =
-          c.split-theirs.ensures.left ∙ ap (λ (v : View). known (v.parts - 1) v.pool v.put v.got) i.results
-          ∙ ap (λ (m : ℕ). known m farm.pool [] []) less;
+          c.split-theirs.ensures.left ∙ ap (λ (v : View). view_knowing (v.parts - 1) v.pool v.put v.got) i.results
+          ∙ ap (λ (m : ℕ). view_knowing m farm.pool [] []) less;
       many = omega (arith, c.push_reserved.ensures.len, i.many);
       room = omega (arith, c.push_reserved.ensures.capacity, i.room);
       fresh =

@@ -1,5 +1,5 @@
 use Rattle.std.proofs.Common.{◌≡◌, ◌≤◌, ◌+◌, ◌++◌, map, length, vec_capacity}
-use Rattle.lks_farm.specs.Sharing.{known}
+use Rattle.lks_farm.specs.Sharing.{view_knowing}
 use Rattle.lks_farm.proofs.queues.Queue.drain.Given as goal
 
 -- what was taken out so far is what the pass got since, and as many are left as are to be taken out
@@ -8,7 +8,7 @@ invariant-loop g l =
     record {
       of : l.hand.table ≡ l.self.table;
       got : l.hand.knows
-          ≡ known 128 l.fn.hand.knows.pool l.fn.hand.knows.put
+          ≡ view_knowing 128 l.fn.hand.knows.pool l.fn.hand.knows.put
           (l.fn.hand.knows.got ++ map g.T.Entries.entry l.out.items);
       left : length l.fn.hand.knows.put + l.counter ≡ length l.hand.knows.got + l.count;
       many : length l.out.items ≡ l.counter;

@@ -6,5 +6,5 @@ abbrev pub invariant-loop : goal.invariant-loop
 invariant-loop g l = record {
   running : l.world.stopped ≡ None;
   pool : l.world.pool ≡ l.fn.world.pool;
-  of : AreDoneOf l.world.pool l.course.held.items;
+  of : AreDoneOf l.world.pool l.driven.held.items;
 }

@@ -4,7 +4,7 @@ use Rattle.lks_world.proofs.GivingLaws.{all_out, turn_of}
 use Rattle.lks_world.specs.Handing.{IsNext}
 use Rattle.lks_world.specs.States.{events_in}
 use Rattle.lks_world.specs.Worlds.{Seen}
-use Rattle.lks_world.specs.declared.giving.Next.TheVariants as next
+use Rattle.lks_world.specs.declared.giving.NextDue.TheVariants as next
 use Rattle.lks_world.proofs.worlds.World.take_other.Goals as goal
 
 pub returns-in-Ok-clause-takes : goal.returns-in-Ok-clause-takes
