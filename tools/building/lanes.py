@@ -1,4 +1,4 @@
-"""Libraries proved and built side by side."""
+"""Crates proved side by side, and libraries built."""
 
 from __future__ import annotations
 
@@ -14,9 +14,9 @@ from typing import NamedTuple, TextIO
 
 from building.rooms import CRATES, held, room, started, stop
 
-# So many jobs a crate has at most, as rt itself gives it. The one on which the longest chain stands waits for no processor, and has
-# so many at least.
-MOST_JOBS, FIRST_JOBS = 4, 3
+# So many jobs a crate has at most, as rt itself gives it. The one on which the longest chain stands waits for no processor, and
+# always has so many.
+MOST_JOBS = 4
 # The memory, in kB, that one more job may need.
 EACH_KB = 3_000_000
 
@@ -40,7 +40,7 @@ def lanes() -> int:
 
 
 class Lanes:
-    """Libraries that are proved and built, each once those below it are, and where that is told."""
+    """Crates that are proved, each once those below it are, and where that is told. Libraries are built too."""
 
     def __init__(self, needs: dict[str, list[str]], out: TextIO = sys.stdout) -> None:
         self.needs, self.long, self.most = needs, chains(needs), lanes()
@@ -50,9 +50,10 @@ class Lanes:
         self.over, self.out = threading.Event(), out
 
     def prove(self, task: Task) -> str | None:
-        """Proves and builds a library. It gives what rt said where that didn't go well."""
+        """Proves a crate, and builds it if it is a library. It gives what rt said where that didn't go well."""
+        word = "check" if (CRATES / task.crate / "src/main.rt").is_file() else "lib"
         with held(task.crate), room(task.crate) as folder:
-            with started("rt", "lib", "--jobs", str(task.jobs), folder=folder) as process:
+            with started("rt", word, "--jobs", str(task.jobs), folder=folder) as process:
                 self.processes.add(process)
                 if self.over.is_set():
                     stop(process)
@@ -70,9 +71,9 @@ class Lanes:
         for at, crate in enumerate(ready):
             tasks = self.running.values()
             idle = self.most - sum(it.jobs for it in tasks)
-            is_first = self.most >= FIRST_JOBS and all(self.long[crate] > self.long[it.crate] for it in tasks)
+            is_first = self.most >= MOST_JOBS and all(self.long[crate] > self.long[it.crate] for it in tasks)
             if idle > 0 or is_first:
-                jobs = max(FIRST_JOBS if is_first else 1, min(MOST_JOBS, idle // (len(ready) - at)))
+                jobs = MOST_JOBS if is_first else max(1, min(MOST_JOBS, idle // (len(ready) - at)))
                 self.left.remove(crate)
                 self.running[pool.submit(self.prove, Task(crate, jobs))] = Task(crate, jobs)
 

@@ -21,7 +21,7 @@ from net import judging
 from net.chaos import Chaos
 from net.doctor import Doctor
 from net.liars import Liars
-from net.peers import LEAST_BETWEEN, Peer, adopt, share_heap, ticks
+from net.peers import LEAST_BETWEEN, Peer, adopt, give_back, share_heap, ticks
 from net.scenes import own_plan
 from net.telling import Line, Tail, Teller
 from net.watching import Watch
@@ -31,8 +31,9 @@ from peer.log import Log
 
 # So many seconds lie between two looks. So old a line has to be before it is told: by then all earlier ones are there.
 EVERY, BEHIND = 2, timedelta(seconds=1)
-# After so many looks it is swept: what ended links leave refers to itself, and else waits until it is a quarter of all.
-SWEEP = 30
+# After so many looks it is swept: what ended links leave refers to itself, and else waits until it is a quarter of all. Ten
+# seconds of it are little beside what a network holds.
+SWEEP = 5
 # So many seconds it rests before it looks whether it is over, and so many that it may sleep longer than it wanted.
 REST, MOST_LAG = 0.2, 2.0
 
@@ -163,6 +164,7 @@ class Net:
                 self._sample()
             if self.watch.count % SWEEP == 0:
                 gc.collect()
+                give_back()
 
     def _take(self, until: str) -> None:
         """Tells the lines from before a time."""

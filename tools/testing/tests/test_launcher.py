@@ -20,7 +20,7 @@ KIT = """#!/bin/sh
 [ "$1" != version ] || { echo kit 1; exit; }
 [ "$1" != "$BROKEN" ] || { echo the proof fails; exit 1; }
 echo logic=proved
-[ "$1" = run ] || { [ "${PWD##*/}" != lockss ] && mkdir -p out && exit; }
+[ "$1" = run ] || { mkdir -p out; exit; }
 cp ../../made out/lockss && touch out/lockss.stamp && exec out/lockss
 """
 # It says beside which built crates and parts of its own a library is proved, and proves it, one after another.
@@ -131,7 +131,7 @@ class Launcher(unittest.TestCase):
 
     def test_builds(self) -> None:
         self.program.unlink()
-        for at in ("lib", "run"):
+        for at in ("lib", "check", "run"):
             self.assertEqual(self.run_it("replay", BROKEN=at), (70, "", f"{FIRST}the proof fails\n"), at)
         self.assertEqual(self.run_it("replay"), (0, "in\nwords replay\n", FIRST))
         self.assertEqual(self.run_it("replay"), (0, "in\nwords replay\n", ""))
@@ -148,6 +148,7 @@ class Launcher(unittest.TestCase):
         self.put("path/rt", BUILDER)
         build = lambda *words, **more: self.run_it(*words, "high", link="bin/build-below", **more)
         self.assertEqual(build("--list"), (0, "low\nmiddle\nother\n", ""))
+        self.assertEqual(build("--list", "--itself"), (0, "low\nmiddle\nother\nhigh\n", ""))
         for again in ("", "out "):
             self.assertEqual(sorted(build()[1].splitlines()), ["low is proved", "middle is proved", "other is proved"])
             told = [(self.top / "crates" / name / "out/said").read_text().splitlines()[-1] for name in ("low", "middle", "other")]
