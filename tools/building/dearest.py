@@ -5,18 +5,15 @@ from __future__ import annotations
 import os
 import pathlib
 import re
-from collections.abc import Iterator
-from typing import NamedTuple
+from collections.abc import Iterable
+from typing import NamedTuple, TextIO
 
-from building.rooms import room, started
+from building.lanes import Lanes, Task
+from building.rooms import room
 
 TICKS = os.sysconf("SC_CLK_TCK")
 
 Seconds = NamedTuple("Seconds", [("function", str), ("seconds", float)])
-
-
-class NotProved(Exception):
-    """What rt said of a crate that isn't proved."""
 
 
 def seconds_in(session: int) -> float:
@@ -32,16 +29,24 @@ def seconds_in(session: int) -> float:
     return ticks / TICKS
 
 
-def seconds_of(crate: str) -> Iterator[Seconds]:
-    """Those of each function of a crate and of its tests, as it is proved."""
-    with room(crate, "nothing") as folder, started("rt", "check", "--test", "--jobs", "1", folder=folder) as process:
-        assert process.stdout is not None
-        said, before = list[str](), 0.0
-        for line in process.stdout:
-            said.append(line)
-            if found := re.match(r"checked (\S+), \d+ of \d+", line):
-                now = seconds_in(process.pid)
-                yield Seconds(found[1], now - before)
-                before = now
-        if process.wait():
-            raise NotProved("".join(said).rstrip())
+class Timed(Lanes):
+    """Crates that are proved anew with their tests, over libraries that are built: each function after another, several crates at a
+    time. `found` are the seconds of their functions."""
+
+    def __init__(self, crates: Iterable[str], out: TextIO) -> None:
+        super().__init__({crate: [] for crate in crates}, out, each=1)
+        self.found: list[Seconds] = []
+
+    def prove(self, task: Task) -> str | None:
+        """Proves a crate. It gives what rt said where that didn't go well."""
+        words = "rt", "check", "--test", "--jobs", "1"
+        with room(task.crate, "nothing") as folder, self.begun(*words, folder=folder) as process:
+            assert process.stdout is not None
+            said, before = list[str](), 0.0
+            for line in process.stdout:
+                said.append(line)
+                if found := re.match(r"checked (\S+), \d+ of \d+", line):
+                    now = seconds_in(process.pid)
+                    self.found.append(Seconds(found[1], now - before))
+                    before = now
+            return "".join(said) if process.wait() else None

@@ -2,12 +2,14 @@
 
 from __future__ import annotations
 
+import contextlib
 import os
 import pathlib
 import re
 import shutil
 import sys
 import threading
+from collections.abc import Iterator
 from concurrent.futures import FIRST_COMPLETED, Future, ThreadPoolExecutor, wait
 from subprocess import Popen
 from typing import NamedTuple, TextIO
@@ -40,25 +42,32 @@ def lanes() -> int:
 
 
 class Lanes:
-    """Crates that are proved, each once those below it are, and where that is told. Libraries are built too."""
+    """Crates that are proved, each once those below it are, and where that is told. Libraries are built too. A crate has so many
+    jobs at most."""
 
-    def __init__(self, needs: dict[str, list[str]], out: TextIO = sys.stdout) -> None:
-        self.needs, self.long, self.most = needs, chains(needs), lanes()
+    def __init__(self, needs: dict[str, list[str]], out: TextIO = sys.stdout, each: int = MOST_JOBS) -> None:
+        self.needs, self.long, self.most, self.each = needs, chains(needs), lanes(), each
         self.left, self.done = sorted(needs, key=lambda it: -self.long[it]), set[str]()
         self.running: dict[Future[str | None], Task] = {}
         self.processes: set[Popen[str]] = set()
         self.over, self.out = threading.Event(), out
 
+    @contextlib.contextmanager
+    def begun(self, *words: str, folder: pathlib.Path) -> Iterator[Popen[str]]:
+        """A command that ends with these lanes."""
+        with started(*words, folder=folder) as process:
+            self.processes.add(process)
+            if self.over.is_set():
+                stop(process)
+            yield process
+            self.processes.remove(process)
+
     def prove(self, task: Task) -> str | None:
         """Proves a crate, and builds it if it is a library. It gives what rt said where that didn't go well."""
         word = "check" if (CRATES / task.crate / "src/main.rt").is_file() else "lib"
         with held(task.crate), room(task.crate) as folder:
-            with started("rt", word, "--jobs", str(task.jobs), folder=folder) as process:
-                self.processes.add(process)
-                if self.over.is_set():
-                    stop(process)
+            with self.begun("rt", word, "--jobs", str(task.jobs), folder=folder) as process:
                 said = process.communicate()[0]
-                self.processes.remove(process)
             if process.returncode:
                 return said
             shutil.rmtree(CRATES / task.crate / "out", ignore_errors=True)
@@ -73,7 +82,7 @@ class Lanes:
             idle = self.most - sum(it.jobs for it in tasks)
             is_first = self.most >= MOST_JOBS and all(self.long[crate] > self.long[it.crate] for it in tasks)
             if idle > 0 or is_first:
-                jobs = MOST_JOBS if is_first else max(1, min(MOST_JOBS, idle // (len(ready) - at)))
+                jobs = self.each if is_first else max(1, min(self.each, idle // (len(ready) - at)))
                 self.left.remove(crate)
                 self.running[pool.submit(self.prove, Task(crate, jobs))] = Task(crate, jobs)
 

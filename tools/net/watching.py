@@ -20,6 +20,8 @@ STARTING = 5
 SLOTS = 40
 SHOWN = {"nodes up": "up", "polls agreed": "agreed", "bad blocks": "bad blocks"}
 MEASURED = ("memory of nodes, MB", "memory of daemons, MB", "open files of daemons")
+# What this process holds, as it counts itself: its memory is also what it once held.
+HELD = "thousand blocks of memory that the network's own process holds"
 COUNTS = ("up", "polls", "agreed", "replaced", "alarms", "bad blocks", "frames")
 # What a sample has of each measure, in columns of these names: of all processes of a kind that run.
 EXTREMES = ("least", "median", "most")
@@ -71,6 +73,7 @@ class Watch:
             measures[f"memory of {kind}, MB"] = [memory for memory, _ in found.values()]
             measures[f"growth of {kind}, kB"] = self.grown(kind, {it: memory for it, (memory, _) in found.items()})
             measures[f"open files of {kind}"] = [opened for _, opened in found.values()]
+        measures[HELD] = [sys.getallocatedblocks() / 1000]
         if self.count == 0:
             self.measures = list(measures)
             self.rows.writerow(["second", *COUNTS, *(f"{name} {it}" for name in measures for it in EXTREMES)])

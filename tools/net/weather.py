@@ -48,10 +48,17 @@ class Weather:
             return []
         if self.seed is None:
             return [0.0]
-        draws = self.draws.setdefault((sender, receiver), random.Random(f"{self.seed} {sender} {receiver}"))
+        draws = self._draws(sender, receiver)
         kind, first, second = draws.random() * 100, draws.uniform(0, MOST_LATE), draws.uniform(0, MOST_LATE)
         if kind < LOST:
             return []
         if kind < LOST + TWICE:
             return [0.0, second]
         return [first] if kind < LOST + TWICE + LATE else [0.0]
+
+    def _draws(self, sender: int, receiver: int) -> random.Random:
+        """Those of a link."""
+        link = sender, receiver
+        if link not in self.draws:
+            self.draws[link] = random.Random(f"{self.seed} {sender} {receiver}")
+        return self.draws[link]

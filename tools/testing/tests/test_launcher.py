@@ -164,10 +164,11 @@ class Launcher(unittest.TestCase):
             self.put(f"crates/{name}/src/lib.rt", "")
         self.put("path/rt", BUILDER)
         rows = "| function | processor seconds |\n|---|---|\n| `high::one` | 0 |\n| `high::two` | 0 |\n"
-        self.assertEqual(self.run_it("high", "--keep", self.top / "all", link="bin/dearest"), (0, rows, "low is proved\n"))
+        ended = self.run_it("high", "--keep", self.top / "all", link="bin/dearest")
+        self.assertEqual(ended, (0, rows, "low is proved\nhigh is proved\n"))
         self.assertEqual((self.top / "all").read_text(), "high::one,0.0\nhigh::two,0.0\n")
         ended = self.run_it("high", link="bin/dearest", BROKEN="high")
-        self.assertEqual(ended, (1, "", "low is proved\ndearest: high: low src\nno proof\n"))
+        self.assertEqual(ended, (1, "", "low is proved\nhigh: low src\nno proof\n"))
 
     def test_no_kit(self) -> None:
         (self.top / "path/rt").unlink()
