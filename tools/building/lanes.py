@@ -59,8 +59,10 @@ class Lanes:
             self.processes.add(process)
             if self.over.is_set():
                 stop(process)
-            yield process
-            self.processes.remove(process)
+            try:
+                yield process
+            finally:
+                self.processes.remove(process)
 
     def prove(self, task: Task) -> str | None:
         """Proves a crate, and builds it if it is a library. It gives what rt said where that didn't go well."""
