@@ -16,10 +16,10 @@ from typing import NamedTuple, TextIO
 
 from building.rooms import CRATES, held, room, started, stop
 
-# So many jobs a crate has at most, as rt itself gives it. The one on which the longest chain stands waits for no processor, and
+# So many jobs a crate has at most, as rt itself gives it. The one on which the longest chain stands waits for no other, and
 # always has so many.
 MOST_JOBS = 4
-# The memory, in kB, that one more job may need.
+# The memory, in kB, that one more crate may need.
 EACH_KB = 3_000_000
 
 Task = NamedTuple("Task", [("crate", str), ("jobs", int)])
@@ -36,7 +36,7 @@ def chains(needs: dict[str, list[str]]) -> dict[str, int]:
 
 
 def lanes() -> int:
-    """How many jobs may run at a time."""
+    """How many crates may be proved at a time."""
     free = re.search(r"MemAvailable:\s+(\d+)", pathlib.Path("/proc/meminfo").read_text())
     return max(1, min(len(os.sched_getaffinity(0)), int(free[1]) // EACH_KB if free else 1))
 
@@ -77,11 +77,12 @@ class Lanes:
             return None
 
     def begin(self, pool: ThreadPoolExecutor) -> None:
-        """Begins what may be begun. A crate gets more than one job where no other waits for a processor."""
+        """Begins what may be begun. A crate gets more than one job where no other waits, or where the longest chain stands on it.
+        It counts as one whatever its jobs are, since most of the time but one of them has work."""
         ready = [it for it in self.left if self.done.issuperset(self.needs[it])]
         for at, crate in enumerate(ready):
             tasks = self.running.values()
-            idle = self.most - sum(it.jobs for it in tasks)
+            idle = self.most - len(tasks)
             is_first = self.most >= MOST_JOBS and all(self.long[crate] > self.long[it.crate] for it in tasks)
             if idle > 0 or is_first:
                 jobs = self.each if is_first else max(1, min(self.each, idle // (len(ready) - at)))
