@@ -2,11 +2,13 @@
 
 from __future__ import annotations
 
+import fcntl
 import os
 import pathlib
 import pty
 import shutil
 import subprocess
+import sys
 import tempfile
 import time
 import unittest
@@ -157,6 +159,21 @@ class Launcher(unittest.TestCase):
         self.assertEqual((status, out.splitlines()[-2:]), (1, ["middle: low out src", "no proof"]))
         self.assertEqual([it.name for it in self.top.iterdir() if it.name.startswith(".")], [])
         self.assertEqual(self.run_it("none", link="bin/build-below"), (1, "", "build-below: crates.txt has no crate none\n"))
+
+    def test_waits(self) -> None:
+        """What was built below a crate isn't copied while another proof may put something new in its place."""
+        self.put("crates.txt", "low:\nhigh: low\n")
+        for name in ("low", "high"):
+            self.put(f"crates/{name}/out/rlib/it", "")
+        code = "from building.rooms import room\nwith room('high') as it: print((it / '../low/out/rlib/it').exists())"
+        low = os.open(self.top / "crates/low", os.O_RDONLY)
+        self.addCleanup(os.close, low)
+        fcntl.flock(low, fcntl.LOCK_EX)
+        with subprocess.Popen([sys.executable, "-c", code], cwd=self.top / "tools", stdout=-1, text=True) as copier:
+            with self.assertRaises(subprocess.TimeoutExpired):
+                copier.wait(1)
+            fcntl.flock(low, fcntl.LOCK_UN)
+            self.assertEqual(copier.communicate()[0], "True\n")
 
     def test_dearest(self) -> None:
         self.put("crates.txt", "low:\nhigh: low\n")
