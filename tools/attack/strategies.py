@@ -20,9 +20,9 @@ from lks.script import Word
 Words = Sequence[Word]
 # No good block of a scene has this length.
 BAD = b"\xff" * 15
-# So many polls are remembered, the latest ones, twice as many as 32 peers have open at a time on 4 AUs; and so many votes for
-# a poller.
-MOST_POLLS, MOST_VOTES = 256, 1_000
+# For each honest peer so many polls on an AU are remembered, the latest ones of all peers: one is open at a time. And so many
+# votes for a poller.
+MOST_POLLS, MOST_VOTES = 2, 1_000
 # So many sessions a peer has open at a time (docs/PROTOCOL.md, "Voting in polls of others").
 SESSIONS = 16
 
@@ -117,7 +117,7 @@ class League(Nominations):
         for it in what.received:
             poll = PollName(it.sender, it.message.number)
             circle = self.circles.setdefault(poll, [])
-            if len(self.circles) > MOST_POLLS:
+            if len(self.circles) > MOST_POLLS * len(self.known.honest):
                 oldest = next(iter(self.circles))
                 del self.circles[oldest]
                 self.begun.discard(oldest)

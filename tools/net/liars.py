@@ -75,7 +75,7 @@ class Liars:
         name = PollName(sender, said.number)
         if isinstance(said, message.Poll):
             self.aus[name] = said.au
-            if len(self.aus) > MOST_POLLS:
+            if len(self.aus) > MOST_POLLS * len(self.plan.honest()) * len(self.plan.aus):
                 del self.aus[next(iter(self.aus))]
         au = self.aus.get(name, next(iter(self.strategies)))
         if au in self.strategies:

@@ -75,7 +75,7 @@ class Net:
             it.give(own_plan(self.plan, number), others, time.time(), wanted.tick)
         # what the links told, and lines that are too young to be told
         self.own, self.young, self.telling = deque[Line](), list[Line](), threading.Lock()
-        self.weather = Weather(seed)
+        self.weather = Weather(seed, self.plan.peers)
         self.liars = Liars(self.plan, wanted.strategy, seed or 0, wires, self._own)
         doors = {number: it.socket for number, it in self.peers.items()}
         self.wires = Wires(top / "wires", doors, self.weather, self.liars.hear, self._own)
@@ -183,7 +183,7 @@ class Net:
         counts = {"up": len(nodes)} | {name: told[name] for name in ("polls", "agreed", "replaced", "alarms")}
         counts |= {"bad blocks": len(self.teller.bad), "frames": self.wires.counts["out"]}
         kinds = {"nodes": nodes, "daemons": daemons, "the network's own process": [os.getpid()]}
-        self.watch.add(int(time.monotonic() - self.begun), counts, kinds)
+        self.watch.add(int(time.monotonic() - self.begun), counts, kinds, len(self.teller.messages))
         self.watch.progress()
 
     def lines(self) -> Iterator[str]:

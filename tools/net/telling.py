@@ -99,6 +99,10 @@ class Messages:
         self.waiting: dict[Key, list[int]] = {}
         self.came: dict[Key, int] = {}
 
+    def __len__(self) -> int:
+        """How many keys are known."""
+        return len(self.waiting) + len(self.came)
+
     def send(self, key: Key) -> None:
         """One more was sent."""
         self.waiting[key] = [it for it in self.waiting.pop(key, []) if it >= self.looks[0]] + [self.count]

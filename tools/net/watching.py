@@ -22,6 +22,8 @@ SHOWN = {"nodes up": "up", "polls agreed": "agreed", "bad blocks": "bad blocks"}
 MEASURED = ("memory of nodes, MB", "memory of daemons, MB", "open files of daemons")
 # What this process holds, as it counts itself: its memory is also what it once held.
 HELD = "thousand blocks of memory that the network's own process holds"
+# Of these the most are keys of messages, as many as came in a time.
+REMEMBERED = "messages that the network's own process remembers"
 COUNTS = ("up", "polls", "agreed", "replaced", "alarms", "bad blocks", "frames")
 # What a sample has of each measure, in columns of these names: of all processes of a kind that run.
 EXTREMES = ("least", "median", "most")
@@ -65,15 +67,15 @@ class Watch:
         # of each kind the memory that its processes had in their first samples
         self.first: dict[str, dict[int, list[float]]] = {}
 
-    def add(self, second: int, counts: Mapping[str, int], kinds: Mapping[str, Sequence[int]]) -> None:
-        """Measures the processes of each kind."""
+    def add(self, second: int, counts: Mapping[str, int], kinds: Mapping[str, Sequence[int]], remembered: int) -> None:
+        """Measures the processes of each kind, while so many messages are remembered."""
         measures: dict[str, list[float]] = {}
         for kind, processes in kinds.items():
             found = usage(processes)
             measures[f"memory of {kind}, MB"] = [memory for memory, _ in found.values()]
             measures[f"growth of {kind}, kB"] = self.grown(kind, {it: memory for it, (memory, _) in found.items()})
             measures[f"open files of {kind}"] = [opened for _, opened in found.values()]
-        measures[HELD] = [sys.getallocatedblocks() / 1000]
+        measures |= {HELD: [sys.getallocatedblocks() / 1000], REMEMBERED: [float(remembered)]}
         if self.count == 0:
             self.measures = list(measures)
             self.rows.writerow(["second", *COUNTS, *(f"{name} {it}" for name in measures for it in EXTREMES)])

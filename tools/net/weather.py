@@ -3,17 +3,23 @@
 from __future__ import annotations
 
 import random
+from collections.abc import Iterable
+from itertools import permutations
 
 # Of a hundred frames so many are lost, sent twice, or late, by up to so many seconds.
 LOST, TWICE, LATE, MOST_LATE = 3, 3, 10, 2.0
 
 
 class Weather:
-    """Without a seed all frames come through at once. The fate of the frame at a place of a link is always the same."""
+    """Without a seed all frames come through at once. The fate of the frame at a place of a link is always the same. The draws of
+    the links among such peers are made at the start, so that a network needs no more memory when a link is first used."""
 
-    def __init__(self, seed: int | None) -> None:
+    def __init__(self, seed: int | None, peers: Iterable[int] = ()) -> None:
         self.seed = seed
         self.draws: dict[tuple[int, int], random.Random] = {}
+        if seed is not None:
+            for link in permutations(peers, 2):
+                self._draws(*link)
         # pairs of peers that are cut off from one another, and how often; those of whom nobody notices it
         self.cuts: dict[frozenset[int], int] = {}
         self.silent: set[frozenset[int]] = set()

@@ -78,13 +78,13 @@ class Strategies(unittest.TestCase):
 
     def test_memory(self) -> None:
         league, credit = strategy("stealth"), strategy("credit")
-        with mock.patch.multiple(strategies, MOST_POLLS=3, MOST_VOTES=3):
+        with mock.patch.multiple(strategies, MOST_POLLS=1, MOST_VOTES=3):
             for number in range(9):
                 for of in (league, credit):
                     hear(of, message.Poll(number, course.AU))
                     hear(of, message.PollProof(number, NONCE, b"\1"))
-        self.assertEqual([it.number for it in league.circles], [6, 7, 8])
-        self.assertEqual((len(league.begun), len(credit.voters[1])), (3, 3))
+        self.assertEqual([it.number for it in league.circles], [2, 3, 4, 5, 6, 7, 8])
+        self.assertEqual((len(league.begun), len(credit.voters[1])), (7, 3))
         self.assertEqual(votes("nominations", 5), [GOOD] * 5)
 
     def test_nominees(self) -> None:

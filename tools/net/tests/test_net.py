@@ -270,11 +270,11 @@ class Telling(unittest.TestCase):
         with folder() as top, contextlib.closing((watch := Watch(top / "samples.csv")).file):
             for second in range(1, 302):
                 nodes = [os.getpid(), 2**22 + 1] if second % 2 else []
-                watch.add(second, dict.fromkeys(COUNTS, second), {"nodes": nodes, "daemons": [os.getpid()]})
+                watch.add(second, dict.fromkeys(COUNTS, second), {"nodes": nodes, "daemons": [os.getpid()]}, 3)
             watch.draw(top / "picture.svg", "a run")
             self.assertEqual((top / "picture.svg").read_text().count("open files of daemons"), 1)
             # no node was there in two samples, one after another
-            self.assertEqual((len(watch.growth()), len(list(watch.parts())), watch.last[:6]), (6, 38, "301 s:"))
+            self.assertEqual((len(watch.growth()), len(list(watch.parts())), watch.last[:6]), (7, 38, "301 s:"))
             samples = [{1: 5.0}] * 4 + [{1: 2.0, 2: 7.0}, {1: 2.5, 2: 7.5}, {2: 7.25}, {1: 9.0}]
             self.assertEqual([watch.grown("these", it) for it in samples], [[]] * 5 + [[500.0], [], []])
             self.assertEqual(extremes_of(list(watch.samples(10, 21)), "agreed"), (11, 16, 21))
