@@ -22,7 +22,7 @@ SHOWN = {"nodes up": "up", "polls agreed": "agreed", "bad blocks": "bad blocks"}
 MEASURED = ("memory of nodes, MB", "memory of daemons, MB", "open files of daemons")
 # What this process holds, as it counts itself: its memory is also what it once held.
 HELD = "thousand blocks of memory that the network's own process holds"
-# Of these the most are keys of messages, as many as came in a time.
+# With these what it holds goes up and down: the messages of the last looks, by which the report numbers what comes.
 REMEMBERED = "messages that the network's own process remembers"
 COUNTS = ("up", "polls", "agreed", "replaced", "alarms", "bad blocks", "frames")
 # What a sample has of each measure, in columns of these names: of all processes of a kind that run.
