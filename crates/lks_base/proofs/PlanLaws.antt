@@ -39,12 +39,6 @@ all_of rule test h before (x ∷ xs) e =
 abbrev pub is_small_au : AuPlan → Bool
 is_small_au au = nat_le au.count 512
 
-small_au : (before : List AuPlan) (au : AuPlan) → au_fault before au ≡ None → is_small_au au ≡ true
-unfolding au_fault
-small_au before au e =
-    let parts = and_parts (is_within 0 65535 au.id) (is_within 1 512 au.count) (stands _ _ (no_first _ _ e)) in
-    (and_parts (nat_le 1 au.count) (nat_le au.count 512) parts.1).1
-
 counted_small : (aus : List AuPlan) (au n : ℕ) → has_counted aus au n ≡ true → list_all is_small_au aus ≡ true
     → nat_le n 512 ≡ true
 unfolding has_counted
@@ -104,13 +98,6 @@ numbered_au before au e =
 -- the number of an AU has two bytes
 pub numbered_aus : (plan : Plan) → plan_fault plan ≡ None → list_all (λ a. is_within 0 65535 a.id) plan.aus ≡ true
 numbered_aus plan good = all_of au_fault (λ a. is_within 0 65535 a.id) numbered_au [] plan.aus (lists_stand plan good).0
-
--- no copy has more than 512 blocks
-pub small_copies : (plan : Plan) → plan_fault plan ≡ None → list_all is_small_peer plan.peers ≡ true
-small_copies plan good =
-    let small = all_of au_fault is_small_au small_au [] plan.aus (lists_stand plan good).0 in
-    all_of (peer_fault plan.aus plan.peers) is_small_peer (small_peer plan.aus plan.peers small) [] plan.peers
-    (lists_stand plan good).1
 
 -- no proof has more than 64 bytes, and corrupt peers have no lists and no copies
 pub fit_peers : (plan : Plan) → plan_fault plan ≡ None → list_all is_fit plan.peers ≡ true

@@ -7,7 +7,7 @@ use Rattle.lks_base.specs.declared.entries.Note.TheVariants.{Served, Ended, Tune
 use Rattle.lks_base.specs.declared.names.Outcome.{Outcome}
 
 -- a poll that was opened
-pub record Opening : Type 0 where
+pub record OpenedPoll : Type 0 where
   pub number : ℕ
   pub au : ℕ
 
@@ -23,7 +23,7 @@ pub record Ending : Type 0 where
 
 -- at most one of these; of a replaced block, and of what is overdue, the AU
 pub record Noted : Type 0 where
-  pub opened : Option Opening
+  pub opened : Option OpenedPoll
   pub voted : Option VoteCame
   pub replaced : Option ℕ
   pub closed : Option Ending

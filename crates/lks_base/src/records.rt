@@ -4,7 +4,7 @@ use crate::lists::{Blocks, Bytes, Hashes, Ids};
 use crate::names::{AuId, HashKind, Limits, Outcome, PeerId, PollName};
 
 /// One fact of a peer's past. A peer is its list of records.
-#[derive(Clone, Drop)]
+#[derive(Drop)]
 pub enum Record {
     /// The peer holds these blocks of an AU from the start.
     Deposit {

@@ -10,22 +10,22 @@ use Rattle.lks_law.specs.Polls.{votes, inner_votes}
 use Rattle.lks_tally.proofs.Voters.{few_voters}
 use Rattle.lks_tally.specs.declared.ballots.Vote.{Vote}
 use Rattle.lks_tally.specs.Distinct.{AreDistinct}
-use Rattle.lks_tally.specs.Keeping.{has_voted}
+use Rattle.lks_tally.specs.Keeping.{has_vote_of}
 use Rattle.lks_evidence.specs.Rules.{told_count}
 
 inner_member : (inner : List ℕ) (vs : List Vote) (p : ℕ)
-    → has_voted (filter (λ v. has_member inner v.voter) vs) p ≡ true → has_member inner p ≡ true
+    → has_vote_of (filter (λ v. has_member inner v.voter) vs) p ≡ true → has_member inner p ≡ true
 inner_member inner [] p e = absurd cc
 inner_member inner (v ∷ vs) p e = by_member (has_member inner v.voter) refl e (inner_member inner vs p)
   where
     by_member : (b : Bool) → has_member inner v.voter ≡ b
-        → has_voted
+        → has_vote_of
         (cond b (v ∷ filter (λ v. has_member inner v.voter) vs) (filter (λ v. has_member inner v.voter) vs)) p
         ≡ true
-        → (has_voted (filter (λ v. has_member inner v.voter) vs) p ≡ true → has_member inner p ≡ true)
+        → (has_vote_of (filter (λ v. has_member inner v.voter) vs) p ≡ true → has_member inner p ≡ true)
         → has_member inner p ≡ true
     by_member true is e rest =
-        elim (or_cases (v.voter == p) (has_voted (filter (λ v. has_member inner v.voter) vs) p) e) [
+        elim (or_cases (v.voter == p) (has_vote_of (filter (λ v. has_member inner v.voter) vs) p) e) [
           | inl same ↦ subst (λ k. has_member inner k ≡ true) (eqb-true v.voter p same) is
           | inr found ↦ rest found
         ]

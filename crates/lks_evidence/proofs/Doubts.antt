@@ -10,7 +10,7 @@ use Rattle.std.proofs.lemmas.List.Folds.{list_any_at}
 use Rattle.std.proofs.lemmas.List.Kept.{AllPairs-cons}
 use Rattle.lks_tally.specs.declared.ballots.Vote.{Vote}
 use Rattle.lks_tally.specs.Distinct.{AreDistinct}
-use Rattle.lks_tally.specs.Keeping.{has_voted}
+use Rattle.lks_tally.specs.Keeping.{has_vote_of}
 use Rattle.lks_evidence.specs.declared.findings.Doubt.{Doubt}
 use Rattle.lks_evidence.specs.declared.findings.Why.{Why}
 use Rattle.lks_evidence.specs.Rules.{◌▹◌, unless, first_twice, first_failing}
@@ -82,24 +82,24 @@ none_failing passes (v ∷ vs) all =
     ∙ none_failing passes vs (All-tail (λ v. passes v ≡ true) v vs all)
 
 -- who has no vote among these is the voter of none
-unvoted : (vs : List Vote) (voter : ℕ) → has_voted vs voter ≡ false → All (λ w. voter ≢ w.voter) vs
+unvoted : (vs : List Vote) (voter : ℕ) → has_vote_of vs voter ≡ false → All (λ w. voter ≢ w.voter) vs
 unvoted vs voter new = λ k d within same.
     false≢true (sym new ∙ list_any_at (λ w. w.voter == voter) vs k d within (eq-eqb _ voter (sym same)))
 
-voted_not : (vs : List Vote) (voter : ℕ) → All (λ w. voter ≢ w.voter) vs → has_voted vs voter ≡ false
+voted_not : (vs : List Vote) (voter : ℕ) → All (λ w. voter ≢ w.voter) vs → has_vote_of vs voter ≡ false
 voted_not [] voter all = refl
 voted_not (w ∷ vs) voter all =
     by_test (eqb w.voter voter) refl (voted_not vs voter (All-tail (λ w. voter ≢ w.voter) w vs all))
   where
-    by_test : (t : Bool) → eqb w.voter voter ≡ t → has_voted vs voter ≡ false → has_voted (w ∷ vs) voter ≡ false
+    by_test : (t : Bool) → eqb w.voter voter ≡ t → has_vote_of vs voter ≡ false → has_vote_of (w ∷ vs) voter ≡ false
     by_test true is rest = absurd (All-head (λ w. voter ≢ w.voter) w vs all (sym (eqb-true w.voter voter is)))
-    by_test false is rest = (λ i. is i || has_voted vs voter) ∙ rest
+    by_test false is rest = (λ i. is i || has_vote_of vs voter) ∙ rest
 
 pub twice_none : (vs : List Vote) → first_twice vs ≡ None → AreDistinct vs
 twice_none [] e = λ i j d before within. absurd (omega arith)
-twice_none (v ∷ vs) e = by_test (has_voted vs v.voter) refl e (twice_none vs)
+twice_none (v ∷ vs) e = by_test (has_vote_of vs v.voter) refl e (twice_none vs)
   where
-    by_test : (t : Bool) → has_voted vs v.voter ≡ t → cond t (Some v.voter) (first_twice vs) ≡ None
+    by_test : (t : Bool) → has_vote_of vs v.voter ≡ t → cond t (Some v.voter) (first_twice vs) ≡ None
         → (first_twice vs ≡ None → AreDistinct vs) → AreDistinct (v ∷ vs)
     by_test true is e rest = absurd cc
     by_test false is e rest = AllPairs-cons (λ v w. v.voter ≢ w.voter) v vs (unvoted vs v.voter is) (rest e)

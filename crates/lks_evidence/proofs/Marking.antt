@@ -6,7 +6,7 @@ use Rattle.std.specs.List.{All, list_any, filter_map, cons_option}
 use Rattle.std.proofs.lemmas.Bool.{eqb-true, ltb-true}
 use Rattle.std.proofs.lemmas.List.{take-append-drop, take-append-le, length-append}
 use Rattle.std.proofs.Math.Seq.{take-append_seam}
-use Rattle.std.proofs.lemmas.List.Elements.{All-nil, All-head, All-tail, All-push, All-weaker}
+use Rattle.std.proofs.lemmas.List.Elements.{All-head, All-tail, All-push, All-weaker}
 use Rattle.std.proofs.lemmas.List.Sums.{sum_by-cons}
 use Rattle.lks_base.specs.Checking.{has_member}
 use Rattle.lks_base.specs.declared.plans.Plan.{Plan}
@@ -162,9 +162,6 @@ more a b (Some n) less small = omega (arith, less, small)
 
 upto_more : (a b : ℕ) → a ≤ b → (r : Record) → IsUpTo a r → IsUpTo b r
 upto_more a b less r upto = (more a b _ less upto.0, more a b _ less upto.1, more a b _ less upto.2)
-
-pub mark_start : IsMark [] (record { place = 0; high = 0; seen = 0 })
-mark_start = record { within = omega arith; marked = All-nil _; seen = All-nil _ }
 
 pub mark_on : (before : List Record) (m : ReadMark) (item : Record) → IsMark before m
     → IsMark (before ++ item ∷ []) (mark_after (length before) m item)

@@ -18,7 +18,7 @@ use Rattle.lks_law.specs.Snapshots.{Journals}
 use Rattle.lks_tally.specs.declared.ballots.Ballot.{Ballot}
 use Rattle.lks_tally.specs.declared.ballots.Vote.{Vote}
 use Rattle.lks_tally.specs.Counting.{key_for, for_at, against_at}
-use Rattle.lks_tally.specs.Keeping.{has_voted}
+use Rattle.lks_tally.specs.Keeping.{has_vote_of}
 use Rattle.lks_evidence.specs.declared.findings.Shelf.{Shelf}
 use Rattle.lks_evidence.specs.declared.findings.Why.{Why}
 use Rattle.lks_evidence.specs.declared.findings.Why.TheVariants as why
@@ -78,7 +78,7 @@ is_polled limits before r o =
 -- the first voter, in order of votes, who has two
 abbrev pub first_twice : List Vote → Option ℕ
 first_twice [] = None
-first_twice (v ∷ vs) = if has_voted vs v.voter then Some v.voter else first_twice vs
+first_twice (v ∷ vs) = if has_vote_of vs v.voter then Some v.voter else first_twice vs
 
 -- the first voter whose vote fails a test
 abbrev pub first_failing : (Vote → Bool) → List Vote → Option ℕ

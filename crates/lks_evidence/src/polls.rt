@@ -10,7 +10,7 @@ use crate::findings::Why;
 use crate::records::{Repair, count_openings, is_shut};
 use lks_base::{Limits, PeerId, PollName, Record, Rules, obeys_quorum_rule};
 use lks_law::Opening;
-use lks_tally::{Ballot, Vote, has_voted};
+use lks_tally::{Ballot, Vote, has_vote_of};
 
 /// A number of votes as a doubt tells it.
 #[tactic(auto, unfolding(crate::specs::Rules::told_count))]
@@ -25,7 +25,7 @@ fn first_twice(votes: &[Vote]) -> Option<PeerId>
     ensures { result ≡ first_twice votes.now }
 {
     for (i, vote) in votes.iter().enumerate() {
-        if has_voted(&votes[i + 1..], vote.voter) {
+        if has_vote_of(&votes[i + 1..], vote.voter) {
             return Some(vote.voter);
         }
     }

@@ -1,6 +1,6 @@
 -- One pass is made of those of all seats.
 use Rattle.std.proofs.Common.{◌≡◌, ℕ, ◌+◌, ◌<◌, ◌≤◌, Bool, true, false, ◌==◌, ◌&&◌, cond, List, [], ◌∷◌, ◌++◌, length}
-use Rattle.std.proofs.Common.{sym, refl, ap, ◌∙◌, subst, append_assoc, append-nil, arith}
+use Rattle.std.proofs.Common.{sym, refl, ap, ◌∙◌, subst, append_assoc, arith}
 use Rattle.std.specs.Prelude.{All, remove, slice_index_or}
 use Rattle.std.proofs.lemmas.List.Elements.{All-head, All-tail}
 use Rattle.std.proofs.lemmas.Bool.{eqb-true}
@@ -11,7 +11,7 @@ use Rattle.lks_farm.specs.Ends.{times}
 use Rattle.lks_farm.specs.Seats.{AreCounted, AreSeatsOf, Badge, FarmName, HandSeen, SeatSeen, all_collected}
 use Rattle.lks_farm.specs.Seats.{all_handed, all_offered, all_parts, all_taken, badges_of, jobs_view, results_view}
 use Rattle.lks_farm.specs.Seats.{seats_with, taken_of}
-use Rattle.lks_farm.specs.Sharing.{joined_views, view_knowing}
+use Rattle.lks_farm.specs.Sharing.{joined_views}
 
 counted_more : (a b : Bool) (n k more : ℕ) → (k == n) ≡ b → more ≤ cond a 1 0 → (n < k + 1 → more ≡ 0)
     → (cond (a && b) 1 0 + more ≤ cond a 1 0) × (n < k → cond (a && b) 1 0 + more ≡ 0)
@@ -140,27 +140,3 @@ gather_more farm jobs jobs' results results' more done s rest before all g step 
             times-append n jobs.knows.put s.offered,
           );
     }
-
--- nothing is left to be joined
-pub gather_end : (farm : FarmName) (jobs results : HandSeen) (rest all : List SeatSeen)
-    → Gathering farm jobs results rest all → rest ≡ []
-    → (jobs.knows ≡ view_knowing 128 farm.pool (all_offered all) (all_taken all))
-    × (results.knows ≡ view_knowing 128 farm.pool (all_handed all) (all_collected all))
-gather_end farm jobs results rest all g none =
-    let h : Gathering farm jobs results [] all = subst (λ (l : List SeatSeen). Gathering farm jobs results l all)
-    none g in
-    let parts : jobs.knows.parts ≡ 128 = omega (arith, h.parts) in (
-      (λ i. view_knowing (parts i) (h.jobs_pool i) ((sym (append-nil jobs.knows.put) ∙ h.offered) i)
-          ((sym (append-nil jobs.knows.got) ∙ h.taken) i)),
-      (λ i. view_knowing ((h.same_parts ∙ parts) i) (h.results_pool i)
-          ((sym (append-nil results.knows.put) ∙ h.handed) i)
-          ((sym (append-nil results.knows.got) ∙ h.collected) i)),
-    )
-
-pub gather_once : (farm : FarmName) (jobs results : HandSeen) (rest all : List SeatSeen)
-    → Gathering farm jobs results rest all → rest ≡ [] → AreSeatsOf farm all → (n : JobNumber)
-    → times n (all_offered all) ≤ 1
-gather_once farm jobs results rest all g none are n =
-    let h : Gathering farm jobs results [] all = subst (λ (l : List SeatSeen). Gathering farm jobs results l all)
-    none g in
-    omega (arith, h.once n, are.numbers n.seat, ap (times n) h.offered, ap (times n) (append-nil jobs.knows.put))

@@ -7,7 +7,7 @@ use Rattle.std.proofs.lemmas.List.{append-nil, map-append}
 use Rattle.std.proofs.lemmas.List.Elements.{All-head, All-tail}
 use Rattle.lks_farm.specs.Batches.{asked_done}
 use Rattle.lks_farm.specs.Entries.{asked_of}
-use Rattle.lks_farm.specs.Piles.{IsPile, IsPlaceOf}
+use Rattle.lks_farm.specs.Piles.{IsPlaceOf}
 use Rattle.lks_farm.specs.declared.entries.Asked.{Asked}
 use Rattle.lks_work.specs.declared.jobs.Job.{Job}
 use Rattle.lks_work.specs.declared.results.JobDone.{JobDone}
@@ -27,25 +27,6 @@ asked_behind : (less : List Job) (a : Asked) (taken : List Asked)
     → slice_get (map asked_of less ++ a ∷ taken) (length less) ≡ Some a
 asked_behind [] a taken = refl
 asked_behind (j ∷ less) a taken = asked_behind less a taken
-
-left_last : (less : List Job) (j : Job) (taken : List Asked)
-    → map asked_of (less ++ j ∷ []) ++ taken ≡ map asked_of less ++ asked_of j ∷ taken
-left_last less j taken =
-    ap (λ (asks : List Asked). asks ++ taken) (map-append asked_of less (j ∷ []))
-    ∙ append_assoc (map asked_of less) (asked_of j ∷ []) taken
-
--- the last job that is left is taken
-pub taken_last : (asked : List Asked) (jobs less : List Job) (done : List (Option JobDone)) (j : Job)
-    → jobs ≡ less ++ j ∷ [] → IsPile asked jobs done
-    → IsPile asked less done × (slice_get asked (length less) ≡ Some (asked_of j))
-taken_last asked jobs less done j is p =
-    let so : map asked_of less ++ asked_of j ∷ p.taken
-    ≡ asked = sym (left_last less j p.taken) ∙ ap (λ (js : List Job). map asked_of js ++ p.taken) (sym is)
-    ∙ p.left in (
-      record { taken = asked_of j ∷ p.taken; left = so; places = p.places },
-      subst (λ (asks : List Asked). slice_get asks (length less) ≡ Some (asked_of j)) so
-          (asked_behind less (asked_of j) p.taken),
-    )
 
 -- a result comes to its place
 pub placed : (done : List (Option JobDone)) (asked : List Asked) (place : ℕ) (d : JobDone)

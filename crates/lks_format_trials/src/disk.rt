@@ -1,5 +1,6 @@
 //! Calls that fail, fuses, and what is left at a power cut.
 
+use crate::same::same;
 use lks_disk::{CrashDisk, Disk, DiskFail, MemDisk};
 use std::process::Abort;
 use std::test::Fail;
@@ -31,7 +32,7 @@ fn write(rt: &impl Abort, disk: &mut MemDisk, at: u64, piece: &[u8]) -> Result<u
 fn read(rt: &impl Abort, disk: &mut MemDisk, at: u64, after: [u8; 4]) -> Result<u64, DiskFail> {
     let mut buf = [0; 4];
     let answer = disk.read_at(at, &mut buf);
-    assert_eq!(rt; buf, after);
+    same(rt, &buf, &after, &"buf");
     answer.map(|n| n as u64)
 }
 
@@ -46,7 +47,7 @@ fn fuse(disk: &mut MemDisk, calls: u32, choice: u64) -> Result<u64, DiskFail> {
 
 fn power_cut(rt: &impl Abort, disk: &mut MemDisk, left: &[u8]) -> Result<u64, DiskFail> {
     disk.power_cut();
-    assert_eq!(rt; disk.bytes(), left);
+    same(rt, &disk.bytes(), &left, &"disk.bytes");
     Ok(0)
 }
 
@@ -63,7 +64,7 @@ fn answer(rt: &impl Abort, disk: &mut MemDisk, call: Call) -> Result<u64, DiskFa
 
 fn play(rt: &impl Abort, disk: &mut MemDisk, steps: &[Step]) {
     for (at, (call, wanted)) in steps.iter().enumerate() {
-        assert_eq!(rt; answer(rt, disk, *call), *wanted, "step {at}");
+        same(rt, &answer(rt, disk, *call), wanted, &at);
     }
 }
 

@@ -1,5 +1,6 @@
 //! Fields written and read again, and reads that are refused.
 
+use crate::same::same;
 use lks_field::{
     FieldFault, Fields, put_be16, put_be32, put_bytes, put_hashes, put_numbers, put_sized, put_u8,
 };
@@ -54,7 +55,7 @@ const READS: [(Read, Result<u32, FieldFault>); 11] = [
 fn reads(rt: HostRuntime) {
     let mut fields = Fields::new(BYTES);
     for (at, (read, wanted)) in READS.iter().enumerate() {
-        assert_eq!(rt; answer(&mut fields, *read), *wanted, "{at}");
+        same(&rt, &answer(&mut fields, *read), wanted, &at);
     }
 }
 
@@ -69,9 +70,14 @@ const FIRST_READS: [(&[u8], Read, Result<u32, FieldFault>); 5] = [
 #[test]
 fn first_reads(rt: HostRuntime) {
     for (at, (bytes, read, wanted)) in FIRST_READS.iter().enumerate() {
-        assert_eq!(rt; answer(&mut Fields::new(bytes), *read), *wanted, "{at}");
+        same(&rt, &answer(&mut Fields::new(bytes), *read), wanted, &at);
     }
-    assert_eq!(rt; Fields::new(&[5; 32]).get_hash(), Ok([5; 32]));
+    same(
+        &rt,
+        &Fields::new(&[5; 32]).get_hash(),
+        &Ok([5; 32]),
+        &"Fields::new(&[5; 32]).get_hash()",
+    );
 }
 
 fn written(alloc: Global) -> Result<Vec<u8>, lks_field::OutOfMemory> {
@@ -86,7 +92,7 @@ fn written(alloc: Global) -> Result<Vec<u8>, lks_field::OutOfMemory> {
 #[test]
 fn writes(rt: HostRuntime) -> Result<(), Fail> {
     let out = written(rt.alloc()).ok().ok_or("memory")?;
-    assert_eq!(rt; out.as_slice(), BYTES);
+    same(&rt, &out.as_slice(), &BYTES, &"out");
     Ok(())
 }
 
@@ -105,23 +111,33 @@ fn lists(rt: HostRuntime) -> Result<(), Fail> {
     assert!(rt; out.as_slice().ends_with(&[5, 0, 2, 65, 66]));
     let mut fields = Fields::new(out.as_slice());
     let numbers = fields.get_numbers(rt.alloc(), 2).ok().ok_or("numbers")?;
-    assert_eq!(rt; numbers.as_slice(), [3, 772].as_slice());
+    same(&rt, &numbers.as_slice(), &[3, 772].as_slice(), &"numbers");
     let hashes = fields.get_hashes(rt.alloc(), 1).ok().ok_or("hashes")?;
-    assert_eq!(rt; hashes.as_slice(), [[5; 32]].as_slice());
+    same(
+        &rt,
+        &hashes.as_slice(),
+        &[[5; 32]].as_slice(),
+        &"hashes.as_slice()",
+    );
     let bytes = fields.get_sized(rt.alloc(), 2).ok().ok_or("bytes")?;
-    assert_eq!(rt; bytes.as_slice(), [65, 66].as_slice());
-    assert_eq!(rt; fields.finish(), Ok(()));
+    same(&rt, &bytes.as_slice(), &[65, 66].as_slice(), &"bytes");
+    same(&rt, &fields.finish(), &Ok(()), &"fields.finish");
     Ok(())
 }
 
 #[test]
 fn lists_refused(rt: HostRuntime) {
     let sized = Fields::new(&[0, 3, 1, 2]).get_sized(rt.alloc(), 2);
-    assert_eq!(rt; sized.err(), Some(FieldFault::Value));
+    same(&rt, &sized.err(), &Some(FieldFault::Value), &"sized.err");
     let sized = Fields::new(&[0, 3, 1, 2]).get_sized(rt.alloc(), 3);
-    assert_eq!(rt; sized.err(), Some(FieldFault::Short));
+    same(&rt, &sized.err(), &Some(FieldFault::Short), &"sized.err");
     let hashes = Fields::new(&[0, 1, 7]).get_hashes(rt.alloc(), 1);
-    assert_eq!(rt; hashes.err(), Some(FieldFault::Short));
+    same(&rt, &hashes.err(), &Some(FieldFault::Short), &"hashes.err");
     let numbers = Fields::new(&[3, 0, 1]).get_numbers(rt.alloc(), 2);
-    assert_eq!(rt; numbers.err(), Some(FieldFault::Value));
+    same(
+        &rt,
+        &numbers.err(),
+        &Some(FieldFault::Value),
+        &"numbers.err",
+    );
 }

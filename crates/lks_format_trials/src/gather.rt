@@ -5,6 +5,7 @@ ghost use Rattle.lks_evidence.specs.Sizes.{IsSmall};
 ghost use Rattle.lks_field.specs.Frames.{AreBodies};
 
 use crate::pieces::{AU, LISTS, PEERS, PRINTED_PEERS, RULES, TITLE, joined};
+use crate::same::same;
 use lks_base::{Bytes, Record, Seq};
 use lks_evidence::{Finding, Shelf, examine};
 use lks_gather::{Filed, Gathered, print_set, read_set};
@@ -14,6 +15,17 @@ use std::test::*;
 
 /// Nine lines.
 const HEAD: &[&str] = &[TITLE, RULES, AU, PEERS, LISTS];
+
+/// What is printed of these and a journal.
+const PRINTED: &[&str] = &[
+    TITLE,
+    RULES,
+    "turns 4096\n",
+    AU,
+    PRINTED_PEERS,
+    LISTS,
+    DEPOSITED,
+];
 
 /// Three lines of a plan that lacks its peers.
 const EARLY: &[&str] = &[TITLE, RULES, AU];
@@ -90,9 +102,9 @@ fn first_bad(alloc: Global, bytes: &[u8]) -> Result<u32, Fail> {
 #[test]
 fn first_bad_lines(rt: HostRuntime) -> Result<(), Fail> {
     let alloc = rt.alloc();
-    for (head, rest, line) in ROWS {
+    for (head, rest, line) in ROWS.iter() {
         let bytes = text_of(alloc, head, rest)?;
-        assert_eq!(rt; first_bad(alloc, &bytes)?, line, "{rest}");
+        same(&rt, &first_bad(alloc, &bytes)?, line, rest);
     }
     Ok(())
 }
@@ -142,31 +154,29 @@ fn filed(alloc: Global) -> Result<Filed, AllocError>
     })
 }
 
+/// What is printed of the journal of peer 1 behind the plan that these bytes say.
+fn printed(alloc: Global, bytes: &[u8]) -> Result<Vec<u8>, Fail> {
+    let read = gathered(alloc, bytes)?;
+    if !is_of_first(&read.set) {
+        return Err("the journal of peer 1".into());
+    }
+    let journals = vec![in alloc; filed(alloc)?]?;
+    Ok(print_set(alloc, &read.plan, &journals)?)
+}
+
 /// A plan and a journal are read, and printed with a line for the turns and whole seeds, which is read and printed
 /// again.
 #[test]
 fn journals_printed(rt: HostRuntime) -> Result<(), Fail> {
     let alloc = rt.alloc();
-    let read = gathered(alloc, &text_of(alloc, HEAD, DEPOSITED)?)?;
-    assert!(rt; is_of_first(&read.set));
-    let journals = vec![in alloc; filed(alloc)?]?;
-    let printed = print_set(alloc, &read.plan, &journals)?;
-    let whole = joined(
-        alloc,
-        &[
-            TITLE,
-            RULES,
-            "turns 4096\n",
-            AU,
-            PRINTED_PEERS,
-            LISTS,
-            DEPOSITED,
-        ],
-    )?;
-    assert_eq!(rt; printed, whole);
-    let again = gathered(alloc, &printed)?;
-    assert!(rt; is_of_first(&again.set));
-    assert_eq!(rt; print_set(alloc, &again.plan, &journals)?, whole);
+    let whole = joined(alloc, PRINTED)?;
+    same(
+        &rt,
+        &printed(alloc, &text_of(alloc, HEAD, DEPOSITED)?)?,
+        &whole,
+        &"printed",
+    );
+    same(&rt, &printed(alloc, &whole)?, &whole, &"printed");
     Ok(())
 }
 
@@ -178,7 +188,7 @@ fn journals_without_a_poll(rt: HostRuntime) -> Result<(), Fail> {
         let bytes = text_of(alloc, HEAD, rest)?;
         let read = gathered(alloc, &bytes)?;
         let finding = examine(alloc, &read.plan, &read.set)?;
-        assert_eq!(rt; finding, Finding::Yes { replaced: 0 });
+        same(&rt, &finding, &Finding::Yes { replaced: 0 }, &"finding");
     }
     Ok(())
 }

@@ -1,5 +1,6 @@
 //! Bytes of journals, and what is left where an append is cut off or fails.
 
+use crate::same::same;
 use lks_base::Bytes;
 use lks_disk::{Disk, MemDisk};
 use lks_journal::{Journal, JournalFault};
@@ -23,14 +24,14 @@ fn writes_a_file(rt: HostRuntime) -> Result<(), Fail> {
     let alloc = rt.alloc();
     let created = Journal::create(alloc, MemDisk::new(alloc, Vec::new(alloc)));
     let mut journal = created.map_err(|e| e.1)?;
-    assert_eq!(rt; journal.room(), 2_147_483_646);
-    assert_eq!(rt; journal.append(BODY), Ok(()));
-    assert_eq!(rt; journal.room(), 2_147_483_633);
+    same(&rt, &journal.room(), &2_147_483_646, &"journal.room");
+    same(&rt, &journal.append(BODY), &Ok(()), &"journal.append");
+    same(&rt, &journal.room(), &2_147_483_633, &"journal.room");
     let disk = journal.into_disk();
-    assert_eq!(rt; disk.bytes(), FILE);
+    same(&rt, &disk.bytes(), &FILE, &"disk.bytes");
     let bodies = reopened(alloc, disk)?;
     assert_eq!(rt; bodies.len(), 1);
-    assert_eq!(rt; bodies[0].as_slice(), BODY);
+    same(&rt, &bodies[0].as_slice(), &BODY, &"bodies[0]");
     Ok(())
 }
 
@@ -63,7 +64,7 @@ const FILES: [(&[u8], Result<usize, JournalFault>); 11] = [
 #[test]
 fn reads_bytes(rt: HostRuntime) {
     for (at, (bytes, wanted)) in FILES.iter().enumerate() {
-        assert_eq!(rt; count_in(rt.alloc(), bytes), *wanted, "{at}");
+        same(&rt, &count_in(rt.alloc(), bytes), wanted, &at);
     }
 }
 
@@ -91,7 +92,7 @@ fn survives_cuts(rt: HostRuntime) {
     for (choice, kept) in CUTS.iter() {
         for (calls, kept) in kept.iter().enumerate() {
             let answer = cut_off(rt.alloc(), calls as u32, *choice);
-            assert_eq!(rt; answer, Ok((calls == 4, *kept)), "{calls} {choice}");
+            same(&rt, &answer, &Ok((calls == 4, *kept)), &(calls, choice));
         }
     }
 }
@@ -128,7 +129,7 @@ const FAULTS: [(u32, Result<usize, JournalFault>); 6] = [
 fn survives_faults(rt: HostRuntime) {
     for (call, left) in FAULTS.iter() {
         let wanted = left.map(|bodies| (Err(JournalFault::Failed), bodies));
-        assert_eq!(rt; left_after(rt.alloc(), *call), wanted, "{call}");
+        same(&rt, &left_after(rt.alloc(), *call), &wanted, &call);
     }
 }
 
@@ -148,10 +149,10 @@ fn reopens_again(rt: HostRuntime) -> Result<(), Fail> {
     let alloc = rt.alloc();
     for (fail, fail_reads) in REOPENINGS.iter() {
         let (answer, disk) = appended(alloc, fail, fail_reads)?;
-        assert_eq!(rt; answer, Ok(()));
+        same(&rt, &answer, &Ok(()), &"answer");
         let (disk, fault) = refusal(alloc, disk).ok_or("a refusal")?;
-        assert_eq!(rt; fault, JournalFault::Failed);
-        assert_eq!(rt; reopened(alloc, disk)?.len(), 1);
+        same(&rt, &fault, &JournalFault::Failed, &"fault");
+        same(&rt, &reopened(alloc, disk)?.len(), &1, &"reopened");
     }
     Ok(())
 }

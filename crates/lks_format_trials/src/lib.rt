@@ -1,6 +1,6 @@
 //! Trials of the crates that turn bytes to values and values to bytes, a module for each: streams, judges and bells
-//! (`lks_outside`), fields, messages and records (`lks_field`, `lks_message`, `lks_record`), disks and journals
-//! (`lks_disk`, `lks_journal`), words and commands (`lks_words`), scripts read (`lks_script`) and printed
+//! (`lks_outside`), fields, messages and records (`lks_field`, `lks_message`, `lks_record`), disks, stores and journals
+//! (`lks_disk`, `lks_store`, `lks_journal`), words and commands (`lks_words`), scripts read (`lks_script`) and printed
 //! (`lks_print`), journals as text (`lks_gather`), and reports (`lks_report`).
 #![tactic(auto)]
 
@@ -25,8 +25,12 @@ mod record;
 #[cfg(test)]
 mod report;
 #[cfg(test)]
+mod same;
+#[cfg(test)]
 mod script;
 #[cfg(test)]
 mod spelled;
+#[cfg(test)]
+mod store;
 #[cfg(test)]
 mod words;

@@ -1,5 +1,6 @@
 //! Messages as bytes, and bytes that are none.
 
+use crate::same::same;
 use crate::spelled;
 use crate::spelled::{add_bytes, add_peers};
 use lks_base::Message;
@@ -40,7 +41,7 @@ fn faults(rt: HostRuntime) -> Result<(), Fail> {
     for line in FAULTS.lines() {
         let (name, column) = line.split_once(':').ok_or("a row")?;
         let bytes = spelled::bytes(rt.alloc(), column)?;
-        assert_eq!(rt; fault(rt.alloc(), &bytes)?.as_str(), name, "{line}");
+        same(&rt, &fault(rt.alloc(), &bytes)?.as_str(), &name, &line);
     }
     Ok(())
 }
@@ -159,8 +160,8 @@ fn messages(rt: HostRuntime) -> Result<(), Fail> {
     for line in MESSAGES.lines() {
         let (bytes, wanted) = spelled::row(rt.alloc(), line)?;
         let (again, told) = read(rt.alloc(), &bytes)?;
-        assert_eq!(rt; again, bytes, "{line}");
-        assert_eq!(rt; told, wanted, "{line}");
+        same(&rt, &again, &bytes, &line);
+        same(&rt, &told, &wanted, &line);
     }
     Ok(())
 }

@@ -1,6 +1,7 @@
 //! Scripts read and printed, and read again.
 
 use crate::pieces::{AU, LISTS, PEERS, PRINTED_PEERS, RULES, TITLE, joined, script_in};
+use crate::same::same;
 use lks_print::print_script;
 use std::alloc::Global;
 use std::process::Abort;
@@ -238,9 +239,9 @@ fn check_printed(
 ) -> Result<(), Fail> {
     let text = joined(alloc, text)?;
     let found = printed(alloc, &joined(alloc, script)?)?;
-    assert_eq!(rt; found.as_slice(), text.as_slice(), "row {at}");
+    same(rt, &found.as_slice(), &text.as_slice(), &at);
     let again = printed(alloc, &found)?;
-    assert_eq!(rt; again.as_slice(), text.as_slice(), "row {at} again");
+    same(rt, &again.as_slice(), &text.as_slice(), &at);
     Ok(())
 }
 

@@ -1,5 +1,6 @@
 //! Batches of records as bytes, and bytes that are none.
 
+use crate::same::same;
 use crate::spelled;
 use crate::spelled::{add_bytes, add_peers};
 use lks_base::{Outcome, Record};
@@ -59,7 +60,7 @@ fn faults(rt: HostRuntime) -> Result<(), Fail> {
     for line in FAULTS.lines() {
         let (name, column) = line.split_once(':').ok_or("a row")?;
         let bytes = spelled::bytes(rt.alloc(), column)?;
-        assert_eq!(rt; fault(rt.alloc(), &bytes)?.as_str(), name, "{line}");
+        same(&rt, &fault(rt.alloc(), &bytes)?.as_str(), &name, &line);
     }
     Ok(())
 }
@@ -454,8 +455,8 @@ fn records(rt: HostRuntime) -> Result<(), Fail> {
     for line in RECORDS.lines() {
         let (bytes, wanted) = spelled::row(rt.alloc(), line)?;
         let (again, told) = read(rt.alloc(), &bytes)?;
-        assert_eq!(rt; again, bytes, "{line}");
-        assert_eq!(rt; told, wanted, "{line}");
+        same(&rt, &again, &bytes, &line);
+        same(&rt, &told, &wanted, &line);
     }
     Ok(())
 }
@@ -465,11 +466,21 @@ const TWO: &[u8] = &[0, 2, 1, 6, 0, 0, 0, 1, 1, 16, 0, 6, 0, 0, 0, 7];
 #[test]
 fn two_records(rt: HostRuntime) -> Result<(), Fail> {
     let list = decode_batch(rt.alloc(), TWO).ok().ok_or("a batch")?;
-    assert_eq!(rt; list.len(), 2);
-    assert_eq!(rt; numbers(&list[0]), Some([6, 1, 0, 0, 0, 0, 0, 0]));
-    assert_eq!(rt; numbers(&list[1]), Some([16, 6, 7, 0, 0, 0, 0, 0]));
+    same(&rt, &list.len(), &2, &"list.len");
+    same(
+        &rt,
+        &numbers(&list[0]),
+        &Some([6, 1, 0, 0, 0, 0, 0, 0]),
+        &"numbers",
+    );
+    same(
+        &rt,
+        &numbers(&list[1]),
+        &Some([16, 6, 7, 0, 0, 0, 0, 0]),
+        &"numbers",
+    );
     let again = encode_batch(rt.alloc(), &list).ok().ok_or("memory")?;
-    assert_eq!(rt; again.as_slice(), TWO);
+    same(&rt, &again.as_slice(), &TWO, &"again");
     Ok(())
 }
 
@@ -477,6 +488,11 @@ fn two_records(rt: HostRuntime) -> Result<(), Fail> {
 fn a_made_record(rt: HostRuntime) -> Result<(), Fail> {
     let made = encode_batch(rt.alloc(), &[Record::Shut { number: 1 }]);
     let made = made.ok().ok_or("memory")?;
-    assert_eq!(rt; made.as_slice(), [0, 1, 1, 6, 0, 0, 0, 1].as_slice());
+    same(
+        &rt,
+        &made.as_slice(),
+        &[0, 1, 1, 6, 0, 0, 0, 1].as_slice(),
+        &"made",
+    );
     Ok(())
 }

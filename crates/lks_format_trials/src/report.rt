@@ -2,6 +2,7 @@
 
 use crate::pieces::{RULES, TITLE, joined, script_in};
 use crate::report::What::{Crash, Cut, Forge, Lose, Step, Tick};
+use crate::same::same;
 use lks_base::Judged::{Accepted, NotAsked, Refused};
 use lks_base::{Bytes, Entry, Event, Note, Outcome, PeerStep, PollName, Seq};
 use lks_outside::{MemSink, WriteStop};
@@ -666,9 +667,9 @@ fn report_of(alloc: Global, lines: &str, rows: &[Row]) -> Result<MemSink, Fail> 
 #[test]
 fn whole_reports(rt: HostRuntime) -> Result<(), Fail> {
     let agreed = report_of(rt.alloc(), AGREED_PLAN, &AGREED_ROWS)?;
-    assert_eq!(rt; agreed.bytes(), AGREED.as_bytes());
+    same(&rt, &agreed.bytes(), &AGREED.as_bytes(), &"agreed.bytes");
     let each = report_of(rt.alloc(), EACH_PLAN, &EACH_ROWS)?;
-    assert_eq!(rt; each.bytes(), EACH_WORD.as_bytes());
+    same(&rt, &each.bytes(), &EACH_WORD.as_bytes(), &"each.bytes");
     Ok(())
 }
 
@@ -687,8 +688,8 @@ fn a_failing_sink(rt: HostRuntime) -> Result<(), Fail> {
     for (call, taken) in [(1, 0), (2, 10), (3, 20)] {
         let mut sink = MemSink::narrow(alloc, vec![in alloc; call]?, 10);
         let answer = report(alloc, &script.plan, &history, &mut sink);
-        assert_eq!(rt; answer, Err(WriteStop::Failed));
-        assert_eq!(rt; sink.bytes().len(), taken);
+        same(&rt, &answer, &Err(WriteStop::Failed), &"answer");
+        same(&rt, &sink.bytes().len(), &taken, &"sink.bytes.len");
         assert!(rt; AGREED.as_bytes().starts_with(sink.bytes()));
     }
     Ok(())
@@ -708,7 +709,7 @@ fn line_of(alloc: Global, seed: u64, rows: &[Row]) -> Result<MemSink, Fail> {
 fn the_line_of_a_drill(rt: HostRuntime) -> Result<(), Fail> {
     for (seed, rows, line) in &DRILLS {
         let sink = line_of(rt.alloc(), *seed, rows)?;
-        assert_eq!(rt; sink.bytes(), line.as_bytes());
+        same(&rt, &sink.bytes(), &line.as_bytes(), &"sink.bytes");
     }
     Ok(())
 }

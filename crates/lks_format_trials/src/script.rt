@@ -1,7 +1,8 @@
 //! The first bad lines of scripts, their limits, and a step line by itself.
 
 use crate::pieces::{AU, LISTS, PEERS, RULES, TITLE, script_in};
-use lks_base::PeerStep;
+use crate::same::same;
+use lks_base::{PeerStep, Plan};
 use lks_script::{ScriptFault, Step, read_script, read_step};
 use lks_words::{large, put_number, split};
 use std::alloc::Global;
@@ -77,7 +78,7 @@ fn check_table(rt: &impl Abort, alloc: Global, head: &[u8], table: &str) -> Resu
         let mut bytes = Vec::new(alloc);
         expand(&mut bytes, head)?;
         expand(&mut bytes, text)?;
-        assert_eq!(rt; first_bad(alloc, &bytes)?, line, "row {at}");
+        same(rt, &first_bad(alloc, &bytes)?, &line, &at);
     }
     Ok(())
 }
@@ -423,7 +424,7 @@ fn at_most_so_many_bytes_of_copies(rt: HostRuntime) -> Result<(), Fail> {
     add_times(&mut bytes, 511, ",5a*16384")?;
     expand(&mut bytes, b";")?;
     add_lines(alloc, &mut bytes, 2, 18, ("copy ", " 1 like 1;"))?;
-    assert_eq!(rt; first_bad(alloc, &bytes)?, 37);
+    same(&rt, &first_bad(alloc, &bytes)?, &37, &"first_bad");
     Ok(())
 }
 
@@ -439,8 +440,18 @@ fn forged(alloc: Global, zeros: u32) -> Result<Vec<u8>, Fail> {
 #[test]
 fn at_most_so_many_forged_bytes(rt: HostRuntime) -> Result<(), Fail> {
     let alloc = rt.alloc();
-    assert_eq!(rt; first_bad(alloc, &forged(alloc, 79_996)?)?, 0);
-    assert_eq!(rt; first_bad(alloc, &forged(alloc, 79_998)?)?, 8);
+    same(
+        &rt,
+        &first_bad(alloc, &forged(alloc, 79_996)?)?,
+        &0,
+        &"first_bad",
+    );
+    same(
+        &rt,
+        &first_bad(alloc, &forged(alloc, 79_998)?)?,
+        &8,
+        &"first_bad",
+    );
     Ok(())
 }
 
@@ -455,8 +466,18 @@ fn crowd(alloc: Global, end: u64) -> Result<Vec<u8>, Fail> {
 #[test]
 fn at_most_so_many_peers(rt: HostRuntime) -> Result<(), Fail> {
     let alloc = rt.alloc();
-    assert_eq!(rt; first_bad(alloc, &crowd(alloc, 33)?)?, 0);
-    assert_eq!(rt; first_bad(alloc, &crowd(alloc, 34)?)?, 36);
+    same(
+        &rt,
+        &first_bad(alloc, &crowd(alloc, 33)?)?,
+        &0,
+        &"first_bad",
+    );
+    same(
+        &rt,
+        &first_bad(alloc, &crowd(alloc, 34)?)?,
+        &36,
+        &"first_bad",
+    );
     Ok(())
 }
 
@@ -474,18 +495,23 @@ const NO_STEPS: [&str; 7] = [
     "# open 1 1",
 ];
 
-#[test]
-fn a_step_line_by_itself(rt: HostRuntime) -> Result<(), Fail> {
-    let alloc = rt.alloc();
+fn plan_alone(alloc: Global) -> Result<Plan, Fail> {
     let mut bytes = Vec::new(alloc);
     expand(&mut bytes, PLAN)?;
     let script = read_script(alloc, &bytes)
         .ok()
         .ok_or("the plan is a script")?;
-    let step = read_step(alloc, &script.plan, b"open 1 1")?.ok_or("a step line")?;
+    Ok(script.plan)
+}
+
+#[test]
+fn a_step_line_by_itself(rt: HostRuntime) -> Result<(), Fail> {
+    let alloc = rt.alloc();
+    let plan = plan_alone(alloc)?;
+    let step = read_step(alloc, &plan, b"open 1 1")?.ok_or("a step line")?;
     assert!(rt; opens_first(&step));
-    for line in NO_STEPS {
-        let step = read_step(alloc, &script.plan, line.as_bytes())?;
+    for line in NO_STEPS.iter() {
+        let step = read_step(alloc, &plan, line.as_bytes())?;
         assert!(rt; step.is_none(), "{line}");
     }
     Ok(())

@@ -1,5 +1,6 @@
 //! Which words name which command.
 
+use crate::same::same;
 use lks_base::OutOfMemory;
 use lks_words::{Command, Play, parse};
 use std::alloc::Global;
@@ -58,7 +59,7 @@ const ROWS: [(&[&str], Option<Command>); 29] = [
 fn words_name_a_command_or_none(rt: HostRuntime) -> Result<(), OutOfMemory> {
     for (at, (words, command)) in ROWS.iter().enumerate() {
         let words = owned(rt.alloc(), words)?;
-        assert_eq!(rt; parse(rt.alloc(), &words)?, *command, "row {at}");
+        same(&rt, &parse(rt.alloc(), &words)?, command, &at);
     }
     Ok(())
 }

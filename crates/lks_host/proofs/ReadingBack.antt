@@ -25,10 +25,6 @@ use Rattle.lks_record.specs.Spelling.{batch_spelling}
 use Rattle.lks_record.specs.declared.fault.RecFault.{RecFault}
 use Rattle.lks_record.specs.declared.fault.RecFault.TheVariants.{Short, Form, Tag, Limit, Trailing, Memory}
 
-pub read_first : (r : Result (List Record) RecFault) → with_front [] r ≡ r
-read_first (Ok list) = refl
-read_first (Err fault) = refl
-
 pub read_last : (list : List Record) → with_front list (records_of []) ≡ Ok list
 unfolding records_of
 read_last list = ap Ok (append-nil list)

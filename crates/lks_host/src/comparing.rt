@@ -21,44 +21,18 @@ fn limits_of(kind: HashKind, limits: Option<Limits>) -> Option<Limits>
     }
 }
 
-/// The record as it was written before numbers could be tuned.
-fn unnumber(r: &Record) -> Result<Record, OutOfMemory>
-    ensures { IfOk result (λ x. x ≡ unnumbered r.now) }
+/// Makes the record what it was written as before numbers could be tuned.
+fn unnumber(r: &mut Record)
+    ensures { r.new ≡ unnumbered r.old }
 {
+    let lacking = if let Record::PollOpened { limits, kind, .. } = &*r {
+        limits_of(*kind, *limits)
+    } else {
+        None
+    };
     match r {
-        Record::PollOpened {
-            number,
-            au,
-            nonce,
-            inner,
-            tick,
-            limits,
-            kind,
-        } => {
-            let inner = inner.clone()?;
-            Ok(Record::PollOpened {
-                number: *number,
-                au: *au,
-                nonce: *nonce,
-                inner,
-                tick: *tick,
-                limits: limits_of(*kind, *limits),
-                kind: *kind,
-            })
-        }
-        Record::Joined {
-            poll,
-            au,
-            tick,
-            low,
-            ..
-        } => Ok(Record::Joined {
-            poll: *poll,
-            au: *au,
-            tick: *tick,
-            low: *low,
-            repairs: None,
-        }),
+        Record::PollOpened { limits, .. } => *limits = lacking,
+        Record::Joined { repairs, .. } => *repairs = None,
         Record::Deposit { .. }
         | Record::Nominated { .. }
         | Record::OuterOpened { .. }
@@ -73,18 +47,16 @@ fn unnumber(r: &Record) -> Result<Record, OutOfMemory>
         | Record::Voted { .. }
         | Record::Served { .. }
         | Record::Ended { .. }
-        | Record::Tuned { .. } => Ok(r.clone()?),
+        | Record::Tuned { .. } => {}
     }
 }
 
-fn unnumber_all(alloc: Global, records: &[Record]) -> Result<Vec<Record>, OutOfMemory>
-    ensures { IfOk result (λ v. v.items ≡ map unnumbered records.now) }
+fn unnumber_all(records: &mut [Record])
+    ensures { records.new ≡ map unnumbered records.old }
 {
-    let mut list = Vec::new(alloc);
-    for r in records {
-        list.push(unnumber(r)?)?;
+    for r in records.iter_mut() {
+        unnumber(r);
     }
-    Ok(list)
 }
 
 /// Whether the bytes of the batch spell these records.
@@ -108,13 +80,13 @@ fn is_spelled(
 pub fn is_added(
     alloc: Global,
     tuned: bool,
-    records: &[Record],
+    records: &mut [Record],
     batch: &[Record],
     body: &[u8],
 ) -> Result<bool, OutOfMemory>
-    requires fits { FitsBatch records.now }
+    requires fits { FitsBatch records.old }
     requires spells { Spells body.now batch.now }
-    ensures { IfOk result (λ added. IsTrue added ↔ IsAdded tuned records.now batch.now) }
+    ensures { IfOk result (λ added. IsTrue added ↔ IsAdded tuned records.old batch.now) }
 {
     if records.is_empty() {
         return Ok(false);
@@ -125,6 +97,6 @@ pub fn is_added(
     if tuned {
         return Ok(false);
     }
-    let lacking = unnumber_all(alloc, records)?;
-    is_spelled(alloc, &lacking, batch, body)
+    unnumber_all(records);
+    is_spelled(alloc, records, batch, body)
 }

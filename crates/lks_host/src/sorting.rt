@@ -96,13 +96,8 @@ fn add_batch<R: Wait>(
     ensures rest { sorter.new ≡ record sorter.old { peer = sorter.new.peer } }
 {
     let reaction = sorter.peer.step(rt, pool, named.tick, &named.input)?;
-    is_added(
-        alloc,
-        sorter.tuned,
-        reaction.records.as_slice(),
-        batch,
-        body,
-    )
+    let mut records = reaction.records.into_vec();
+    is_added(alloc, sorter.tuned, records.as_mut_slice(), batch, body)
 }
 
 /// Takes the batch, if it stands behind the records.

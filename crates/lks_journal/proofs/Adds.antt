@@ -3,7 +3,7 @@ use Rattle.std.proofs.Common.{◌≡◌, ◌<◌, ◌∙◌, inl, ℕ, true, Lis
 use Rattle.std.proofs.Common.{subst, arith}
 use Rattle.std.specs.Prelude.{Result, Ok, Err, OnOk, IsErrOf}
 use Rattle.lks_disk.specs.Counts.{raised}
-use Rattle.lks_disk.proofs.Runs.{started, weaker, joined}
+use Rattle.lks_disk.proofs.Runs.{weaker, joined}
 use Rattle.lks_disk.specs.Face.{Face, AlwaysLeaves}
 use Rattle.lks_journal.specs.Adding.{HoldsEither, KeepsOrAdds}
 use Rattle.lks_journal.specs.Called.{Called}
@@ -16,22 +16,6 @@ use Rattle.lks_journal.specs.declared.faults.JournalFault.{JournalFault}
 use Rattle.lks_journal.specs.declared.faults.JournalFault.TheVariants.{Memory}
 use Rattle.lks_journal.specs.declared.journals.Journal.{Journal}
 use Rattle.lks_journal.proofs.Appends.{Appending, first_crash, first_done, second_crash, second_done, end_after}
-
--- nothing was done
-pub adds_nothing : {D : Type 0} (f : Face D) (j : Journal D) (before after : List (List ℕ)) (fault : JournalFault)
-    → IsSettled f j before
-    → ((c : List ℕ) → f.left_since j.disk (f.moment j.disk) c → f.may_leave j.disk c)
-    → KeepsOrAdds f j j before after (Err fault)
-adds_nothing f j before after fault s now = record {
-  ok = tt;
-  memory = λ is. s;
-  crash = λ c left. inl (held c left);
-  any_moment = started f.moment f.left_since j.disk (HoldsEither before after) (λ c left. inl (held c (now c left)));
-  early = λ is few c left. held c left;
-}
-  where
-    held : (c : List ℕ) → f.may_leave j.disk c → HoldsBodies before c
-    held c left = subst (HoldsBodies before) (sym (s.durable c left)) s.holds
 
 module _ {D : Type 0} (f : Face D) (old new : Journal D) (mid : D) (bodies : List (List ℕ)) (body piece : List ℕ)
     (s : IsSettled f old bodies) (a : Appending bodies body piece (f.seen old.disk) old.end) where

@@ -10,7 +10,7 @@ use Rattle.lks_base.specs.declared.events.Event.TheVariants.{Step, Cut, Tick, Lo
 use Rattle.lks_base.specs.declared.plans.Plan.{Plan}
 use Rattle.lks_base.specs.declared.records.Record.{Record}
 use Rattle.lks_law.specs.Batches.{with_batch, alone, together, journal_at, added_at, batches_from, batches_at}
-use Rattle.lks_law.specs.World.{Standing, World, Deed, start, deed_of, effect_of, with_records, peers_after}
+use Rattle.lks_law.specs.World.{Standing, World, Deed, effect_of, with_records, peers_after}
 use Rattle.lks_law.specs.World.{after_step, happens, happen_all, world}
 
 -- ---- lists of batches
@@ -18,12 +18,12 @@ use Rattle.lks_law.specs.World.{after_step, happens, happen_all, world}
 together_more : (batches : List (List Record)) (added : List Record)
     → together (batches ++ added ∷ []) ≡ together batches ++ added
 together_more [] added = append-nil added
-together_more (b ∷ bs) added = ap (λ js. b ++ js) (together_more bs added) ∙ sym (append_assoc b (together bs) added)
+together_more (b ∷ bs) added = ap (λ js. b ++ js) (together_more bs added) ∙ sym (append_assoc b _ added)
 
 pub batch_more : (batches : List (List Record)) (added : List Record)
     → together (with_batch batches added) ≡ together batches ++ added
-batch_more batches [] = sym (append-nil (together batches))
-batch_more batches (r ∷ rs) = together_more batches (r ∷ rs)
+batch_more batches [] = sym (append-nil _)
+batch_more batches (r ∷ rs) = together_more batches _
 
 pub each_alone : (list : List Record) → together (map alone list) ≡ list
 each_alone [] = refl
@@ -36,8 +36,7 @@ from_more : (place : ℕ) (w : World) (batches : List (List Record)) (history : 
     ≡ with_batch (batches_from place w batches history)
     (added_at place (happen_all w history) (happens (happen_all w history) e))
 from_more place w batches [] e = refl
-from_more place w batches (d ∷ ds) e =
-    from_more place (happens w d) (with_batch batches (added_at place w (happens w d))) ds e
+from_more place w batches (d ∷ ds) e = from_more place (happens w d) _ ds e
 
 -- the batches after one event more
 pub batches_more : (place : ℕ) (plan : Plan) (history : List Event) (e : Event)
@@ -45,7 +44,7 @@ pub batches_more : (place : ℕ) (plan : Plan) (history : List Event) (e : Event
     ≡ with_batch (batches_at place plan history)
     (added_at place (world plan history) (happens (world plan history) e))
 unfolding batches_at world
-batches_more place plan history e = from_more place (start plan) (map alone (journal_at place (start plan))) history e
+batches_more place plan history e = from_more place _ _ history e
 
 -- ---- journals only grow
 
@@ -57,7 +56,7 @@ Grows place before after =
     ≡ option_map_or (λ (s : Standing). s.journal) (slice_get before place) [] ++ added)
 
 stays : (place : ℕ) (ss : List Standing) → Grows place ss ss
-stays place ss = ([], sym (append-nil (option_map_or (λ (s : Standing). s.journal) (slice_get ss place) [])))
+stays place ss = ([], sym (append-nil _))
 
 records_grow : (id : ℕ) (added : List Record) (ss : List Standing) (place : ℕ)
     → Grows place ss (with_records id added ss)
@@ -78,8 +77,8 @@ deed_grows tick ss (Some d) place = records_grow d.peer (effect_of tick ss (Some
 
 event_grows : (place : ℕ) (w : World) (e : Event) → Grows place w.peers (happens w e).peers
 unfolding happens after_step
-event_grows place w (Step s) = deed_grows w.tick w.peers (deed_of w.bag s) place
-event_grows place w (Cut s true) = deed_grows w.tick w.peers (deed_of w.bag s) place
+event_grows place w (Step s) = deed_grows w.tick w.peers _ place
+event_grows place w (Cut s true) = deed_grows w.tick w.peers _ place
 event_grows place w (Cut s false) = stays place w.peers
 event_grows place w (Tick by) = stays place w.peers
 event_grows place w (Lose envelope) = stays place w.peers
@@ -88,14 +87,14 @@ event_grows place w (Crash peer) = stays place w.peers
 
 -- what a journal has more is what was added
 pub added_is : (before after added : List Record) → after ≡ before ++ added → drop (length before) after ≡ added
-added_is before after added is = ap (drop (length before)) is ∙ drop-append_seam before added
+added_is before after added is = ap (drop _) is ∙ drop-append_seam before added
 
 grown_by : (place : ℕ) (w : World) (e : Event)
     → journal_at place w ++ added_at place w (happens w e) ≡ journal_at place (happens w e)
 grown_by place w e =
     let more = event_grows place w e in
     ap (λ js. journal_at place w ++ js)
-    (added_is (journal_at place w) (journal_at place (happens w e)) more.0 more.1)
+    (added_is _ _ more.0 more.1)
     ∙ sym more.1
 
 from_is : (place : ℕ) (w : World) (batches : List (List Record)) (history : List Event)
@@ -103,13 +102,10 @@ from_is : (place : ℕ) (w : World) (batches : List (List Record)) (history : Li
     → together (batches_from place w batches history) ≡ journal_at place (happen_all w history)
 from_is place w batches [] is = is
 from_is place w batches (e ∷ es) is =
-    from_is place (happens w e) (with_batch batches (added_at place w (happens w e))) es
-    (batch_more batches (added_at place w (happens w e)) ∙ ap (λ js. js ++ added_at place w (happens w e)) is
+    from_is place (happens w e) _ es (batch_more batches _ ∙ ap (λ js. js ++ added_at place w (happens w e)) is
     ∙ grown_by place w e)
 
 pub batches_are : (plan : Plan) (history : List Event) (place : ℕ)
     → together (batches_at place plan history) ≡ journal_at place (world plan history)
 unfolding batches_at world
-batches_are plan history place =
-    from_is place (start plan) (map alone (journal_at place (start plan))) history
-    (each_alone (journal_at place (start plan)))
+batches_are plan history place = from_is place _ _ history (each_alone _)

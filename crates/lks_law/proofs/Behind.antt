@@ -1,6 +1,6 @@
 -- Whatever the rules add stands behind the journal: the input that it names adds the same at the tick that it names.
-use Rattle.std.proofs.Common.{◌≡◌, ◌==◌, ◌≢◌, ◌≤◌, ◌+◌, ◌∙◌, ◌⊎◌, inl, inr, ap, sym, subst, ℕ, Bool, true, false}
-use Rattle.std.proofs.Common.{cond, eqb, List, [], ◌∷◌, length, refl, arith}
+use Rattle.std.proofs.Common.{◌≡◌, ◌≢◌, ◌≤◌, ◌∙◌, ◌⊎◌, inl, inr, ap, sym, subst, ℕ, Bool, true, false}
+use Rattle.std.proofs.Common.{cond, eqb, List, [], ◌∷◌, refl, arith}
 use Rattle.std.specs.Prelude.{Option, Some, None, is_some, option_map, unwrap_or, not, map, ◌&&◌, ◌||◌, slice_get}
 use Rattle.std.specs.List.{filter_map, cons_option, list_any}
 use Rattle.std.proofs.lemmas.Bool.{and_parts, eqb-true}
@@ -21,20 +21,20 @@ use Rattle.lks_base.specs.declared.records.Record.TheVariants as records
 use Rattle.lks_law.specs.Behind.{tick_in, latest_tick, tick_or, asked_from, last_asked, input_named, AddsNamed}
 use Rattle.lks_law.specs.Behind.{StandsBehind}
 use Rattle.lks_law.specs.Facts.{AddsFor, unnumbered}
-use Rattle.lks_law.specs.Journal.{Opening, Request, Told, said_by, is_tuning, numbers_from, opening_of, openings}
-use Rattle.lks_law.specs.Journal.{is_voting, is_widened, contents_at, unanswered_with, unanswered_without}
+use Rattle.lks_law.specs.Journal.{Opening, Request, Told, said_by, is_tuning, numbers_from, opening_of}
+use Rattle.lks_law.specs.Journal.{is_voting, is_widened, unanswered_with, unanswered_without}
 use Rattle.lks_law.specs.Journal.{unanswered_from, unanswered_request, was_tuned}
 use Rattle.lks_law.specs.Polls.{Station, numbers_in_force, limits_in_force, verdict_in, candidate, restores}
-use Rattle.lks_law.specs.Reaction.{no_effect, for_opening, may_open, opens_poll, on_open, invites_outer, on_widen}
+use Rattle.lks_law.specs.Reaction.{no_effect, for_opening, may_open, on_open, on_widen}
 use Rattle.lks_law.specs.Reaction.{is_inquorate, shut_inquorate, ends_voting, on_shut, may_tally, closes_poll}
 use Rattle.lks_law.specs.Reaction.{asks_supplier, follows_verdict, on_tally, must_note, overdue_in, on_check}
 use Rattle.lks_law.specs.Reaction.{reminds_silent, asked_again, on_nudge, given_up, on_give_up, may_prove}
-use Rattle.lks_law.specs.Reaction.{sends_proof, on_challenge, may_nominate, notes_nominees, on_nominate, may_vote}
-use Rattle.lks_law.specs.Reaction.{counts_vote, on_vote, is_request, may_repair, takes_repair, on_repair}
+use Rattle.lks_law.specs.Reaction.{sends_proof, on_challenge, may_nominate, on_nominate, may_vote}
+use Rattle.lks_law.specs.Reaction.{on_vote, is_request, may_repair, takes_repair, on_repair}
 use Rattle.lks_law.specs.Sessions.{Join, Commitment, join_of, commitment_of, hashes_of_vote, served_blocks, is_session}
 use Rattle.lks_law.specs.State.{State, after, after_all}
 use Rattle.lks_law.specs.Table.{reaction}
-use Rattle.lks_law.specs.Voting.{poll_named, answers, adds, adds_only, challenge, may_join, joins_poll, on_invitation}
+use Rattle.lks_law.specs.Voting.{poll_named, answers, adds, adds_only, challenge, may_join, on_invitation}
 use Rattle.lks_law.specs.Voting.{repeats, proved_to, on_proof, casts_vote, on_work, most_served, gives, serves}
 use Rattle.lks_law.specs.Voting.{answers_request, on_request, on_end, may_tune, on_tune}
 use Rattle.lks_tally.specs.declared.ballots.Verdict.{Verdict}
@@ -50,9 +50,7 @@ asked_is : (n : ℕ) (before asked : Option Request) (js : List Record) (r : Req
     → unanswered_from n before js ≡ Some r → asked_from n asked js ≡ Some r
 asked_is n before asked [] r same e = same r e
 asked_is n before asked (j ∷ js) r same e =
-    asked_is n (unanswered_with n (unanswered_without n before (said_by j).answered) (said_by j).asked)
-    (unanswered_with n asked (said_by j).asked) js r
-    (λ x. by_request x (said_by j).asked) e
+    asked_is n (unanswered_with n _ (said_by j).asked) _ js r (λ x. by_request x (said_by j).asked) e
   where
     answered : (x : Request) (a : Option ℕ) → unanswered_without n before a ≡ Some x → asked ≡ Some x
     answered x None e = same x e
@@ -166,23 +164,19 @@ module _ (own : Station) (js : List Record) where
   open_named : (tick au : ℕ) → AreNamed tick (reaction own js tick (input.OpenPoll au)).records
   unfolding reaction on_open
   open_named tick au =
-      named_now tick (input.OpenPoll au) _ refl
-      (points_if tick tick (input.OpenPoll au) (may_open own js tick au)
-      (opens_poll own js tick au (openings js + 1)) no_effect (refl, refl, (refl, tt), (refl, tt)) tt)
+      named_now tick (input.OpenPoll au) _ refl (points_if tick tick _ (may_open own js tick au)
+      _ no_effect (refl, refl, (refl, tt), (refl, tt)) tt)
 
   widen_named : (tick n : ℕ) → AreNamed tick (reaction own js tick (input.Widen n)).records
   unfolding reaction on_widen
   widen_named tick n =
-      named_still tick (input.Widen n) _ refl
-      (points_if tick (latest_tick js) (input.Widen n) (is_voting n js && not (is_widened n js)) _ no_effect
-      (points_at tick (latest_tick js) (input.Widen n) (opening_of n js) (invites_outer own js n)
-      (λ o. (refl, refl, (refl, tt), (tt, tt)))) tt)
+      named_still tick (input.Widen n) _ refl (points_if tick _ _ _ _ no_effect
+      (points_at tick _ _ (opening_of n js) _ (λ o. (refl, refl, (refl, tt), (tt, tt)))) tt)
 
   shut_named : (tick n : ℕ) → AreNamed tick (reaction own js tick (input.Shut n)).records
   unfolding reaction on_shut
   shut_named tick n =
-      named_if tick (is_voting n js) (for_opening (opening_of n js) (ends_voting own js tick n)) (λ voting.
-      named_at tick (opening_of n js) (ends_voting own js tick n)
+      named_if tick _ _ (λ voting. named_at tick _ _
       (λ o opened. by_quorum voting o opened (is_inquorate own n o js) refl))
     where
       at_tick : (t : ℕ) → is_voting n js ≡ true → (o : Opening) → opening_of n js ≡ Some o → (b : Bool)
@@ -193,8 +187,7 @@ module _ (own : Station) (js : List Record) where
       at_tick t voting o opened b e =
           ap (λ v. (cond v (for_opening (opening_of n js) (ends_voting own js t n)) no_effect).records) voting
           ∙ ap (λ x. (for_opening x (ends_voting own js t n)).records) opened
-          ∙ ap
-          (λ v.
+          ∙ ap (λ v.
           (cond {A = Reaction} v (shut_inquorate js t n)
           (record { records = records.Shut n ∷ []; sends = [] })).records) e
 
@@ -204,19 +197,16 @@ module _ (own : Station) (js : List Record) where
           (cond {A = Reaction} b (shut_inquorate js tick n)
           (record { records = records.Shut n ∷ []; sends = [] })).records
       by_quorum voting o opened true e =
-          named_now tick (input.Shut n) (shut_inquorate js tick n).records (at_tick tick voting o opened true e)
+          named_now tick _ (shut_inquorate js tick n).records (at_tick tick voting o opened true e)
           (refl, refl, (refl, (refl, tt)), (tt, (tt, tt)))
       by_quorum voting o opened false e =
-          named_still tick (input.Shut n) (records.Shut n ∷ [])
+          named_still tick (input.Shut n) _
           (at_tick (latest_tick js) voting o opened false e) (refl, refl, (refl, tt), (tt, tt))
 
   tally_named : (tick n : ℕ) → AreNamed tick (reaction own js tick (input.Tally n)).records
   unfolding reaction on_tally closes_poll
   tally_named tick n =
-      named_if tick (may_tally n js)
-      (for_opening (opening_of n js) (λ o. follows_verdict own js tick n o (verdict_in own n o js))) (λ may.
-      named_at tick (opening_of n js) (λ o. follows_verdict own js tick n o (verdict_in own n o js))
-      (λ o opened. by_verdict may o opened (verdict_in own n o js) refl))
+      named_if tick _ _ (λ may. named_at tick _ _ (λ o opened. by_verdict may o opened (verdict_in own n o js) refl))
     where
       at_tick : (t : ℕ) → may_tally n js ≡ true → (o : Opening) → opening_of n js ≡ Some o → (v : Verdict)
           → verdict_in own n o js ≡ v
@@ -225,9 +215,7 @@ module _ (own : Station) (js : List Record) where
           no_effect).records
           ≡ (follows_verdict own js t n o v).records
       at_tick t may o opened v e =
-          ap
-          (λ b.
-          (cond b (for_opening (opening_of n js) (λ o. follows_verdict own js t n o (verdict_in own n o js)))
+          ap (λ b. (cond b (for_opening (opening_of n js) (λ o. follows_verdict own js t n o (verdict_in own n o js)))
           no_effect).records) may
           ∙ ap (λ x. (for_opening x (λ o. follows_verdict own js t n o (verdict_in own n o js))).records) opened
           ∙ ap (λ v. (follows_verdict own js t n o v).records) e
@@ -236,23 +224,19 @@ module _ (own : Station) (js : List Record) where
           → verdict_in own n o js ≡ verdict.Loss b
           → (v : Option ℕ) → candidate own n o b js ≡ v → AreNamed tick (asks_supplier js tick n b v).records
       by_candidate may o opened b e None none =
-          named_now tick (input.Tally n) (asks_supplier js tick n b None).records
-          (at_tick tick may o opened (verdict.Loss b) e
+          named_now tick _ (asks_supplier js tick n b None).records (at_tick tick may o opened (verdict.Loss b) e
           ∙ ap (λ v. (asks_supplier js tick n b v).records) none) (refl, refl, (refl, tt), (tt, tt))
       by_candidate may o opened b e (Some v) some =
-          named_still tick (input.Tally n) (records.Asked n b v ∷ [])
-          (at_tick (latest_tick js) may o opened (verdict.Loss b) e
+          named_still tick (input.Tally n) _ (at_tick (latest_tick js) may o opened (verdict.Loss b) e
           ∙ ap (λ v. (asks_supplier js (latest_tick js) n b v).records) some) (refl, refl, (refl, tt), (tt, tt))
 
       by_verdict : may_tally n js ≡ true → (o : Opening) → opening_of n js ≡ Some o → (v : Verdict)
           → verdict_in own n o js ≡ v → AreNamed tick (follows_verdict own js tick n o v).records
       by_verdict may o opened verdict.Inquorate e = tt
       by_verdict may o opened verdict.Agreed e =
-          named_now tick (input.Tally n) _ (at_tick tick may o opened verdict.Agreed e)
-          (refl, refl, (refl, tt), (tt, tt))
+          named_now tick _ _ (at_tick tick may o opened verdict.Agreed e) (refl, refl, (refl, tt), (tt, tt))
       by_verdict may o opened (verdict.Split b) e =
-          named_now tick (input.Tally n) _ (at_tick tick may o opened (verdict.Split b) e)
-          (refl, refl, (refl, tt), (tt, tt))
+          named_now tick _ _ (at_tick tick may o opened (verdict.Split b) e) (refl, refl, (refl, tt), (tt, tt))
       by_verdict may o opened (verdict.Loss b) e = by_candidate may o opened b e (candidate own n o b js) refl
 
   nudge_named : (tick n : ℕ) → AreNamed tick (reaction own js tick (input.Nudge n)).records
@@ -267,7 +251,7 @@ module _ (own : Station) (js : List Record) where
           → AreNamed tick
           (cond b (for_opening (opening_of n js) (reminds_silent js n))
           (asked_again n (unanswered_request n js))).records
-      either true = named_at tick (opening_of n js) (reminds_silent js n) (λ o opened. tt)
+      either true = named_at tick _ (reminds_silent js n) _
       either false = by_request (unanswered_request n js)
 
   give_up_named : (tick n : ℕ) → AreNamed tick (reaction own js tick (input.GiveUp n)).records
@@ -300,8 +284,7 @@ module _ (own : Station) (js : List Record) where
       → AreNamed tick (reaction own js tick (input.Tune quorum minority repairs)).records
   unfolding reaction on_tune
   tune_named tick quorum minority repairs =
-      named_still tick (input.Tune quorum minority repairs) _ refl
-      (points_if tick (latest_tick js) (input.Tune quorum minority repairs)
+      named_still tick (input.Tune quorum minority repairs) _ refl (points_if tick _ _
       (may_tune own.rules quorum minority repairs) _ no_effect (refl, refl, (refl, tt), (tt, tt)) tt)
 
   -- What a poller is told.
@@ -310,11 +293,9 @@ module _ (own : Station) (js : List Record) where
       → AreNamed tick (reaction own js tick (input.Got from (message.Nominate n nominees) judged)).records
   unfolding reaction on_nominate
   nominate_named tick from n nominees judged =
-      named_still tick told _ refl
-      (points_if tick (latest_tick js) told (is_voting n js && not (is_widened n js)) _ no_effect
-      (points_at tick (latest_tick js) told (opening_of n js) (notes_nominees js from n nominees) (λ o.
-      points_if tick (latest_tick js) told (may_nominate js from n o) _ no_effect (refl, refl, (refl, tt), (tt, tt))
-      tt)) tt)
+      named_still tick told _ refl (points_if tick _ told (is_voting n js && not (is_widened n js)) _ no_effect
+      (points_at tick _ told _ _ (λ o.
+      points_if tick _ told (may_nominate js from n o) _ no_effect (refl, refl, (refl, tt), (tt, tt)) tt)) tt)
     where
       told : Input
       told = input.Got from (message.Nominate n nominees) NotAsked
@@ -325,10 +306,8 @@ module _ (own : Station) (js : List Record) where
   vote_named tick from n hashes proof Refused = tt
   vote_named tick from n hashes proof NotAsked = tt
   vote_named tick from n hashes proof Accepted =
-      named_still tick told _ refl
-      (points_if tick (latest_tick js) told (is_voting n js) _ no_effect
-      (points_at tick (latest_tick js) told (opening_of n js) (counts_vote js from n hashes) (λ o.
-      points_if tick (latest_tick js) told (may_vote js from n (length hashes) o) _ no_effect
+      named_still tick told _ refl (points_if tick _ told (is_voting n js) _ no_effect
+      (points_at tick _ told _ _ (λ o. points_if tick _ told (may_vote js from n _ o) _ no_effect
       (refl, refl, (refl, tt), (tt, tt)) tt)) tt)
     where
       told : Input
@@ -338,15 +317,13 @@ module _ (own : Station) (js : List Record) where
       → AreNamed tick (reaction own js tick (input.Got from (message.PollChallenge n agrees) judged)).records
   unfolding reaction on_challenge
   challenge_named tick from n agrees judged =
-      named_if tick (agrees && is_voting n js) (for_opening (opening_of n js) (sends_proof own js from n)) (λ may.
-      named_at tick (opening_of n js) (sends_proof own js from n)
-      (λ o opened. named_if tick (may_prove js from n o) _ (λ e. tt)))
+      named_if tick _ (for_opening (opening_of n js) (sends_proof own js from n)) (λ may.
+      named_at tick (opening_of n js) _ (λ o opened. named_if tick (may_prove js from n o) _ _))
 
   repair_named : (tick from n b : ℕ) (bytes : List ℕ) (judged : Judged)
       → AreNamed tick (reaction own js tick (input.Got from (message.Repair n b bytes) judged)).records
   unfolding reaction on_repair may_repair on_give_up
-  repair_named tick from n b bytes judged =
-      by_request (unanswered_request n js) refl
+  repair_named tick from n b bytes judged = by_request (unanswered_request n js) refl
     where
       told : Input
       told = input.Got from (message.Repair n b bytes) NotAsked
@@ -354,9 +331,7 @@ module _ (own : Station) (js : List Record) where
       by_parts : (r : Request) → unanswered_request n js ≡ Some r
           → is_request b from (unanswered_request n js) ≡ true → (r.block ≡ b) × (r.voter ≡ from)
           → AreNamed tick (for_opening (opening_of n js) (takes_repair own js from n b bytes)).records
-      by_parts r waits may is =
-          named_at tick (opening_of n js) (takes_repair own js from n b bytes)
-          (λ o opened. either o opened (restores own n o b bytes js) refl)
+      by_parts r waits may is = named_at tick _ _ (λ o opened. either o opened (restores own n o b bytes js) refl)
         where
           same : unanswered_request n js ≡ Some (record { block = b; voter = from })
           same = waits ∙ (λ i. Some (record { block = is.0 i; voter = is.1 i }))
@@ -365,24 +340,21 @@ module _ (own : Station) (js : List Record) where
               → AreNamed tick
               (cond {A = Reaction} t (record { records = records.Replaced n o.au b bytes ∷ []; sends = [] })
               (record { records = records.RepairBad n b from ∷ []; sends = [] })).records
-          either o opened true e = named_still tick told (records.Replaced n o.au b bytes ∷ [])
-              (ap
-              (λ t.
-              (cond t (for_opening (opening_of n js) (takes_repair own js from n b bytes)) no_effect).records)
-              may
+          either o opened true e = named_still tick told _
+              (ap (λ t.
+              (cond t (for_opening (opening_of n js) (takes_repair own js from n b bytes)) no_effect).records) may
               ∙ ap (λ x. (for_opening x (takes_repair own js from n b bytes)).records) opened
-              ∙ ap
-              (λ t.
+              ∙ ap (λ t.
               (cond {A = Reaction} t (record { records = records.Replaced n o.au b bytes ∷ []; sends = [] })
               (record { records = records.RepairBad n b from ∷ []; sends = [] })).records) e) (
-                ap (option_map (λ (r : Request). input.Got r.voter (message.Repair n b bytes) NotAsked))
-                    (last_is n js (record { block = b; voter = from }) same),
+                ap (option_map _)
+                    (last_is n js _ same),
                 refl,
                 (refl, tt),
                 (tt, tt),
               )
           either o opened false e =
-              named_still tick (input.GiveUp n) (records.RepairBad n b from ∷ [])
+              named_still tick (input.GiveUp n) _
               (ap (λ r. (given_up n r).records) same) (refl, refl, (refl, tt), (tt, tt))
 
       by_request : (r : Option Request) → unanswered_request n js ≡ r
@@ -390,8 +362,8 @@ module _ (own : Station) (js : List Record) where
           (cond (is_request b from r) (for_opening (opening_of n js) (takes_repair own js from n b bytes))
           no_effect).records
       by_request None waits = tt
-      by_request (Some r) waits = named_if tick (r.block == b && r.voter == from) _ (λ e.
-          let parts = and_parts (eqb r.block b) (eqb r.voter from) e in
+      by_request (Some r) waits = named_if tick _ _ (λ e.
+          let parts = and_parts _ _ e in
           by_parts r waits (ap (is_request b from) waits ∙ e)
           (eqb-true r.block b parts.0, eqb-true r.voter from parts.1))
 
@@ -401,10 +373,8 @@ module _ (own : Station) (js : List Record) where
       → AreNamed tick (reaction own js tick (input.Got from (message.Poll n au) judged)).records
   unfolding reaction on_invitation
   invitation_named tick from n au judged =
-      named_now tick told _ refl
-      (points_if tick tick told (is_session (poll_named from n) js) (answers (challenge (poll_named from n) true)) _ tt
-      (points_if tick tick told (may_join own js tick (poll_named from n) au)
-      (joins_poll own js tick (poll_named from n) au) _ (refl, refl, (refl, tt), (refl, tt)) tt))
+      named_now tick told _ refl (points_if tick tick told _ (answers (challenge (poll_named from n) true)) _ tt
+      (points_if tick tick told (may_join own js tick _ au) _ _ (refl, refl, (refl, tt), (refl, tt)) tt))
     where
       told : Input
       told = input.Got from (message.Poll n au) NotAsked
@@ -412,17 +382,15 @@ module _ (own : Station) (js : List Record) where
   end_named : (tick : ℕ) (q : PollName) → AreNamed tick (on_end js q).records
   unfolding reaction on_end
   end_named tick q =
-      named_still tick (input.Expire q) _ refl
-      (points_if tick (latest_tick js) (input.Expire q) (is_session q js) (adds_only (records.Ended q)) no_effect
+      named_still tick (input.Expire q) _ refl (points_if tick _ _ _ (adds_only (records.Ended q)) no_effect
       (refl, refl, (refl, tt), (tt, tt)) tt)
 
   proof_named : (tick from n : ℕ) (nonce : List ℕ) (kind : HashKind) (proof : List ℕ) (judged : Judged)
       → AreNamed tick (reaction own js tick (input.Got from (message.PollProof n nonce kind proof) judged)).records
   unfolding reaction on_proof on_end
   proof_named tick from n nonce kind proof Accepted =
-      named_still tick told _ refl
-      (points_if tick (latest_tick js) told (is_session (poll_named from n) js) _ no_effect
-      (by_session (join_of (poll_named from n) js) (commitment_of (poll_named from n) js)) tt)
+      named_still tick told _ refl (points_if tick _ told (is_session (poll_named from n) js) _ no_effect
+      (by_session (join_of _ js) (commitment_of _ js)) tt)
     where
       told : Input
       told = input.Got from (message.PollProof n nonce kind []) Accepted
@@ -431,34 +399,32 @@ module _ (own : Station) (js : List Record) where
           → Points tick (latest_tick js) told (proved_to own js (poll_named from n) nonce kind Accepted j c).records
       by_session None c = tt
       by_session (Some j) None = (refl, refl, (refl, tt), (tt, tt))
-      by_session (Some j) (Some c) = points_if tick (latest_tick js) told (repeats c nonce kind) _ no_effect tt tt
+      by_session (Some j) (Some c) = points_if tick _ told (repeats c nonce kind) _ no_effect tt tt
   proof_named tick from n nonce kind proof Refused =
-      named_if tick (is_session (poll_named from n) js) _
-      (λ runs. by_session runs (join_of (poll_named from n) js) (commitment_of (poll_named from n) js))
+      named_if tick _ _ (λ runs. by_session runs (join_of _ js) (commitment_of (poll_named from n) js))
     where
       by_session : is_session (poll_named from n) js ≡ true → (j : Option Join) (c : Option Commitment)
           → AreNamed tick (proved_to own js (poll_named from n) nonce kind Refused j c).records
       by_session runs None c = tt
       by_session runs (Some j) None =
-          named_still tick (input.Expire (poll_named from n)) (records.Ended (poll_named from n) ∷ [])
+          named_still tick (input.Expire _) _
           (ap (λ b. (cond b (adds_only (records.Ended (poll_named from n))) no_effect).records) runs)
           (refl, refl, (refl, tt), (tt, tt))
       by_session runs (Some j) (Some c) = named_if tick (repeats c nonce kind) _ (λ e. tt)
   proof_named tick from n nonce kind proof NotAsked =
       named_if tick (is_session (poll_named from n) js) _
-      (λ runs. by_session (join_of (poll_named from n) js) (commitment_of (poll_named from n) js))
+      (λ runs. by_session (join_of (poll_named from n) js) (commitment_of _ js))
     where
       by_session : (j : Option Join) (c : Option Commitment)
           → AreNamed tick (proved_to own js (poll_named from n) nonce kind NotAsked j c).records
       by_session None c = tt
       by_session (Some j) None = tt
-      by_session (Some j) (Some c) = named_if tick (repeats c nonce kind) _ (λ e. tt)
+      by_session (Some j) (Some c) = named_if tick (repeats c nonce kind) _ _
 
   work_named : (tick : ℕ) (q : PollName) → AreNamed tick (reaction own js tick (input.Work q)).records
   unfolding reaction on_work
   work_named tick q =
-      named_still tick (input.Work q) _ refl
-      (points_if tick (latest_tick js) (input.Work q) (is_session q js) _ no_effect
+      named_still tick (input.Work q) _ refl (points_if tick _ _ _ _ no_effect
       (by_session (join_of q js) (commitment_of q js) (hashes_of_vote q js)) tt)
     where
       by_session : (j : Option Join) (c : Option Commitment) (h : Option (List (List ℕ)))
@@ -472,10 +438,8 @@ module _ (own : Station) (js : List Record) where
       → AreNamed tick (reaction own js tick (input.Got from (message.RepairRequest n b) judged)).records
   unfolding reaction on_request
   request_named tick from n b judged =
-      named_still tick told _ refl
-      (points_if tick (latest_tick js) told (is_session (poll_named from n) js) _ no_effect
-      (by_session (join_of (poll_named from n) js) (commitment_of (poll_named from n) js)
-      (hashes_of_vote (poll_named from n) js)) tt)
+      named_still tick told _ refl (points_if tick _ told _ _ no_effect
+      (by_session (join_of _ js) (commitment_of _ js) (hashes_of_vote _ js)) tt)
     where
       told : Input
       told = input.Got from (message.RepairRequest n b) NotAsked
@@ -491,15 +455,14 @@ module _ (own : Station) (js : List Record) where
           (serves (poll_named from n) b (most_served own.rules j.repairs) (served_blocks (poll_named from n) js)
           o).records
       by_block j None = tt
-      by_block j (Some bytes) =
-          by_answer bytes (answer_of (served_blocks (poll_named from n) js) b (most_served own.rules j.repairs))
+      by_block j (Some bytes) = by_answer bytes (answer_of _ b _)
 
       by_session : (j : Option Join) (c : Option Commitment) (h : Option (List (List ℕ)))
           → Points tick (latest_tick js) told (answers_request own js (poll_named from n) b j c h).records
       by_session None c h = tt
       by_session (Some j) None h = tt
       by_session (Some j) (Some c) None = tt
-      by_session (Some j) (Some c) (Some h) = by_block j (slice_get (contents_at j.au c.version js) b)
+      by_session (Some j) (Some c) (Some h) = by_block j (slice_get _ b)
 
   -- All rows.
 
@@ -524,7 +487,7 @@ module _ (own : Station) (js : List Record) where
   reaction_named tick (input.Got from (message.Vote n hashes proof) judged) = vote_named tick from n hashes proof judged
   reaction_named tick (input.Got from (message.RepairRequest n b) judged) = request_named tick from n b judged
   reaction_named tick (input.Got from (message.Repair n b bytes) judged) = repair_named tick from n b bytes judged
-  reaction_named tick (input.Got from (message.Receipt n) judged) = end_named tick (poll_named from n)
+  reaction_named tick (input.Got from (message.Receipt n) judged) = end_named tick _
 
   -- Records without their numbers name the same.
 
@@ -561,20 +524,20 @@ module _ (own : Station) (js : List Record) where
   with_numbers : (tick : ℕ) (r : Record) (rs : List Record) → latest_tick js ≤ tick → Named own js tick r rs
       → StandsBehind own js (r ∷ rs)
   with_numbers tick r rs low n = (
-    at_least tick (tick_or (latest_tick js) (r ∷ rs)) low n.at,
-    subst (AddsNamed own js (tick_or (latest_tick js) (r ∷ rs)) (r ∷ rs)) (sym n.is) (inl (sym n.adds)),
+    at_least tick _ low n.at,
+    subst (AddsNamed own js _ _) (sym n.is) (inl (sym n.adds)),
   )
 
   without_numbers : (tick : ℕ) (r : Record) (rs : List Record) → was_tuned js ≡ false → latest_tick js ≤ tick
       → Named own js tick r rs → StandsBehind own js (unnumbered r ∷ map unnumbered rs)
   without_numbers tick r rs new low n =
-      let at : tick_or (latest_tick js) (unnumbered r ∷ map unnumbered rs)
-      ≡ tick_or (latest_tick js) (r ∷ rs) = ticks_named (latest_tick js) (r ∷ rs) in
+      let at : tick_or _ (unnumbered r ∷ map unnumbered rs)
+      ≡ tick_or _ (r ∷ rs) = ticks_named _ (r ∷ rs) in
       subst
       (λ k. (latest_tick js ≤ k)
       × AddsNamed own js k (unnumbered r ∷ map unnumbered rs) (input_named js (unnumbered r))) (sym at) (
-        at_least tick (tick_or (latest_tick js) (r ∷ rs)) low n.at,
-        subst (AddsNamed own js (tick_or (latest_tick js) (r ∷ rs)) (unnumbered r ∷ map unnumbered rs))
+        at_least tick _ low n.at,
+        subst (AddsNamed own js _ _)
             (sym ((same_named r).0 ∙ n.is)) (inr (new, ap (map unnumbered) (sym n.adds))),
       )
 
@@ -635,9 +598,7 @@ module _ (own : Station) (js : List Record) where
       → numbers_in_force own.rules js
       ≡ record { quorum = own.rules.quorum; minority = own.rules.minority; repairs = own.rules.repairs }
   unfolding was_tuned numbers_in_force
-  rules_in_force new =
-      numbers_stay
-      (record { quorum = own.rules.quorum; minority = own.rules.minority; repairs = own.rules.repairs }) js new
+  rules_in_force new = numbers_stay _ js new
 
   abbrev some_limits : Numbers → Option Limits
   some_limits n = Some (record { quorum = n.quorum; minority = n.minority })

@@ -1,5 +1,5 @@
 -- In every history the journals and the envelopes of different peers agree.
-use Rattle.std.proofs.Common.{◌≡◌, ◌+◌, subst, ℕ, List, length}
+use Rattle.std.proofs.Common.{◌≡◌, subst, ℕ, List}
 use Rattle.std.specs.Prelude.{Option, Some, None}
 use Rattle.lks_base.specs.Checking.{plan_fault}
 use Rattle.lks_base.specs.declared.events.Envelope.{Envelope}
@@ -7,10 +7,7 @@ use Rattle.lks_base.specs.declared.events.Event.{Event}
 use Rattle.lks_base.specs.declared.plans.Plan.{Plan}
 use Rattle.lks_base.specs.declared.records.Record.{Record}
 use Rattle.lks_law.specs.Histories.{IsHistory}
-use Rattle.lks_law.specs.Journal.{opening_of}
-use Rattle.lks_law.specs.Linked.{Has, IsSaid, IsTold, IsLinked, AreLinked}
-use Rattle.lks_law.specs.Sessions.{hashes_of_vote}
-use Rattle.lks_law.specs.Voting.{poll_named}
+use Rattle.lks_law.specs.Linked.{IsSaid, IsTold, IsLinked, AreLinked}
 use Rattle.lks_law.specs.World.{Standing, peer_at, world}
 use Rattle.lks_law.proofs.Knowing.{voted_so}
 use Rattle.lks_law.proofs.Linked.{Any, Heard, IsSpelling, IsFrom, Fact}
@@ -22,7 +19,7 @@ use Rattle.lks_law.proofs.Worlds.{IsSound, place_of}
 told : (peers : List Standing) (e : Envelope) (s : Standing) → peer_at e.from peers ≡ Some s → IsFrom peers e
     → IsTold s.journal e
 told peers e s from is =
-    let spelled : IsSpelling e.bytes = subst (Any (λ (t : Standing). IsSpelling e.bytes)) from is.spelled in
+    let spelled : IsSpelling e.bytes = subst (Any _) from is.spelled in
     record {
       message = spelled.0;
       spelled = spelled.1;
@@ -44,18 +41,12 @@ module _ (peers : List Standing) (k : ℕ) (s : Standing) (sound : IsSound peers
     committed_once = sound.single.commitments;
     voted_once = sound.single.votes;
     joined = λ q join t said at.
-        subst (Any (λ (u : Standing). Has (λ o. o.au ≡ join.au) (opening_of q.number u.journal))) at
-        (joined_so peers s.own s.journal sound.records q said.item join said.said (fact_of said));
+        subst (Any _) at (joined_so peers s.own s.journal sound.records q said.item join said.said (fact_of said));
     committed = λ q c t said at.
-        subst
-        (Any
-        (λ (u : Standing). Has (λ o. (o.nonce ≡ c.nonce) × (o.kind ≡ c.kind))
-        (opening_of q.number u.journal))) at
-        (committed_so peers s.own s.journal sound.records q said.item c said.said (fact_of said));
+        subst (Any _) at (committed_so peers s.own s.journal sound.records q said.item c said.said (fact_of said));
     voted = λ q hashes said. voted_so peers s.own s.journal sound.records q said.item hashes said.said (fact_of said);
     counted = λ n v t said at.
-        subst (Any (λ (u : Standing). hashes_of_vote (poll_named s.own.id n) u.journal ≡ Some v.hashes)) at
-        (counted_so peers s.own s.journal sound.records n said.item v said.said (fact_of said)).0;
+        subst (Any _) at (counted_so peers s.own s.journal sound.records n said.item v said.said (fact_of said)).0;
   }
 
 pub are_linked : (plan : Plan) (history : List Event) → plan_fault plan ≡ None → IsHistory plan history
@@ -67,8 +58,8 @@ are_linked plan history good is =
     record {
       envelopes =
           λ place e s at from. told peers e s from
-          (subst (Any (IsFrom peers)) at (place_of (IsFrom peers) bag place holds.linked.bagged));
+          (subst (Any _) at (place_of _ bag place holds.linked.bagged));
       journals =
-          λ place s at. linked peers (0 + length history) s
+          λ place s at. linked peers _ s
           (holds.linked.each s.own.id s (place_at peers place s holds.apart at));
     }

@@ -1,12 +1,12 @@
 -- Evidence can be wanting, and not every list of events is a history.
-use Rattle.std.proofs.Common.{◌≡◌, ◌≤◌, ◌<◌, ◌∙◌, sym, subst, ℕ, List, [], ◌∷◌, length, get_or, take, refl, arith}
+use Rattle.std.proofs.Common.{◌≡◌, ◌≤◌, ◌<◌, ◌∙◌, sym, subst, ℕ, List, [], ◌∷◌, length, get_or, refl, arith}
 use Rattle.std.specs.Prelude.{Some}
 use Rattle.lks_base.specs.Checking.{has_member}
 use Rattle.lks_base.specs.declared.plans.Plan.{Plan}
 use Rattle.lks_base.specs.declared.plans.Rules.{Rules}
 use Rattle.lks_base.specs.declared.names.HashKind.TheVariants.{Sha256}
 use Rattle.lks_base.specs.declared.records.Record.{Record}
-use Rattle.lks_base.specs.declared.records.Record.TheVariants.{VoteIn, Replaced}
+use Rattle.lks_base.specs.declared.records.Record.TheVariants.{VoteIn}
 use Rattle.lks_law.specs.Broken.{peer_of, with_strange_vote, with_strange_bytes, with_lax_numbers, with_one_vote}
 use Rattle.lks_law.specs.Broken.{with_one_voter, with_later_votes, with_no_envelope}
 use Rattle.lks_law.specs.Histories.{IsHistory}
@@ -39,16 +39,14 @@ replaced au b bytes = record { number = 1; au = au; block = b; bytes = bytes }
 pub one_vote : (rules : Rules) (poller au b : ℕ) (bytes : List ℕ)
     → HasEvidence rules poller (with_one_vote au b bytes) → ⊥
 unfolding opening_of inner_votes votes has_member
-one_vote rules poller au b bytes has =
-    wanting rules poller (take 3 (with_one_vote au b bytes)) (replaced au b bytes) _ refl (omega arith)
-    (has 3 (Replaced 1 au b bytes) (replaced au b bytes) refl refl)
+one_vote rules poller au b bytes has = wanting rules poller _ _ _ refl (omega arith) (has 3 _ _ refl refl)
 
 -- nor has one with numbers by which votes may be a landslide both ways
 pub lax_numbers : (rules : Rules) (poller au b : ℕ) (bytes : List ℕ)
     → HasEvidence rules poller (with_lax_numbers au b bytes) → ⊥
 unfolding opening_of
 lax_numbers rules poller au b bytes has =
-    let e = has 4 (Replaced 1 au b bytes) (replaced au b bytes) refl refl in
+    let e = has 4 _ _ refl refl in
     let same : record {
       au = au;
       nonce = [];
@@ -76,31 +74,26 @@ pub one_voter : (rules : Rules) (poller au b : ℕ) (bytes : List ℕ)
     → HasEvidence rules poller (with_one_voter au b bytes) → ⊥
 unfolding opening_of inner_votes votes has_member
 one_voter rules poller au b bytes has =
-    doubled rules poller (take 4 (with_one_voter au b bytes)) (replaced au b bytes) _
+    doubled rules poller _ _ _
     (record { voter = 2; hashes = [] }) refl (omega arith) refl
-    (has 4 (Replaced 1 au b bytes) (replaced au b bytes) refl refl)
+    (has 4 _ _ refl refl)
 
 pub later_votes : (rules : Rules) (poller au b : ℕ) (bytes : List ℕ)
     → HasEvidence rules poller (with_later_votes au b bytes) → ⊥
 unfolding opening_of inner_votes votes has_member
-later_votes rules poller au b bytes has =
-    wanting rules poller (take 2 (with_later_votes au b bytes)) (replaced au b bytes) _ refl (omega arith)
-    (has 2 (Replaced 1 au b bytes) (replaced au b bytes) refl refl)
+later_votes rules poller au b bytes has = wanting rules poller _ _ _ refl (omega arith) (has 2 _ _ refl refl)
 
 pub strange_vote : (rules : Rules) (hashes : List (List ℕ)) → AreLinked (with_strange_vote rules hashes) → ⊥
 unfolding peer_at hashes_of_vote
 strange_vote rules hashes linked =
-    let voted = (linked.journals 0 (peer_of rules 1 (VoteIn 1 2 hashes ∷ [])) refl).counted 1
+    let voted = (linked.journals 0 _ refl).counted 1
     (record { voter = 2; hashes = hashes }) (peer_of rules 2 [])
     (record { place = 0; item = VoteIn 1 2 hashes; there = refl; said = refl }) refl in
     absurd cc
 
 pub strange_bytes : (rules : Rules) → AreLinked (with_strange_bytes rules) → ⊥
 unfolding peer_at decode_of heading_at
-strange_bytes rules linked =
-    let told = linked.envelopes 0 (record { from = 1; to = 2; bytes = [] }) (peer_of rules 1 []) refl refl in
-    let spelled = told.spelled in
-    absurd cc
+strange_bytes rules linked = let told = linked.envelopes 0 _ _ refl refl in let spelled = told.spelled in absurd cc
 
 pub no_envelope : (plan : Plan) → IsHistory plan with_no_envelope → ⊥
 unfolding start

@@ -40,8 +40,8 @@ running_apart second k [] l [] key len e = inl (e, refl)
 running_apart second k [] l (y ∷ ys) key len e = absurd (omega arith)
 running_apart second k (x ∷ xs) l [] key len e = absurd (omega arith)
 running_apart second k (x ∷ xs) l (y ∷ ys) key len e =
-    elim (running_apart second (linked second k x) xs (linked second l y) ys
-    (hash_length second (k ++ x) ∙ sym (hash_length second (l ++ y))) (omega arith) e) [
+    elim (running_apart second (linked second k x) xs _ ys
+    (hash_length second _ ∙ sym (hash_length second _)) (omega arith) e) [
       | inr twins ↦ inr (record {
         text = twins.text;
         twin = twins.twin;
@@ -50,13 +50,13 @@ running_apart second k (x ∷ xs) l (y ∷ ys) key len e =
         differ = twins.differ;
         same = twins.same;
       })
-      | inl same ↦ by_text (pointwise eqb (k ++ x) (l ++ y)) refl same.0 same.1
+      | inl same ↦ by_text _ refl same.0 same.1
     ]
   where
     by_text : (b : Bool) → pointwise eqb (k ++ x) (l ++ y) ≡ b → linked second k x ≡ linked second l y → xs ≡ ys
         → ((k ≡ l) × (x ∷ xs ≡ y ∷ ys)) ⊎ Twins second k (x ∷ xs) l (y ∷ ys)
     by_text true is hashes rest =
-        let parts = pieces k l x y key ((bytes_decides (k ++ x) (l ++ y)).0 is) in
+        let parts = pieces k l x y key ((bytes_decides _ _).0 is) in
         inl (parts.0, λ i. parts.1 i ∷ rest i)
     by_text false is hashes rest =
         inr (record {
@@ -64,7 +64,7 @@ running_apart second k (x ∷ xs) l (y ∷ ys) key len e =
           twin = l ++ y;
           of_one = record { place = 0; block = x; there = refl; is = refl };
           of_other = record { place = 0; block = y; there = refl; is = refl };
-          differ = apart_texts (k ++ x) (l ++ y) is;
+          differ = apart_texts _ _ is;
           same = hashes;
         })
 

@@ -15,7 +15,7 @@ use Rattle.lks_law.specs.Sessions.{committed_part, committed_in, committed_polls
 use Rattle.lks_law.specs.Sessions.{is_vote_for, votes_given, low_part, low_from, last_low}
 use Rattle.lks_law.specs.Taking.{Mark, mark_at, mark_put, marked_given, marks_told, marks_turned, marks_by}
 use Rattle.lks_law.proofs.Grown.{any_more}
-use Rattle.lks_law.proofs.Keyed.{Apart, at, at_push, first, same_poll, is_swapped}
+use Rattle.lks_law.proofs.Keyed.{Apart, at, same_poll, is_swapped}
 use Rattle.lks_law.proofs.RunningPolls.{pushed, filter_map_more}
 use Rattle.lks_tally.specs.declared.ballots.Vote.{Vote}
 
@@ -25,21 +25,6 @@ itself q = q
 -- whether a name stands in a list
 abbrev pub stands_in : PollName → List PollName → Bool
 stands_in q names = is_some (at itself q names)
-
-pushed_in : (q : PollName) (names : List PollName) (o : Option PollName)
-    → stands_in q (pushed names o) ≡ (stands_in q names || is_some (at itself q (cons_option o [])))
-pushed_in q names None = by_test (stands_in q names)
-  where
-    by_test : (b : Bool) → b ≡ (b || false)
-    by_test true = refl
-    by_test false = refl
-pushed_in q names (Some n) = ap is_some (at_push itself q names n) ∙ by_found (at itself q names)
-  where
-    by_found : (o : Option PollName)
-        → is_some (first o (cond (is_poll n q) (Some n) None))
-        ≡ (is_some o || is_some (cond {A = Option PollName} (is_poll n q) (Some n) None))
-    by_found None = refl
-    by_found (Some x) = refl
 
 -- the part of which a record says something, if it does
 abbrev named_if : {X : Type 0} → (Turn → Option X) → Option Part → Option PollName
@@ -52,9 +37,9 @@ named_is : {X : Type 0} (says : Turn → Option X) (q : PollName) (js : List Rec
     ≡ is_some (first_in (λ r. of_poll q says (part_of r)) js)
 named_is says q [] = refl
 named_is {X = X} says q (r ∷ rs) =
-    first_name (named_if says (part_of r)) (filter_map (λ r. named_if says (part_of r)) rs)
+    first_name (named_if says _) (filter_map _ rs)
     ∙ (λ i. by_part (part_of r) i || named_is says q rs i)
-    ∙ sym (first_has (of_poll q says (part_of r)) (first_in (λ r. of_poll q says (part_of r)) rs))
+    ∙ sym (first_has (of_poll q says _) (first_in (λ r. of_poll q says _) rs))
   where
     first_name : (o : Option PollName) (names : List PollName)
         → stands_in q (cons_option o names) ≡ (is_some (at itself q (cons_option o [])) || stands_in q names)
@@ -107,7 +92,7 @@ committed_stands q js =
 pub ended_more : (q : PollName) (js : List Record) (r : Record)
     → is_ended q (js ++ r ∷ []) ≡ cond (ends q r) true (is_ended q js)
 unfolding is_ended
-ended_more q js r = any_more (ends q) js r
+ended_more q js r = any_more _ js r
 
 pub joined_more : (js : List Record) (r : Record) → joined_polls (js ++ r ∷ []) ≡ pushed (joined_polls js) (joined_in r)
 unfolding joined_polls
@@ -122,11 +107,11 @@ committed_more js r = filter_map_more committed_in js r
 
 count_cons : (f : PollName → Bool) (n : PollName) (names : List PollName)
     → count_by f (n ∷ names) ≡ cond (f n) 1 0 + count_by f names
-count_cons f n names = sum_by-cons (λ q. cond (f q) 1 0) n names
+count_cons f n names = sum_by-cons _ n names
 
 pub count_push : (f : PollName → Bool) (names : List PollName) (n : PollName)
     → count_by f (names ++ n ∷ []) ≡ count_by f names + cond (f n) 1 0
-count_push f names n = sum_by_push (λ q. cond (f q) 1 0) names n
+count_push f names n = sum_by_push _ names n
 
 -- but for one name the tests agree, and it isn't there
 count_without : (f g : PollName → Bool) (n : PollName) (names : List PollName)
@@ -252,12 +237,12 @@ mark_of f js = record { peer = f; received = votes_received f js; given = votes_
 received_more : (f : ℕ) (js : List Record) (r : Record)
     → votes_received f (js ++ r ∷ []) ≡ votes_received f js + cond (is_vote_by f (said_by r).voted) 1 0
 unfolding votes_received
-received_more f js r = sum_by_push (λ j. cond (is_vote_by f (said_by j).voted) 1 0) js r
+received_more f js r = sum_by_push _ js r
 
 given_more : (f : ℕ) (js : List Record) (r : Record)
     → votes_given f (js ++ r ∷ []) ≡ votes_given f js + cond (is_vote_for f (part_of r)) 1 0
 unfolding votes_given
-given_more f js r = sum_by_push (λ j. cond (is_vote_for f (part_of j)) 1 0) js r
+given_more f js r = sum_by_push _ js r
 
 module _ (js : List Record) (ms : List Mark) (are : (f : ℕ) → mark_at f ms ≡ mark_of f js) where
   told_are : (o : Option (Told Vote)) (f : ℕ)
@@ -293,7 +278,7 @@ module _ (js : List Record) (ms : List Mark) (are : (f : ℕ) → mark_at f ms �
       → mark_at f (marked_given g ns)
       ≡ record { peer = f; received = k f; given = votes_given f js + cond (eqb g f) 1 0 }
   given_to ns k has g f =
-      marks_found f (record (mark_at g ns) { given = (mark_at g ns).given + 1 }) ns
+      marks_found f _ ns
       ∙ (λ i. cond (eqb (has g i).peer f) (record (has g i) { given = (has g i).given + 1 }) (has f i))
       ∙ by_test (eqb g f) refl
     where
@@ -316,7 +301,7 @@ module _ (js : List Record) (ms : List Mark) (are : (f : ℕ) → mark_at f ms �
       has f
       ∙ (let more : votes_given f js
       ≡ votes_given f js
-      + cond b 1 0 = (let none : ◌≡◌ {A = ℕ} (cond b 1 0) 0 = ap (λ b. cond b 1 0) e in omega (arith, none))
+      + cond b 1 0 = (let none : ◌≡◌ {A = ℕ} _ 0 = ap (λ b. cond b 1 0) e in omega (arith, none))
       in λ i. record { peer = f; received = k f; given = more i })
 
   and_false : (b : Bool) → (b && false) ≡ false
@@ -342,22 +327,19 @@ module _ (js : List Record) (ms : List Mark) (are : (f : ℕ) → mark_at f ms �
             received = k f;
             given = votes_given f js + cond (eqb p.poll.poller f && is_some (hashes_by t)) 1 0;
           }
-      by_turn (Turn.Joins j) = none_given ns k has (eqb p.poll.poller f && false) (and_false (eqb p.poll.poller f)) f
-      by_turn (Turn.Commits c) = none_given ns k has (eqb p.poll.poller f && false) (and_false (eqb p.poll.poller f)) f
+      by_turn (Turn.Joins j) = none_given ns k has _ (and_false _) f
+      by_turn (Turn.Commits c) = none_given ns k has _ (and_false _) f
       by_turn (Turn.Votes hashes) =
           given_to ns k has p.poll.poller f
           ∙ ap (λ b. record { peer = f; received = k f; given = votes_given f js + cond b 1 0 })
-          (sym (and_true (eqb p.poll.poller f)))
-      by_turn (Turn.Serves block) =
-          none_given ns k has (eqb p.poll.poller f && false) (and_false (eqb p.poll.poller f)) f
-      by_turn Turn.Ends = none_given ns k has (eqb p.poll.poller f && false) (and_false (eqb p.poll.poller f)) f
+          (sym (and_true _))
+      by_turn (Turn.Serves block) = none_given ns k has _ (and_false _) f
+      by_turn Turn.Ends = none_given ns k has _ (and_false _) f
 
   pub marks_more : (r : Record) (f : ℕ)
       → mark_at f (marks_by (part_of r) (marks_told (said_by r).voted ms)) ≡ mark_of f (js ++ r ∷ [])
   marks_more r f =
-      marks_by_part (marks_told (said_by r).voted ms)
-      (λ f. votes_received f js + cond (is_vote_by f (said_by r).voted) 1 0) (told_are (said_by r).voted)
-      (part_of r) f
+      marks_by_part _ _ (told_are (said_by r).voted) _ f
       ∙ (λ i. record { peer = f; received = sym (received_more f js r) i; given = sym (given_more f js r) i })
 
 -- The last admission of a peer of low grade.
@@ -365,7 +347,7 @@ module _ (js : List Record) (ms : List Mark) (are : (f : ℕ) → mark_at f ms �
 low_after : (before : Option ℕ) (js : List Record) (r : Record)
     → low_from before (js ++ r ∷ []) ≡ low_part (low_from before js) (part_of r)
 low_after before [] r = refl
-low_after before (j ∷ js) r = low_after (low_part before (part_of j)) js r
+low_after before (j ∷ js) r = low_after (low_part before _) js r
 
 pub low_more : (js : List Record) (r : Record) → last_low (js ++ r ∷ []) ≡ low_part (last_low js) (part_of r)
 unfolding last_low

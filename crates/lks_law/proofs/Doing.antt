@@ -1,7 +1,7 @@
 -- What each row adds and sends.
 use Rattle.std.proofs.Common.{◌≡◌, ◌≤◌, ◌<◌, ◌^◌, ◌+◌, ◌∙◌, ◌⊎◌, inl, inr, ap, sym, subst, ℕ, Bool, true, false, cond}
 use Rattle.std.proofs.Common.{eqb, List, [], ◌∷◌, ◌++◌, length, refl, arith}
-use Rattle.std.specs.Prelude.{Option, Some, None, is_some, not, map, ◌&&◌, nat_lt, count_by, slice_get}
+use Rattle.std.specs.Prelude.{Option, Some, None, is_some, not, map, ◌&&◌, slice_get}
 use Rattle.std.specs.List.{filter_map, cons_option, list_any}
 use Rattle.std.proofs.lemmas.Bool.{eqb-true, eq-eqb, and_parts, cond_both}
 use Rattle.lks_base.specs.declared.limits.TheConstants.{MOST_BLOCK_BYTES}
@@ -22,27 +22,27 @@ use Rattle.lks_base.specs.declared.records.Record.{Record}
 use Rattle.lks_base.specs.declared.records.Record.TheVariants as records
 use Rattle.lks_hash.specs.Hashes.{nonce_from}
 use Rattle.lks_law.specs.Journal.{Opening, Request, deposit_of, contents_of, contents_at, opening_in, opening_of}
-use Rattle.lks_law.specs.Journal.{openings, is_opening, opens_running, opens_open, is_voting, is_widened}
+use Rattle.lks_law.specs.Journal.{openings, is_opening, opens_running}
 use Rattle.lks_law.specs.Journal.{unanswered_request}
-use Rattle.lks_law.specs.Polls.{Station, limits_of, ballot_of, inner_votes, limits_in_force, votes, verdict_in}
-use Rattle.lks_law.specs.Polls.{candidate, restores}
+use Rattle.lks_law.specs.Polls.{Station, limits_of, limits_in_force, verdict_in}
+use Rattle.lks_law.specs.Polls.{candidate}
 use Rattle.lks_law.specs.References.{inner_circle, outer_circle, reference_list}
-use Rattle.lks_law.specs.Reaction.{no_effect, letter, for_opening, may_open, opens_poll, on_open, invites_outer}
-use Rattle.lks_law.specs.Reaction.{on_widen, silent_voters, reminds_silent, asked_again, on_nudge, given_up}
-use Rattle.lks_law.specs.Reaction.{on_give_up, receipts, is_inquorate, shut_inquorate, ends_voting, on_shut}
-use Rattle.lks_law.specs.Reaction.{may_tally, closes_poll, asks_supplier, follows_verdict, on_tally, must_note}
-use Rattle.lks_law.specs.Reaction.{overdue_in, on_check, may_prove, sends_proof, on_challenge, may_nominate}
-use Rattle.lks_law.specs.Reaction.{notes_nominees, on_nominate, is_accepted, may_vote, counts_vote, on_vote}
+use Rattle.lks_law.specs.Reaction.{no_effect, letter, for_opening, may_open, opens_poll, on_open}
+use Rattle.lks_law.specs.Reaction.{on_widen, silent_voters, asked_again, on_nudge, given_up}
+use Rattle.lks_law.specs.Reaction.{on_give_up, receipts, shut_inquorate, ends_voting, on_shut}
+use Rattle.lks_law.specs.Reaction.{closes_poll, asks_supplier, follows_verdict, on_tally, must_note}
+use Rattle.lks_law.specs.Reaction.{overdue_in, on_check, may_prove, sends_proof, on_challenge}
+use Rattle.lks_law.specs.Reaction.{notes_nominees, on_nominate, may_vote, counts_vote, on_vote}
 use Rattle.lks_law.specs.Reaction.{is_request, may_repair, takes_repair, on_repair}
 use Rattle.lks_law.specs.Sessions.{Join, Commitment, first_in, hashes_in, join_of, commitment_of, hashes_of_vote}
 use Rattle.lks_law.specs.Sessions.{served_blocks, is_session, version_now}
-use Rattle.lks_law.specs.Voting.{poll_named, answers, may_join, joins_poll, on_invitation, nominates, repeats}
+use Rattle.lks_law.specs.Voting.{poll_named, may_join, joins_poll, on_invitation, nominates, repeats}
 use Rattle.lks_law.specs.Voting.{vote_again, commits, proved_to, on_proof, vote_hashes, casts_vote, on_work}
-use Rattle.lks_law.specs.Voting.{most_served, repair, gives, serves, answers_request, on_request, on_end, may_tune}
+use Rattle.lks_law.specs.Voting.{most_served, repair, gives, serves, answers_request, on_request, on_end}
 use Rattle.lks_law.specs.Voting.{on_tune}
 use Rattle.lks_law.specs.Table.{on_message, reaction}
 use Rattle.lks_law.specs.World.{Standing, peer_at}
-use Rattle.lks_law.specs.Linked.{Has, IsVoteOver}
+use Rattle.lks_law.specs.Linked.{Has}
 use Rattle.lks_law.proofs.Linked.{Each, Any, Heard, Fact}
 use Rattle.lks_law.proofs.Growing.{opening_first, openings_grow}
 use Rattle.lks_law.proofs.Grown.{openings_more}
@@ -54,7 +54,6 @@ use Rattle.lks_law.proofs.Letters.{Sends, sends_so, nominates_so}
 use Rattle.lks_law.proofs.Linking.{says_grows}
 use Rattle.lks_tally.specs.declared.ballots.Verdict.{Verdict}
 use Rattle.lks_tally.specs.declared.ballots.Verdict.TheVariants as verdict
-use Rattle.lks_tally.specs.declared.ballots.Vote.{Vote}
 use Rattle.lks_tally.proofs.Deciding.{loss_first}
 use Rattle.lks_voter.specs.Voting.{answer_of}
 use Rattle.lks_voter.specs.declared.commitments.Serve.{Serve}
@@ -102,7 +101,7 @@ pub not_open : (r : Record) (rs : List Record) → is_opening r ≡ false → op
 not_open r rs is rest =
     let one = openings_more [] r in
     let all = openings_grow (r ∷ []) rs in
-    let first : openings (r ∷ []) ≡ openings [] + 0 = one ∙ ap (λ b. openings [] + cond b 1 0) is in
+    let first : openings _ ≡ openings [] + 0 = one ∙ ap (λ b. openings [] + cond b 1 0) is in
     let none = none_open in
     omega (arith, all, first, none, rest)
 
@@ -151,16 +150,15 @@ module _ (peers : List Standing) (own : Station) (js : List Record) (all : Each 
       → Sends (js ++ added) (letter (message.Poll n o.au) v)
   poll_letter added n o v opened =
       let fact = opening_fact peers own js all n o opened in
-      sends_so (js ++ added) (message.Poll n o.au) v (tt, (opened_low peers own js all n o room opened, fact.au))
+      sends_so _ _ v (tt, (opened_low peers own js all n o room opened, fact.au))
       (says_grows js added v (message.Poll n o.au)
-      (has_is (λ (x : Opening). x.au ≡ o.au) (opening_of n js) o opened refl))
+      (has_is _ _ o opened refl))
 
   -- Poller.
 
   new_number : (o : Option Opening) → opening_of (openings js + 1) js ≡ o → o ≡ None
   new_number None e = refl
-  new_number (Some o) e =
-      let low = (opening_fact peers own js all (openings js + 1) o e).low in absurd (omega (arith, low))
+  new_number (Some o) e = let low = (opening_fact peers own js all _ o e).low in absurd (omega (arith, low))
 
   does_open : (tick au : ℕ) → Does peers own js (on_open own js tick au)
   unfolding on_open may_open
@@ -168,7 +166,7 @@ module _ (peers : List Standing) (own : Station) (js : List Record) (all : Each 
       let n = openings js + 1 in
       let nonce = nonce_from own.seed n in
       let inner = inner_circle own n js in
-      let r = records.PollOpened n au nonce inner tick (Some (limits_in_force own.rules js)) own.hash in
+      let r = records.PollOpened n au nonce inner tick _ own.hash in
       let here : Opening = record {
         au = au;
         nonce = nonce;
@@ -180,18 +178,17 @@ module _ (peers : List Standing) (own : Station) (js : List Record) (all : Each 
       let held = (and_parts (is_some (deposit_of au js)) _
       (and_parts (is_some (deposit_of au js) && not (list_any (opens_running au js) js)) _
       (and_parts
-      (is_some (deposit_of au js) && not (list_any (opens_running au js) js)
-      && nat_lt (count_by (opens_open js) js) 8) _ may).0).0).0 in
+      _ _ may).0).0).0 in
       let small = is_held (deposit_of au js) refl held in
-      let found : opening_of n (js ++ r ∷ [])
+      let found : opening_of n _
       ≡ Some here = opening_first n (js ++ r ∷ [])
-      ∙ first_new (opening_in n) js (r ∷ []) (sym (opening_first n js) ∙ new_number (opening_of n js) refl)
+      ∙ first_new (opening_in n) js _ (sym (opening_first n js) ∙ new_number (opening_of n js) refl)
       ∙ first_is here in
-      does_one r (map (letter (message.Poll n au)) inner)
-      (new_number (opening_of n js) refl, (omega (arith, grown), nonce_length own.seed n, small))
-      (send_all (js ++ r ∷ []) (letter (message.Poll n au)) inner (λ v.
-      sends_so (js ++ r ∷ []) (message.Poll n au) v (tt, (room, small))
-      (has_is (λ (x : Opening). x.au ≡ au) (opening_of n (js ++ r ∷ [])) here found refl))))
+      does_one r _
+      (new_number _ refl, (omega (arith, grown), nonce_length own.seed n, small))
+      (send_all _ (letter (message.Poll n au)) inner (λ v.
+      sends_so _ _ v (tt, (room, small))
+      (has_is (λ (x : Opening). x.au ≡ au) _ here found refl))))
     where
       is_held : (o : Option (List (List ℕ))) → deposit_of au js ≡ o → is_some o ≡ true → au < 2 ^ 16
       is_held None e held = absurd cc
@@ -203,32 +200,27 @@ module _ (peers : List Standing) (own : Station) (js : List Record) (all : Each 
           ≡ Some x
       first_is x =
           ap (λ b. cond (is_some (cond b (Some x) None)) (cond b (Some x) None) None)
-          (eq-eqb (openings js + 1) (openings js + 1) refl)
+          (eq-eqb _ (openings js + 1) refl)
 
   does_widen : (n : ℕ) → Does peers own js (on_widen own js n)
   unfolding on_widen
   does_widen n =
-      does_if _ (for_opening (opening_of n js) (invites_outer own js n))
-      (λ may. does_opening (opening_of n js) (invites_outer own js n) (λ o opened.
+      does_if _ _ (λ may. does_opening (opening_of n js) _ (λ o opened.
       let r = records.OuterOpened n (outer_circle own n o js) in
       does_one r _ tt
       (send_all (js ++ r ∷ []) (letter (message.Poll n o.au)) (outer_circle own n o js)
-      (λ v. poll_letter (r ∷ []) n o v opened))))
+      (λ v. poll_letter _ n o v opened))))
 
   request_letter : (after : List Record) (n b v : ℕ) (o : Opening) → opening_of n js ≡ Some o
       → b < length (contents_of o.au js) → Sends after (letter (message.RepairRequest n b) v)
   request_letter after n b v o opened within =
-      sends_so after (message.RepairRequest n b) v (request_limits peers own js all n b o room opened within) tt
+      sends_so after _ v (request_limits peers own js all n b o room opened within) tt
 
   does_nudge : (n : ℕ) → Does peers own js (on_nudge js n)
   unfolding on_nudge
   does_nudge n =
-      cond_both (is_voting n js) (for_opening (opening_of n js) (reminds_silent js n))
-      (asked_again n (unanswered_request n js)) (Does peers own js)
-      (λ voting. does_opening (opening_of n js) (reminds_silent js n)
-      (λ o opened. does_send _
-      (send_all (js ++ []) (letter (message.Poll n o.au)) (silent_voters n o js)
-      (λ v. poll_letter [] n o v opened))))
+      cond_both _ _ _ (Does peers own js) (λ voting. does_opening _ _ (λ o opened. does_send _
+      (send_all _ _ (silent_voters n o js) (λ v. poll_letter [] n o v opened))))
       (λ over. by_request (unanswered_request n js) (request_fact peers own js all n))
     where
       by_opening : (r : Request) (o : Option Opening) → opening_of n js ≡ o
@@ -252,17 +244,13 @@ module _ (peers : List Standing) (own : Station) (js : List Record) (all : Each 
 
   sent_receipts : (after : List Record) (n : ℕ) → n < 2 ^ 32 → Each (Sends after) (receipts n js)
   unfolding receipts
-  sent_receipts after n low =
-      send_all after (λ (v : Vote). letter (message.Receipt n) v.voter) (votes n js)
-      (λ v. sends_so after (message.Receipt n) v.voter (tt, low) tt)
+  sent_receipts after n low = send_all after _ _ (λ v. sends_so after _ v.voter (tt, low) tt)
 
   does_shut : (tick n : ℕ) → Does peers own js (on_shut own js tick n)
   unfolding on_shut
   does_shut tick n =
-      does_if (is_voting n js) (for_opening (opening_of n js) (ends_voting own js tick n))
-      (λ voting. does_opening (opening_of n js) (ends_voting own js tick n) (λ o opened.
-      cond_both (is_inquorate own n o js) (shut_inquorate js tick n) _ (Does peers own js)
-      (λ few. record {
+      does_if _ _ (λ voting. does_opening (opening_of n js) (ends_voting own js tick n) (λ o opened.
+      cond_both _ (shut_inquorate js tick n) _ (Does peers own js) (λ few. record {
         adds_all = (tt, (tt, tt));
         one =
             (let none = not_open (records.Shut n) (records.Closed n outcome.Inquorate tick ∷ []) refl
@@ -275,36 +263,29 @@ module _ (peers : List Standing) (own : Station) (js : List Record) (all : Each 
   does_closed : (tick n : ℕ) (how : Outcome) (o : Opening) → opening_of n js ≡ Some o
       → Does peers own js (closes_poll js tick n how)
   unfolding closes_poll
-  does_closed tick n how o opened =
-      does_one (records.Closed n how tick) (receipts n js) tt
-      (sent_receipts _ n (opened_low peers own js all n o room opened))
+  does_closed tick n how o opened = does_one _ _ tt (sent_receipts _ n (opened_low peers own js all n o room opened))
 
   does_tally : (tick n : ℕ) → Does peers own js (on_tally own js tick n)
   unfolding on_tally verdict_in
   does_tally tick n =
-      does_if (may_tally n js)
-      (for_opening (opening_of n js) (λ o. follows_verdict own js tick n o (verdict_in own n o js))) (λ may.
-      does_opening (opening_of n js) (λ o. follows_verdict own js tick n o (verdict_in own n o js))
-      (λ o opened. by_verdict o opened (verdict_in own n o js) refl))
+      does_if _ _ (λ may. does_opening _ _ (λ o opened. by_verdict o opened (verdict_in own n o js) refl))
     where
       by_candidate : (b : ℕ) (o : Opening) → opening_of n js ≡ Some o → b < length (contents_of o.au js)
           → (v : Option ℕ) → Does peers own js (asks_supplier js tick n b v)
-      by_candidate b o opened within None = does_closed tick n (outcome.NoSupplier b) o opened
+      by_candidate b o opened within None = does_closed tick n _ o opened
       by_candidate b o opened within (Some v) =
-          does_one (records.Asked n b v) _
-          (has_is (λ (x : Opening). b < length (contents_of x.au js)) (opening_of n js) o opened within)
-          (request_letter _ n b v o opened within, tt)
+          does_one _ _ (has_is _ _ o opened within) (request_letter _ n b v o opened within, tt)
 
       by_verdict : (o : Opening) → opening_of n js ≡ Some o → (v : Verdict) → verdict_in own n o js ≡ v
           → Does peers own js (follows_verdict own js tick n o v)
       by_verdict o opened verdict.Inquorate is = does_nothing
       by_verdict o opened verdict.Agreed is = does_closed tick n outcome.Agreed o opened
-      by_verdict o opened (verdict.Split b) is = does_closed tick n (outcome.Split b) o opened
+      by_verdict o opened (verdict.Split b) is = does_closed tick n _ o opened
       by_verdict o opened (verdict.Loss b) is =
           let limits = limits_of own.rules o in
           let copy = contents_of o.au js in
           by_candidate b o opened
-          (loss_first limits.minority (ballot_of own n o (length copy)) (inner_votes n o.inner js) copy
+          (loss_first limits.minority _ _ copy
           limits.quorum b is).1.within (candidate own n o b js)
 
   does_check : (tick : ℕ) → Does peers own js (on_check own js tick)
@@ -349,21 +330,20 @@ module _ (peers : List Standing) (own : Station) (js : List Record) (all : Each 
               (cons_option (cond b (Some (records.Overdue au.id tick)) None)
               (filter_map (overdue_in own js tick) aus))
               ≡ 0
-          by_test true rest = not_open (records.Overdue au.id tick) _ refl rest
+          by_test true rest = not_open _ _ refl rest
           by_test false rest = rest
 
   does_challenge : (from n : ℕ) (agrees : Bool) → Does peers own js (on_challenge own js from n agrees)
   unfolding on_challenge
   does_challenge from n agrees =
-      does_if (agrees && is_voting n js) (for_opening (opening_of n js) (sends_proof own js from n))
-      (λ may. does_opening (opening_of n js) (sends_proof own js from n) (λ o opened.
+      does_if _ _ (λ may. does_opening _ (sends_proof own js from n) (λ o opened.
       does_if (may_prove js from n o) _ (λ proves.
       let fact = opening_fact peers own js all n o opened in
       let m = message.PollProof n o.nonce o.kind own.proof in
       does_send _ (
-        sends_so (js ++ []) m from (proof, (opened_low peers own js all n o room opened, fact.nonce))
+        sends_so _ m from (proof, (opened_low peers own js all n o room opened, fact.nonce))
             (says_grows js [] from m
-            (has_is (λ (x : Opening). (x.nonce ≡ o.nonce) × (x.kind ≡ o.kind)) (opening_of n js) o opened
+            (has_is _ _ o opened
             (refl, refl))),
         tt,
       ))))
@@ -371,22 +351,18 @@ module _ (peers : List Standing) (own : Station) (js : List Record) (all : Each 
   does_nominate : (from n : ℕ) (nominees : List ℕ) → Does peers own js (on_nominate js from n nominees)
   unfolding on_nominate
   does_nominate from n nominees =
-      does_if (is_voting n js && not (is_widened n js))
-      (for_opening (opening_of n js) (notes_nominees js from n nominees))
-      (λ may. does_opening (opening_of n js) (notes_nominees js from n nominees) (λ o opened.
-      does_if (may_nominate js from n o) _ (λ first. does_one (records.Nominated n from nominees) [] tt tt)))
+      does_if _ _ (λ may. does_opening (opening_of n js) (notes_nominees js from n nominees) (λ o opened.
+      does_if _ _ (λ first. does_one (records.Nominated n from nominees) [] tt tt)))
 
   does_vote : (from n : ℕ) (hashes : List (List ℕ)) (sent : List ℕ) (judged : Judged)
       → Heard (peer_at from peers) own.id (message.Vote n hashes sent)
       → Does peers own js (on_vote js from n hashes judged)
   unfolding on_vote may_vote
   does_vote from n hashes sent judged heard =
-      does_if (is_accepted judged && is_voting n js) (for_opening (opening_of n js) (counts_vote js from n hashes))
-      (λ may. does_opening (opening_of n js) (counts_vote js from n hashes) (λ o opened.
-      does_if (may_vote js from n (length hashes) o) _ (λ counts.
+      does_if _ _ (λ may. does_opening _ (counts_vote js from n hashes) (λ o opened. does_if _ _ (λ counts.
       does_one (records.VoteIn n from hashes) [] (
         heard.1,
-        has_is (λ (x : Opening). length hashes ≡ length (contents_of x.au js)) (opening_of n js) o opened
+        has_is _ (opening_of n js) o opened
             (eqb-true _ _ (and_parts _ (eqb (length hashes) (length (contents_of o.au js))) counts).1),
       ) tt)))
 
@@ -394,11 +370,9 @@ module _ (peers : List Standing) (own : Station) (js : List Record) (all : Each 
       → Does peers own js (on_repair own js from n b bytes)
   unfolding on_repair may_repair
   does_repair from n b bytes small =
-      does_if (may_repair js from n b) (for_opening (opening_of n js) (takes_repair own js from n b bytes))
-      (λ may. does_opening (opening_of n js) (takes_repair own js from n b bytes) (λ o opened.
-      cond_both (restores own n o b bytes js)
+      does_if _ _ (λ may. does_opening (opening_of n js) (takes_repair own js from n b bytes) (λ o opened. cond_both _
       (record { records = records.Replaced n o.au b bytes ∷ []; sends = [] }) _ (Does peers own js)
-      (λ good. does_one (records.Replaced n o.au b bytes) []
+      (λ good. does_one _ []
       (by_request (unanswered_request n js) o opened may (request_fact peers own js all n), small) tt)
       (λ bad. does_one (records.RepairBad n b from) [] tt tt)))
     where
@@ -414,19 +388,16 @@ module _ (peers : List Standing) (own : Station) (js : List Record) (all : Each 
 
   challenge_letter : (after : List Record) (n : ℕ) (agrees : Bool) (to : ℕ) → n < 2 ^ 32
       → Sends after (letter (message.PollChallenge n agrees) to)
-  challenge_letter after n agrees to low = sends_so after (message.PollChallenge n agrees) to (tt, low) tt
+  challenge_letter after n agrees to low = sends_so after _ to (tt, low) tt
 
   does_invitation : (tick from n au : ℕ) → Heard (peer_at from peers) own.id (message.Poll n au)
       → Does peers own js (on_invitation own js tick (poll_named from n) au)
   unfolding on_invitation may_join
   does_invitation tick from n au heard =
-      cond_both (is_session (poll_named from n) js) (answers (letter (message.PollChallenge n true) from)) _
-      (Does peers own js)
-      (λ runs. does_send _ (challenge_letter _ n true from heard.0.1.0, tt))
-      (λ new.
-      cond_both (may_join own js tick (poll_named from n) au) (joins_poll own js tick (poll_named from n) au) _
-      (Does peers own js)
-      (λ may. does_one _ _ (none_is (join_of (poll_named from n) js) (joins_new may), (heard.0.1.0, heard.1))
+      cond_both (is_session _ js) _ _ (Does peers own js)
+      (λ runs. does_send _ (challenge_letter _ n true from heard.0.1.0, tt)) (λ new.
+      cond_both _ (joins_poll own js tick (poll_named from n) au) _ (Does peers own js)
+      (λ may. does_one _ _ (none_is (join_of _ js) (joins_new may), (heard.0.1.0, heard.1))
       (challenge_letter _ n true from heard.0.1.0, tt))
       (λ not. does_send _ (challenge_letter _ n false from heard.0.1.0, tt)))
     where
@@ -440,15 +411,14 @@ module _ (peers : List Standing) (own : Station) (js : List Record) (all : Each 
 
   nominates_letter : (after : List Record) (q : PollName) → q.number < 2 ^ 32
       → Sends after (nominates own (reference_list own js) q)
-  nominates_letter after q low = nominates_so after q.number _ q.poller low (few_nominees own (reference_list own js) q)
+  nominates_letter after q low = nominates_so after q.number _ q.poller low (few_nominees own _ q)
 
   does_proof : (from n : ℕ) (nonce : List ℕ) (kind : HashKind) (sent : List ℕ) (judged : Judged)
       → Heard (peer_at from peers) own.id (message.PollProof n nonce kind sent)
       → Does peers own js (on_proof own js (poll_named from n) nonce kind judged)
   unfolding on_proof
   does_proof from n nonce kind sent judged heard =
-      does_if (is_session q js) (proved_to own js q nonce kind judged (join_of q js) (commitment_of q js))
-      (λ runs. by_session (join_of q js) (commitment_of q js) refl refl)
+      does_if _ _ (λ runs. by_session (join_of q js) (commitment_of q js) refl refl)
     where
       q : PollName
       q = poll_named from n
@@ -459,7 +429,7 @@ module _ (peers : List Standing) (own : Station) (js : List Record) (all : Each 
           does_one _ _ (
             new,
             (
-              has_is (λ (x : Join). version_now j.au js ≤ version_now x.au js) (join_of q js) j joined
+              has_is _ _ j joined
                   (omega arith),
               heard.1,
             ),
@@ -470,7 +440,7 @@ module _ (peers : List Standing) (own : Station) (js : List Record) (all : Each 
       by_vote : (o : Option (List (List ℕ))) → hashes_of_vote q js ≡ o → Each (Sends (js ++ [])) (vote_again own q o)
       by_vote None voted = tt
       by_vote (Some hashes) voted = (
-        sends_so (js ++ []) (message.Vote n hashes own.proof) from
+        sends_so _ _ from
             (voted_limits peers own js all q hashes proof voted)
             (says_grows js [] from (message.Vote n hashes own.proof) voted),
         tt,
@@ -481,8 +451,7 @@ module _ (peers : List Standing) (own : Station) (js : List Record) (all : Each 
       by_session None c joined committed = does_nothing
       by_session (Some j) None joined committed = by_judged j judged committed joined
       by_session (Some j) (Some c) joined committed =
-          does_if (repeats c nonce kind) _
-          (λ same. does_send _ (
+          does_if (repeats c nonce kind) _ (λ same. does_send _ (
             nominates_letter _ q (join_fact peers own js all q j joined),
             by_vote (hashes_of_vote q js) refl,
           ))
@@ -490,8 +459,7 @@ module _ (peers : List Standing) (own : Station) (js : List Record) (all : Each 
   does_work : (q : PollName) → Does peers own js (on_work own js q)
   unfolding on_work hashes_of_vote
   does_work q =
-      does_if (is_session q js) (casts_vote own js q (join_of q js) (commitment_of q js) (hashes_of_vote q js))
-      (λ runs. by_session (join_of q js) (commitment_of q js) (hashes_of_vote q js) refl refl refl)
+      does_if _ _ (λ runs. by_session (join_of q js) (commitment_of q js) (hashes_of_vote q js) refl refl refl)
     where
       first_is : (hashes : List (List ℕ)) → first_in (hashes_in q) (records.Voted q hashes ∷ []) ≡ Some hashes
       first_is hashes =
@@ -500,20 +468,20 @@ module _ (peers : List Standing) (own : Station) (js : List Record) (all : Each 
 
       found : (hashes : List (List ℕ)) → hashes_of_vote q js ≡ None
           → hashes_of_vote q (js ++ records.Voted q hashes ∷ []) ≡ Some hashes
-      found hashes new = first_new (hashes_in q) js (records.Voted q hashes ∷ []) new ∙ first_is hashes
+      found hashes new = first_new (hashes_in q) js _ new ∙ first_is hashes
 
       by_session : (j : Option Join) (c : Option Commitment) (h : Option (List (List ℕ))) → join_of q js ≡ j
           → commitment_of q js ≡ c → hashes_of_vote q js ≡ h → Does peers own js (casts_vote own js q j c h)
       by_session (Some j) (Some c) None joined committed new =
-          let hashes = vote_hashes own.id q j.au c (contents_at j.au c.version js) in
-          let low = is_had (λ (x : Join). c.version ≤ version_now x.au js) (join_of q js) j joined
+          let hashes = vote_hashes own.id q j.au c _ in
+          let low = is_had _ _ j joined
           (committed_fact peers own js all q c committed) in
-          does_one (records.Voted q hashes) _ (
+          does_one _ _ (
             new,
-            has_is (λ (x : Join). Has (IsVoteOver own js q hashes x) (commitment_of q js)) (join_of q js) j
-                joined (has_is (IsVoteOver own js q hashes j) (commitment_of q js) c committed (low, refl)),
+            has_is _ _ j
+                joined (has_is _ _ c committed (low, refl)),
           ) (
-            sends_so (js ++ records.Voted q hashes ∷ []) (message.Vote q.number hashes own.proof) q.poller
+            sends_so _ _ q.poller
                 (vote_limits peers own js all q j c hashes proof joined refl) (found hashes new),
             tt,
           )
@@ -521,44 +489,36 @@ module _ (peers : List Standing) (own : Station) (js : List Record) (all : Each 
 
   does_request : (q : PollName) (b : ℕ) → Does peers own js (on_request own js q b)
   unfolding on_request
-  does_request q b =
-      does_if (is_session q js)
-      (answers_request own js q b (join_of q js) (commitment_of q js) (hashes_of_vote q js))
-      (λ runs. by_session (join_of q js) (commitment_of q js) (hashes_of_vote q js) refl)
+  does_request q b = does_if _ _ (λ runs. by_session (join_of q js) (commitment_of q js) (hashes_of_vote q js) refl)
     where
       by_block : (j : Join) (c : Commitment) (o : Option (List ℕ)) → join_of q js ≡ Some j
           → slice_get (contents_at j.au c.version js) b ≡ o
           → Does peers own js (serves q b (most_served own.rules j.repairs) (served_blocks q js) o)
       by_block j c None joined at = does_nothing
-      by_block j c (Some bytes) joined at =
-          by_answer (answer_of (served_blocks q js) b (most_served own.rules j.repairs))
+      by_block j c (Some bytes) joined at = by_answer (answer_of _ b _)
         where
           sends : (after : List Record) → Sends after (repair q b bytes)
           sends after =
-              sends_so after (message.Repair q.number b bytes) q.poller
-              (repair_limits peers own js all q.number j.au c.version b bytes
+              sends_so after _ q.poller (repair_limits peers own js all q.number j.au c.version b bytes
               (join_fact peers own js all q j joined) at) tt
 
           by_answer : (a : Serve) → Does peers own js (gives q b bytes a)
-          by_answer First = does_one (records.Served q b) _ tt (sends _, tt)
+          by_answer First = does_one _ _ tt (sends _, tt)
           by_answer Again = does_send _ (sends _, tt)
           by_answer Spent = does_nothing
 
       by_session : (j : Option Join) (c : Option Commitment) (h : Option (List (List ℕ))) → join_of q js ≡ j
           → Does peers own js (answers_request own js q b j c h)
-      by_session (Some j) (Some c) (Some hashes) joined =
-          by_block j c (slice_get (contents_at j.au c.version js) b) joined refl
+      by_session (Some j) (Some c) (Some hashes) joined = by_block j c (slice_get _ b) joined refl
       by_session j c h joined = does_nothing
 
   does_end : (q : PollName) → Does peers own js (on_end js q)
   unfolding on_end
-  does_end q = does_if (is_session q js) _ (λ runs. does_one (records.Ended q) [] tt tt)
+  does_end q = does_if _ _ (λ runs. does_one (records.Ended q) [] tt tt)
 
   does_tune : (quorum minority repairs : ℕ) → Does peers own js (on_tune own quorum minority repairs)
   unfolding on_tune
-  does_tune quorum minority repairs =
-      does_if (may_tune own.rules quorum minority repairs) _
-      (λ may. does_one (records.Tuned quorum minority repairs) [] tt tt)
+  does_tune quorum minority repairs = does_if _ _ (λ may. does_one (records.Tuned quorum minority repairs) [] tt tt)
 
   -- what is known of an input
   abbrev pub Known : Input → Type 0
@@ -573,9 +533,9 @@ module _ (peers : List Standing) (own : Station) (js : List Record) (all : Each 
       does_proof from n nonce kind sent judged heard
   does_message tick from (message.Nominate n nominees) judged heard = does_nominate from n nominees
   does_message tick from (message.Vote n hashes sent) judged heard = does_vote from n hashes sent judged heard
-  does_message tick from (message.RepairRequest n b) judged heard = does_request (poll_named from n) b
+  does_message tick from (message.RepairRequest n b) judged heard = does_request _ b
   does_message tick from (message.Repair n b bytes) judged heard = does_repair from n b bytes heard.0.0.1
-  does_message tick from (message.Receipt n) judged heard = does_end (poll_named from n)
+  does_message tick from (message.Receipt n) judged heard = does_end _
 
   pub does_all : (tick : ℕ) (i : Input) → Known i → Does peers own js (reaction own js tick i)
   unfolding reaction

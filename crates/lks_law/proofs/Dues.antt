@@ -17,10 +17,9 @@ use Rattle.lks_law.specs.Due.{turns, first_own, first_due, next_to_deliver, next
 use Rattle.lks_law.specs.Due.{dues, is_work, IsEventOf, IsDue}
 use Rattle.lks_law.specs.Histories.{IsHonest, MayStep, MayHappen, WasSent}
 use Rattle.lks_law.specs.Journal.{openings, is_running, is_voting, is_widened, unanswered_request}
-use Rattle.lks_law.specs.Questions.{Verdicts, judgement_on, question_at, question_on, questions, event_of}
+use Rattle.lks_law.specs.Questions.{Verdicts, judgement_on, question_on, event_of}
 use Rattle.lks_law.specs.Questions.{OwnAsksNothing}
 use Rattle.lks_law.specs.Reaction.{may_tally}
-use Rattle.lks_law.specs.Sessions.{may_work, committed_polls}
 use Rattle.lks_law.specs.World.{World, Standing, world}
 
 module _ (plan : Plan) (w : World) where
@@ -83,10 +82,7 @@ module _ (plan : Plan) (w : World) where
   unfolding works_at tallies_at
   ready_can [] honest = tt
   ready_can (s ∷ ss) honest =
-      own_append (ready_at s) (flat_map ready_at ss)
-      (own_append (works_at s) (tallies_at s)
-      (votes_can s.own.id (honest 0 s refl) (filter (λ q. may_work q s.journal) (committed_polls s.journal)))
-      (tallies_can s.own.id (honest 0 s refl)
+      own_append _ _ (own_append _ _ (votes_can s.own.id (honest 0 s refl) _) (tallies_can s.own.id (honest 0 s refl)
       (filter (λ n. may_tally n s.journal) (range_with_len 1 (openings s.journal))))) (ready_can ss
       (λ k x at. honest (suc k) x at))
 
@@ -107,22 +103,19 @@ module _ (plan : Plan) (w : World) where
           (cond b
           (turn_at id n (is_some (unanswered_request n journal)) (is_voting n journal) (is_widened n journal))
           None) rest)
-      by_running true = by_turn (is_some (unanswered_request n journal)) (is_voting n journal) (is_widened n journal)
+      by_running true = by_turn (is_some _) (is_voting n journal) (is_widened n journal)
       by_running false = can
 
   turns_of : (id : ℕ) → IsHonest plan id → (journal : List Record) (ns : List ℕ)
       → OwnEach (filter_map (turn_of id journal) ns)
   turns_of id honest journal [] = tt
-  turns_of id honest journal (n ∷ ns) =
-      turn_can id honest journal n (filter_map (turn_of id journal) ns) (turns_of id honest journal ns)
+  turns_of id honest journal (n ∷ ns) = turn_can id honest journal n _ (turns_of id honest journal ns)
 
   turns_can : (ss : List Standing) → AreHonest ss → OwnEach (flat_map turns_at ss)
   unfolding turns_at
   turns_can [] honest = tt
   turns_can (s ∷ ss) honest =
-      own_append (turns_at s) (flat_map turns_at ss)
-      (turns_of s.own.id (honest 0 s refl) s.journal (range_with_len 1 (openings s.journal)))
-      (turns_can ss (λ k x at. honest (suc k) x at))
+      own_append _ _ (turns_of s.own.id (honest 0 s refl) s.journal _) (turns_can ss (λ k x at. honest (suc k) x at))
 
 module _ (plan : Plan) (history : List Event) where
   waiting_can : CanEach plan (world plan history) (map Delivery (pending plan history))
@@ -132,32 +125,23 @@ module _ (plan : Plan) (history : List Event) where
 
   works_can : CanEach plan (world plan history) (map Own (ready (world plan history)))
   unfolding ready
-  works_can =
-      own_can plan (world plan history) (ready (world plan history))
-      (ready_can plan (world plan history) (world plan history).peers (standing_honest plan history))
+  works_can = own_can plan _ _ (ready_can plan _ (world plan history).peers (standing_honest plan history))
 
   others_can : CanEach plan (world plan history) (map Own (turns (world plan history)))
   unfolding turns
-  others_can =
-      own_can plan (world plan history) (turns (world plan history))
-      (turns_can plan (world plan history) (world plan history).peers (standing_honest plan history))
+  others_can = own_can plan _ _ (turns_can plan _ (world plan history).peers (standing_honest plan history))
 
   settling_can : CanEach plan (world plan history)
       (map Delivery (pending plan history) ++ map Own (ready (world plan history)))
-  settling_can =
-      can_append plan (world plan history) (map Delivery (pending plan history))
-      (map Own (ready (world plan history))) waiting_can works_can
+  settling_can = can_append plan _ _ _ waiting_can works_can
 
   all_can : CanEach plan (world plan history) (dues plan history)
   unfolding dues
-  all_can =
-      can_else plan (world plan history)
-      (map Delivery (pending plan history) ++ map Own (ready (world plan history)))
-      (map Own (turns (world plan history))) settling_can others_can
+  all_can = can_else plan _ _ _ settling_can others_can
 
   -- what is due at any place can be done
   pub due_can : (k : ℕ) (d : Due) → slice_get (dues plan history) k ≡ Some d → Can plan (world plan history) d
-  due_can k d at = each_at plan (world plan history) (dues plan history) k d all_can at
+  due_can k d at = each_at plan _ _ k d all_can at
 
 -- What comes first is due.
 
@@ -181,8 +165,7 @@ finishes_there (i ∷ is) works others = refl
 
 pub first_of_dues : (plan : Plan) (history : List Event) → next_to_finish plan history ≡ slice_get (dues plan history) 0
 unfolding dues next_to_finish
-first_of_dues plan history =
-    finishes_there (pending plan history) (ready (world plan history)) (turns (world plan history))
+first_of_dues plan history = finishes_there _ _ _
 
 module _ (plan : Plan) (history : List Event) where
   pub deliver_can : (d : Due) → next_to_deliver plan history ≡ Some d → Can plan (world plan history) d
@@ -193,11 +176,7 @@ module _ (plan : Plan) (history : List Event) where
 
   pub settle_can : (d : Due) → next_to_settle plan history ≡ Some d → Can plan (world plan history) d
   unfolding next_to_settle
-  settle_can d next =
-      each_at plan (world plan history)
-      (map Delivery (pending plan history) ++ map Own (ready (world plan history))) 0 d
-      (settling_can plan history)
-      (sym (settles_there (pending plan history) (ready (world plan history))) ∙ next)
+  settle_can d next = each_at plan _ _ 0 d (settling_can plan history) (sym (settles_there _ _) ∙ next)
 
   pub finish_can : (d : Due) → next_to_finish plan history ≡ Some d → Can plan (world plan history) d
   finish_can d next = due_can plan history 0 d (sym (first_of_dues plan history) ∙ next)
@@ -214,8 +193,7 @@ module _ (plan : Plan) (history : List Event) where
   can_ask (Own s) can = can.1
 
   pub event_is_of : (verdict : Verdicts) (d : Due) → IsEventOf d (event_of verdict plan history d)
-  event_is_of verdict (Delivery i) =
-      (judgement_on verdict (questions plan history) (question_at (world plan history) i), refl)
+  event_is_of verdict (Delivery i) = (judgement_on verdict _ _, refl)
   event_is_of verdict (Own s) = refl
 
   pub is_due : (verdict : Verdicts) (k : ℕ) (d : Due) → slice_get (dues plan history) k ≡ Some d
@@ -250,17 +228,13 @@ no_work_of id journal (n ∷ ns) = by_running (is_running n journal) (no_work_of
         (cond b
         (turn_at id n (is_some (unanswered_request n journal)) (is_voting n journal) (is_widened n journal))
         None) (filter_map (turn_of id journal) ns))
-    by_running true none =
-        by_turn (is_some (unanswered_request n journal)) (is_voting n journal) (is_widened n journal)
-        (filter_map (turn_of id journal) ns) none
+    by_running true none = by_turn (is_some _) (is_voting n journal) (is_widened n journal) (filter_map _ ns) none
     by_running false none = none
 
 no_work_in : (ss : List Standing) → AreNoWork (flat_map turns_at ss)
 unfolding turns_at
 no_work_in [] = tt
-no_work_in (s ∷ ss) =
-    no_work_append (turns_at s) (flat_map turns_at ss)
-    (no_work_of s.own.id s.journal (range_with_len 1 (openings s.journal))) (no_work_in ss)
+no_work_in (s ∷ ss) = no_work_append _ _ (no_work_of s.own.id s.journal _) (no_work_in ss)
 
 pub turn_is_no_work : (w : World) (s : PeerStep) → first_own (turns w) ≡ Some (Own s) → is_work s ≡ false
 unfolding turns

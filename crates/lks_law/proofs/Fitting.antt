@@ -26,40 +26,39 @@ use Rattle.lks_base.specs.declared.records.Record.TheVariants.{Shut, Asked, Repa
 use Rattle.lks_base.specs.declared.records.Record.TheVariants as records
 use Rattle.lks_draw.proofs.Picking.{pick_law}
 use Rattle.lks_draw.proofs.Places.{word_fits}
-use Rattle.lks_draw.specs.Words.{drawn_from, words_of}
+use Rattle.lks_draw.specs.Words.{drawn_from}
 use Rattle.lks_law.specs.Fitting.{Where, FitsOutcome, Fits, MayHave, AreFitting, AsksWithin, IsCounted, AreSmall}
 use Rattle.lks_law.specs.Fitting.{AreWell, AreLegal, IsOnHeld, IsPinnedWell, IsCastWell, marks_left, IsSound}
 use Rattle.lks_law.specs.Fitting.{most_numbered, has_room}
 use Rattle.lks_law.proofs.Lists.{without_any, changed_any, any_where}
-use Rattle.lks_law.specs.Answering.{is_open, open_sessions, was_ended, may_join_in, is_admitted_in, joined_now}
+use Rattle.lks_law.specs.Answering.{is_open, may_join_in}
 use Rattle.lks_law.specs.Answering.{invitation_in, proof_at, proof_in, version_at, hashes_for, work_at, work_in}
 use Rattle.lks_law.specs.Answering.{request_at, request_in, end_in}
 use Rattle.lks_law.specs.Facts.{IsHeard}
 use Rattle.lks_law.specs.Journal.{Request, numbers_after}
-use Rattle.lks_law.specs.Polls.{Station, limits_of, ballot_of}
+use Rattle.lks_law.specs.Polls.{Station, limits_of}
 use Rattle.lks_law.specs.Reacting.{for_poll, if_may, may_open_copy, may_open_in, inner_of, opened_as, open_in}
-use Rattle.lks_law.specs.Reacting.{widen_in, silent_in, nudge_in, give_up_in, receipts_of, shut_once, shut_in}
+use Rattle.lks_law.specs.Reacting.{widen_in, silent_in, nudge_in, give_up_in, receipts_of, shut_in}
 use Rattle.lks_law.specs.Reacting.{closed_as, asked_for, verdict_of, supplier, tallied_as, tally_in, must_note_copy}
 use Rattle.lks_law.specs.Reacting.{overdue_of, check_in, is_invited_to, challenge_in, nominate_in, vote_in_poll}
 use Rattle.lks_law.specs.Reacting.{said_of, repair_in}
 use Rattle.lks_law.specs.Reaction.{no_effect, letter, asked_again, given_up, is_accepted, is_request}
-use Rattle.lks_law.specs.State.{Poll, Copy, State, poll_at, copy_at, blocks_in, blocks_at, nominated_by, widened_to}
-use Rattle.lks_law.specs.State.{voted_by, shut_now, request_sent, request_answered, changed_poll, without_poll}
+use Rattle.lks_law.specs.State.{Poll, Copy, State, poll_at, copy_at, blocks_in, blocks_at}
+use Rattle.lks_law.specs.State.{shut_now, request_sent, request_answered, changed_poll, without_poll}
 use Rattle.lks_law.specs.State.{deposited_copy, opened_at, replaced_in, agreed_at, noted_overdue, copy_changed}
 use Rattle.lks_law.specs.State.{agreed_on, copies_after, polls_after, after}
 use Rattle.lks_law.specs.Sessions.{Commitment}
 use Rattle.lks_law.specs.Table.{receive_in, react_on}
-use Rattle.lks_law.specs.Taking.{Session, Pinned, Cast, is_session_of, is_pinned_of, is_cast_of, session_at}
-use Rattle.lks_law.specs.Taking.{pinned_at, cast_at, pins_of, casts_of, serving_block, voter_after}
-use Rattle.lks_law.specs.Voting.{poll_named, answers, challenge, repeats, commits, vote_hashes, gives, serves}
+use Rattle.lks_law.specs.Taking.{Session, Pinned, Cast, session_at}
+use Rattle.lks_law.specs.Taking.{pinned_at, cast_at, pins_of, casts_of, voter_after}
+use Rattle.lks_law.specs.Voting.{repeats, commits, vote_hashes, gives, serves}
 use Rattle.lks_law.specs.Voting.{may_tune, on_tune}
 use Rattle.lks_hash.proofs.RunningLaws.{hashes_length}
 use Rattle.lks_base.specs.declared.names.HashKind.{HashKind}
 use Rattle.lks_base.specs.declared.names.PollName.{PollName}
 use Rattle.lks_message.specs.Spelling.{IsWithin}
 use Rattle.lks_tally.proofs.Deciding.{loss_first}
-use Rattle.lks_tally.specs.PollRules as poll
-use Rattle.lks_tally.specs.Running.{may_nominate, may_prove, may_vote}
+use Rattle.lks_tally.specs.Running.{may_prove}
 use Rattle.lks_tally.specs.declared.ballots.Verdict.{Verdict}
 use Rattle.lks_tally.specs.declared.ballots.Verdict.TheVariants as verdict
 use Rattle.lks_voter.specs.Voting.{answer_of}
@@ -86,7 +85,7 @@ changed_each P n f (p ∷ ps) keeps all =
         → (Where (poll_at n ps) (λ p. P p → P (f p)) → All P (changed_poll n f ps))
         → All P (cond b (f p ∷ ps) (p ∷ changed_poll n f ps))
     here true keeps rest = All-cons P (f p) ps (keeps (All-head P p ps all)) (All-tail P p ps all)
-    here false keeps rest = All-cons P p (changed_poll n f ps) (All-head P p ps all) (rest keeps)
+    here false keeps rest = All-cons P p _ (All-head P p ps all) (rest keeps)
 
 without_each : (P : Poll → Type 0) (n : ℕ) (ps : List Poll) → All P ps → All P (without_poll n ps)
 without_each P n [] all = all
@@ -94,7 +93,7 @@ without_each P n (p ∷ ps) all = here (eqb p.number n) (without_each P n ps (Al
   where
     here : (b : Bool) → All P (without_poll n ps) → All P (cond b ps (p ∷ without_poll n ps))
     here true rest = All-tail P p ps all
-    here false rest = All-cons P p (without_poll n ps) (All-head P p ps all) rest
+    here false rest = All-cons P p _ (All-head P p ps all) rest
 
 abbrev HasSmall : Copy → Type 0
 HasSmall c = AreSmall c.blocks
@@ -109,7 +108,7 @@ copy_each P au f (c ∷ cs) keeps all = here (eqb c.au au) (copy_each P au f cs 
   where
     here : (b : Bool) → All P (copy_changed au f cs) → All P (cond b (f c ∷ cs) (c ∷ copy_changed au f cs))
     here true rest = All-cons P (f c) cs (keeps c (All-head P c cs all)) (All-tail P c cs all)
-    here false rest = All-cons P c (copy_changed au f cs) (All-head P c cs all) rest
+    here false rest = All-cons P c _ (All-head P c cs all) rest
 
 -- where a poll is found, whatever it is, this follows
 whatever : (P : Poll → Type 0) → ((p : Poll) → P p) → (o : Option Poll) → Where o P
@@ -154,22 +153,22 @@ no_fewer ps r cs au = by_record r
     as_many xs ys e = omega (arith, e)
 
     by_record : (r : Record) → length (blocks_at au cs) ≤ length (blocks_at au (copies_after ps r cs))
-    by_record (Deposit a blocks) = here (is_some (copy_at a cs))
+    by_record (Deposit a blocks) = here (is_some _)
       where
         here : (b : Bool)
             → length (blocks_at au cs) ≤ length (blocks_at au (cond b cs (cs ++ deposited_copy a blocks ∷ [])))
         here true = omega arith
-        here false = joined au (deposited_copy a blocks) cs
+        here false = joined au _ cs
     by_record (PollOpened number a nonce inner tick limits kind) =
-        as_many _ _ (grows au a (opened_at tick) cs (λ c. refl) (λ c. refl))
+        as_many _ _ (grows au a _ cs (λ c. refl) (λ c. refl))
     by_record (Replaced number a block bytes) =
-        as_many _ _ (grows au a (replaced_in block bytes) cs (λ c. refl) (λ c. length-set c.blocks block bytes))
+        as_many _ _ (grows au a _ cs (λ c. refl) (λ c. length-set c.blocks block bytes))
     by_record (Overdue a tick) = as_many _ _ (grows au a noted_overdue cs (λ c. refl) (λ c. refl))
     by_record (Closed number Agreed tick) = here (poll_at number ps)
       where
         here : (o : Option Poll) → length (blocks_at au cs) ≤ length (blocks_at au (agreed_on o tick cs))
         here None = omega arith
-        here (Some p) = as_many _ _ (grows au p.opening.au (agreed_at tick) cs (λ c. refl) (λ c. refl))
+        here (Some p) = as_many _ _ (grows au p.opening.au _ cs (λ c. refl) (λ c. refl))
     by_record r = omega arith
 
 -- Requests stay within their AUs.
@@ -190,9 +189,7 @@ module _ (own : Station) (s : State) where
   -- whatever changes in poll n, it asks within its AU
   still : (n : ℕ) (f : Poll → Poll) → ((p : Poll) → AsksWithin s.copies p → AsksWithin s.copies (f p)) → IsSound s
       → All (AsksWithin s.copies) (changed_poll n f s.polls)
-  still n f keep is =
-      changed_each (AsksWithin s.copies) n f s.polls
-      (whatever (λ p. AsksWithin s.copies p → AsksWithin s.copies (f p)) keep (poll_at n s.polls)) is.asks
+  still n f keep is = changed_each _ n f s.polls (whatever _ keep _) is.asks
 
   either : (P : Poll → Type 0) (b : Bool) (x y : Poll) → P x → P y → P (cond b x y)
   either P true x y px py = px
@@ -207,57 +204,54 @@ module _ (own : Station) (s : State) where
   polls_asking : (r : Record) → Fits own s r → IsSound s → All (AsksWithin s.copies) (polls_after own.rules r s.polls)
   polls_asking (PollOpened number au nonce inner tick limits kind) fits is =
       All-push (AsksWithin s.copies) s.polls _ is.asks tt
-  polls_asking (Nominated number voter nominees) fits is =
-      still number (nominated_by voter nominees) (λ p within. within) is
-  polls_asking (OuterOpened number outer) fits is = still number (widened_to outer) (λ p within. within) is
+  polls_asking (Nominated number voter nominees) fits is = still number _ (λ p within. within) is
+  polls_asking (OuterOpened number outer) fits is = still number _ (λ p within. within) is
   polls_asking (VoteIn number voter hashes) fits is =
-      still number (voted_by (record { voter = voter; hashes = hashes }))
-      (λ p within. either (AsksWithin s.copies) (has_member p.opening.inner voter) _ _ within within) is
+      still number _ (λ p within. either (AsksWithin s.copies) _ _ _ within within) is
   polls_asking (Shut number) fits is = still number shut_now (λ p within. within) is
   polls_asking (Asked number block voter) fits is =
-      changed_each (AsksWithin s.copies) number (request_sent (record { block = block; voter = voter })) s.polls
-      (asked_within number block voter (poll_at number s.polls) fits) is.asks
-  polls_asking (RepairBad number block voter) fits is = still number request_answered (λ p within. tt) is
-  polls_asking (Replaced number au block bytes) fits is = still number request_answered (λ p within. tt) is
+      changed_each _ number _ s.polls (asked_within number block voter _ fits) is.asks
+  polls_asking (RepairBad number block voter) fits is = still number request_answered _ is
+  polls_asking (Replaced number au block bytes) fits is = still number request_answered _ is
   polls_asking (Closed number outcome tick) fits is = without_each (AsksWithin s.copies) number s.polls is.asks
   polls_asking r fits is = is.asks
 
   copies_counted : (r : Record) → Fits own s r → IsSound s → All HasBlocks (copies_after s.polls r s.copies)
-  copies_counted (Deposit au blocks) fits is = here (is_some (copy_at au s.copies))
+  copies_counted (Deposit au blocks) fits is = here (is_some _)
     where
       here : (b : Bool) → All HasBlocks (cond b s.copies (s.copies ++ deposited_copy au blocks ∷ []))
       here true = is.counted
-      here false = All-push HasBlocks s.copies (deposited_copy au blocks) is.counted fits.0
+      here false = All-push HasBlocks s.copies _ is.counted fits.0
   copies_counted (PollOpened number au nonce inner tick limits kind) fits is =
-      copy_each HasBlocks au (opened_at tick) s.copies (λ c has. has) is.counted
+      copy_each HasBlocks au _ s.copies (λ c has. has) is.counted
   copies_counted (Replaced number au block bytes) fits is =
-      copy_each HasBlocks au (replaced_in block bytes) s.copies
+      copy_each HasBlocks au _ s.copies
       (λ c has. subst (λ n. (1 ≤ n) × (n ≤ MOST_BLOCKS)) (sym (length-set c.blocks block bytes)) has) is.counted
   copies_counted (Overdue au tick) fits is = copy_each HasBlocks au noted_overdue s.copies (λ c has. has) is.counted
   copies_counted (Closed number Agreed tick) fits is = here (poll_at number s.polls)
     where
       here : (o : Option Poll) → All HasBlocks (agreed_on o tick s.copies)
       here None = is.counted
-      here (Some p) = copy_each HasBlocks p.opening.au (agreed_at tick) s.copies (λ c has. has) is.counted
+      here (Some p) = copy_each HasBlocks p.opening.au _ s.copies (λ c has. has) is.counted
   copies_counted r fits is = is.counted
 
   copies_small : (r : Record) → Fits own s r → IsSound s → All HasSmall (copies_after s.polls r s.copies)
-  copies_small (Deposit au blocks) fits is = here (is_some (copy_at au s.copies))
+  copies_small (Deposit au blocks) fits is = here (is_some _)
     where
       here : (b : Bool) → All HasSmall (cond b s.copies (s.copies ++ deposited_copy au blocks ∷ []))
       here true = is.small
-      here false = All-push HasSmall s.copies (deposited_copy au blocks) is.small fits.2
+      here false = All-push HasSmall s.copies _ is.small fits.2
   copies_small (PollOpened number au nonce inner tick limits kind) fits is =
-      copy_each HasSmall au (opened_at tick) s.copies (λ c has. has) is.small
+      copy_each HasSmall au _ s.copies (λ c has. has) is.small
   copies_small (Replaced number au block bytes) fits is =
-      copy_each HasSmall au (replaced_in block bytes) s.copies
+      copy_each HasSmall au _ s.copies
       (λ c has. All-set (λ (b : List ℕ). length b ≤ MOST_BLOCK_BYTES) c.blocks block bytes fits.1 has) is.small
   copies_small (Overdue au tick) fits is = copy_each HasSmall au noted_overdue s.copies (λ c has. has) is.small
   copies_small (Closed number Agreed tick) fits is = here (poll_at number s.polls)
     where
       here : (o : Option Poll) → All HasSmall (agreed_on o tick s.copies)
       here None = is.small
-      here (Some p) = copy_each HasSmall p.opening.au (agreed_at tick) s.copies (λ c has. has) is.small
+      here (Some p) = copy_each HasSmall p.opening.au _ s.copies (λ c has. has) is.small
   copies_small r fits is = is.small
 
   -- Sessions.
@@ -307,7 +301,7 @@ module _ (own : Station) (s : State) where
           here false e rest = rest e
 
       by_record : (r : Record) → is_some (copy_at au (copies_after s.polls r s.copies)) ≡ true
-      by_record (Deposit a blocks) = here (is_some (copy_at a s.copies))
+      by_record (Deposit a blocks) = here (is_some _)
         where
           here : (b : Bool) → is_some (copy_at au (cond b s.copies (s.copies ++ deposited_copy a blocks ∷ []))) ≡ true
           here true = held
@@ -331,8 +325,8 @@ module _ (own : Station) (s : State) where
   sessions_held (records.Joined q au tick low repairs) fits is =
       All-push (IsOnHeld s.copies) s.voter.sessions _ is.held fits
   sessions_held (records.Committed q nonce version kind) fits is =
-      without_any (IsOnHeld s.copies) (is_session_of q) s.voter.sessions is.held
-  sessions_held (records.Ended q) fits is = without_any (IsOnHeld s.copies) (is_session_of q) s.voter.sessions is.held
+      without_any (IsOnHeld s.copies) _ s.voter.sessions is.held
+  sessions_held (records.Ended q) fits is = without_any (IsOnHeld s.copies) _ s.voter.sessions is.held
   sessions_held r fits is = is.held
 
   pinning_well : (c : Commitment) (o : Option Session) → Where o (IsOnHeld s.copies) → IsSound s
@@ -344,10 +338,9 @@ module _ (own : Station) (s : State) where
   pinned_well : (r : Record) → Fits own s r → IsSound s
       → All IsPinnedWell (voter_after own.rules (λ au. blocks_at au s.copies) r s.voter).pinned
   pinned_well (records.Committed q nonce version kind) fits is =
-      pinning_well (record { nonce = nonce; version = version; kind = kind }) (session_at q s.voter.sessions)
-      (any_where (IsOnHeld s.copies) (is_session_of q) s.voter.sessions is.held) is
-  pinned_well (records.Voted q hashes) fits is = without_any IsPinnedWell (is_pinned_of q) s.voter.pinned is.pinned
-  pinned_well (records.Ended q) fits is = without_any IsPinnedWell (is_pinned_of q) s.voter.pinned is.pinned
+      pinning_well _ _ (any_where _ _ s.voter.sessions is.held) is
+  pinned_well (records.Voted q hashes) fits is = without_any IsPinnedWell _ s.voter.pinned is.pinned
+  pinned_well (records.Ended q) fits is = without_any IsPinnedWell _ s.voter.pinned is.pinned
   pinned_well r fits is = is.pinned
 
   casting_well : (hashes : List (List ℕ)) (o : Option Pinned) → length hashes ≤ MOST_BLOCKS → Where o IsPinnedWell
@@ -358,11 +351,9 @@ module _ (own : Station) (s : State) where
   cast_well : (r : Record) → Fits own s r → IsSound s
       → All IsCastWell (voter_after own.rules (λ au. blocks_at au s.copies) r s.voter).cast
   cast_well (records.Voted q hashes) fits is =
-      casting_well hashes (pinned_at q s.voter.pinned) fits.0
-      (any_where IsPinnedWell (is_pinned_of q) s.voter.pinned is.pinned) is
-  cast_well (records.Served q block) fits is =
-      changed_any IsCastWell (is_cast_of q) (serving_block block) s.voter.cast (λ c well. well) is.cast
-  cast_well (records.Ended q) fits is = without_any IsCastWell (is_cast_of q) s.voter.cast is.cast
+      casting_well hashes _ fits.0 (any_where IsPinnedWell _ s.voter.pinned is.pinned) is
+  cast_well (records.Served q block) fits is = changed_any IsCastWell _ _ s.voter.cast (λ c well. well) is.cast
+  cast_well (records.Ended q) fits is = without_any IsCastWell _ s.voter.cast is.cast
   cast_well r fits is = is.cast
 
   numbers_legal : (r : Record) → Fits own s r → IsSound s
@@ -379,12 +370,10 @@ module _ (own : Station) (s : State) where
   sound_after r fits is = record {
     counted = copies_counted r fits is;
     asks =
-        All-weaker (AsksWithin s.copies) (AsksWithin (copies_after s.polls r s.copies)) (asks_on r)
-        (polls_after own.rules r s.polls) (polls_asking r fits is);
+        All-weaker _ _ (asks_on r) _ (polls_asking r fits is);
     small = copies_small r fits is;
     held =
-        All-weaker (IsOnHeld s.copies) (IsOnHeld (copies_after s.polls r s.copies)) (held_on r)
-        (voter_after own.rules (λ au. blocks_at au s.copies) r s.voter).sessions (sessions_held r fits is);
+        All-weaker _ _ (held_on r) (voter_after own.rules _ r s.voter).sessions (sessions_held r fits is);
     pinned = pinned_well r fits is;
     cast = cast_well r fits is;
     legal = numbers_legal r fits is;
@@ -444,7 +433,7 @@ module _ (own : Station) (s : State) (few : own.rules.inner ≤ MOST_CIRCLE) (ro
       → Where (copy_at au cs) (λ c. c.version < most_numbered)
   versions_left [] all au = tt
   versions_left (c ∷ cs) all au =
-      let parts = and_parts (ltb c.version most_numbered) (list_all (λ (c : Copy). ltb c.version most_numbered) cs)
+      let parts = and_parts _ _
       all in
       here (eqb c.au au) (ltb-true c.version most_numbered parts.0) (versions_left cs parts.1 au)
     where
@@ -467,7 +456,7 @@ module _ (own : Station) (s : State) (few : own.rules.inner ≤ MOST_CIRCLE) (ro
   open_fits : (tick au : ℕ) → AreFitting own s (open_in own s tick au).records
   unfolding open_in may_open_in inner_of
   open_fits tick au =
-      where_may (may_open_in own s tick au) (opened_as own s tick au (s.openings + 1))
+      where_may _ (opened_as own s tick au (s.openings + 1))
       (λ may. ((held (copy_at au s.copies) may, few_picked, ltb-true s.openings most_numbered room_parts.0), tt))
     where
       held : (o : Option Copy) → may_open_copy tick own.rules.pace au s.polls o ≡ true → is_some o ≡ true
@@ -477,18 +466,16 @@ module _ (own : Station) (s : State) (few : own.rules.inner ≤ MOST_CIRCLE) (ro
       few_picked : length (inner_of own (s.openings + 1) s.refs) ≤ MOST_CIRCLE
       few_picked =
           let d = drawn_from own.seed 1 (s.openings + 1) in
-          let pick = pick_law (words_of d.key) (word_fits d.key) d.place s.refs own.rules.inner in
+          let pick = pick_law _ (word_fits d.key) d.place s.refs own.rules.inner in
           omega (arith, pick.count, few)
 
   widen_fits : (n : ℕ) (p : Poll) → poll_at n s.polls ≡ Some p → AreFitting own s (widen_in own p).records
   unfolding widen_in
-  widen_fits n p is = where_may (not p.shut && not (is_some p.outer)) _ (λ may. (tt, tt))
+  widen_fits n p is = where_may (not p.shut && not (is_some p.outer)) _ _
 
   shut_fits : (tick n : ℕ) (p : Poll) → poll_at n s.polls ≡ Some p → AreFitting own s (shut_in own tick p).records
   unfolding shut_in
-  shut_fits tick n p is =
-      where_may (not p.shut) (shut_once own p tick)
-      (λ may. by_quorum (ltb (length p.inner_votes) (limits_of own.rules p.opening).quorum))
+  shut_fits tick n p is = where_may (not p.shut) _ (λ may. by_quorum (ltb _ (limits_of own.rules p.opening).quorum))
     where
       by_quorum : (b : Bool) → AreFitting own s (cond {A = Reaction} b
           (record {
@@ -497,21 +484,19 @@ module _ (own : Station) (s : State) (few : own.rules.inner ≤ MOST_CIRCLE) (ro
           })
           (record { records = records.Shut p.number ∷ []; sends = [] })).records
       by_quorum true =
-          let later = after own s (records.Shut p.number) in
-          (tt, (whatever (λ q. FitsOutcome own later q outcome.Inquorate) (λ q. tt) (poll_at p.number later.polls), tt))
+          let later = after own s _ in
+          (tt, (whatever (λ q. FitsOutcome own later q outcome.Inquorate) _ (poll_at p.number later.polls), tt))
       by_quorum false = (tt, tt)
 
   closed_fits : (tick : ℕ) (p : Poll) (how : Outcome) → ((q : Poll) → FitsOutcome own s q how)
       → AreFitting own s (closed_as p tick how).records
   unfolding closed_as
-  closed_fits tick p how fits = (whatever (λ q. FitsOutcome own s q how) fits (poll_at p.number s.polls), tt)
+  closed_fits tick p how fits = (whatever _ fits _, tt)
 
   tally_fits : (tick n : ℕ) (p : Poll) → poll_at n s.polls ≡ Some p
       → AreFitting own s (tally_in own tick s.copies p).records
   unfolding tally_in verdict_of closed_as
-  tally_fits tick n p is =
-      where_may (p.shut && not (is_some p.request)) (tallied_as own p tick blocks (verdict_of own p blocks))
-      (λ may. by_verdict (verdict_of own p blocks) refl (and_parts p.shut (not (is_some p.request)) may))
+  tally_fits tick n p is = where_may _ _ (λ may. by_verdict (verdict_of own p blocks) refl (and_parts p.shut _ may))
     where
       blocks : List (List ℕ)
       blocks = blocks_at p.opening.au s.copies
@@ -523,23 +508,22 @@ module _ (own : Station) (s : State) (few : own.rules.inner ≤ MOST_CIRCLE) (ro
       lost : (b : ℕ) → verdict_of own p blocks ≡ verdict.Loss b → b < length blocks
       lost b is =
           let limits = limits_of own.rules p.opening in
-          (loss_first limits.minority (ballot_of own p.number p.opening (length blocks)) p.inner_votes blocks
+          (loss_first limits.minority _ p.inner_votes blocks
           limits.quorum b is).1.within
 
       by_voter : (b : ℕ) (v : Option ℕ) → b < length blocks → (p.shut ≡ true) × (not (is_some p.request) ≡ true)
           → AreFitting own s (asked_for p tick b v).records
-      by_voter b None within may = closed_fits tick p (outcome.NoSupplier b) (λ q. tt)
+      by_voter b None within may = closed_fits tick p (outcome.NoSupplier b) _
       by_voter b (Some v) within may = (
-        at_found (λ q. (q.shut ≡ true) × (q.request ≡ None) × (b < length (blocks_at q.opening.au s.copies))) n p
-            is (may.0, idle p.request may.1, within),
+        at_found _ n p is (may.0, idle p.request may.1, within),
         tt,
       )
 
       by_verdict : (v : Verdict) → verdict_of own p blocks ≡ v → (p.shut ≡ true) × (not (is_some p.request) ≡ true)
           → AreFitting own s (tallied_as own p tick blocks v).records
       by_verdict verdict.Inquorate said may = tt
-      by_verdict verdict.Agreed said may = (at_found (λ q. FitsOutcome own s q outcome.Agreed) n p is said, tt)
-      by_verdict (verdict.Split b) said may = closed_fits tick p (outcome.Split b) (λ q. tt)
+      by_verdict verdict.Agreed said may = (at_found _ n p is said, tt)
+      by_verdict (verdict.Split b) said may = closed_fits tick p (outcome.Split b) _
       by_verdict (verdict.Loss b) said may = by_voter b (supplier own p b blocks) (lost b said) may
 
   nudge_fits : (n : ℕ) (p : Poll) → poll_at n s.polls ≡ Some p → AreFitting own s (nudge_in p).records
@@ -566,35 +550,34 @@ module _ (own : Station) (s : State) (few : own.rules.inner ≤ MOST_CIRCLE) (ro
   overdue_fit : (t : State) (tick : ℕ) (aus : List AuPlan)
       → AreFitting own t (filter_map (overdue_of own s.copies tick) aus)
   overdue_fit t tick [] = tt
-  overdue_fit t tick (au ∷ aus) = here (must_note_copy own tick (copy_at au.id s.copies)) (λ t. overdue_fit t tick aus)
+  overdue_fit t tick (au ∷ aus) = here (must_note_copy own tick _) (λ t. overdue_fit t tick aus)
     where
       here : (b : Bool) → ((t : State) → AreFitting own t (filter_map (overdue_of own s.copies tick) aus))
           → AreFitting own t
           (cons_option (cond b (Some (records.Overdue au.id tick)) None)
           (filter_map (overdue_of own s.copies tick) aus))
-      here true rest = (tt, rest (after own t (records.Overdue au.id tick)))
+      here true rest = (tt, rest _)
       here false rest = rest t
 
   vote_fits : (from : ℕ) (hashes : List (List ℕ)) (judged : Judged) (n : ℕ) (p : Poll) → poll_at n s.polls ≡ Some p
       → AreFitting own s (vote_in_poll from hashes judged s.copies p).records
   unfolding vote_in_poll is_invited_to
   vote_fits from hashes judged n p is =
-      where_may _ (record { records = records.VoteIn p.number from hashes ∷ []; sends = [] })
+      where_may _ _
       (λ may.
       let taken = and_parts (is_accepted judged)
-      (may_vote p from (length hashes) (length (blocks_at p.opening.au s.copies))) may in
+      _ may in
       let parts = and_parts (not p.shut)
-      (poll.may_vote (is_invited_to p from) (has_member p.voters from) (length hashes)
-      (length (blocks_at p.opening.au s.copies))) taken.1 in
+      _ taken.1 in
       let rule = and_parts (is_invited_to p from && not (has_member p.voters from))
       (eqb (length hashes) (length (blocks_at p.opening.au s.copies))) parts.1 in
-      let new = (and_parts (is_invited_to p from) (not (has_member p.voters from)) rule.0).1 in (
+      let new = (and_parts _ (not (has_member p.voters from)) rule.0).1 in (
         (
           ap is_some (found_again n p is),
           at_found
               (λ q. (has_member q.voters from ≡ false) × (length hashes ≡ length (blocks_at q.opening.au s.copies)))
               n p is (
-                not-true (has_member p.voters from) new,
+                not-true _ new,
                 eqb-true (length hashes) (length (blocks_at p.opening.au s.copies)) rule.1,
               ),
           room_parts.2,
@@ -606,19 +589,18 @@ module _ (own : Station) (s : State) (few : own.rules.inner ≤ MOST_CIRCLE) (ro
       → poll_at n s.polls ≡ Some p → AreFitting own s (repair_in own from b bytes s.copies p).records
   unfolding repair_in
   repair_fits from b bytes small n p is =
-      where_may (is_request b from p.request) _
-      (λ may. by_votes (said_of own p b bytes (blocks_at p.opening.au s.copies)) (within p.request may asked))
+      where_may _ _
+      (λ may. by_votes (said_of own p b bytes _) (within p.request may asked))
     where
       asked : Where p.request (λ r. r.block < length (blocks_at p.opening.au s.copies))
-      asked = subst (λ o. Where o (AsksWithin s.copies)) is (poll_where (AsksWithin s.copies) n s.polls sound.asks)
+      asked = subst (λ o. Where o (AsksWithin s.copies)) is (poll_where _ n s.polls sound.asks)
 
       within : (o : Option Request) → is_request b from o ≡ true
           → Where o (λ r. r.block < length (blocks_at p.opening.au s.copies))
           → b < length (blocks_at p.opening.au s.copies)
       within None e less = absurd cc
       within (Some r) e less =
-          subst (λ k. k < length (blocks_at p.opening.au s.copies))
-          (eqb-true r.block b (and_parts (eqb r.block b) (eqb r.voter from) e).0) less
+          subst (λ k. k < length (blocks_at p.opening.au s.copies)) (eqb-true r.block b (and_parts _ _ e).0) less
 
       by_votes : (won : Bool) → b < length (blocks_at p.opening.au s.copies) → AreFitting own s (cond {A = Reaction} won
           (record { records = records.Replaced p.number p.opening.au b bytes ∷ []; sends = [] })
@@ -646,8 +628,8 @@ module _ (own : Station) (s : State) (few : own.rules.inner ≤ MOST_CIRCLE) (ro
       → AreFitting own s (nominate_in from nominees p).records
   unfolding nominate_in
   nominate_fits from nominees n p is =
-      where_may (may_nominate p from)
-      (record { records = records.Nominated p.number from nominees ∷ []; sends = [] }) (λ may. (tt, tt))
+      where_may _
+      (record { records = records.Nominated p.number from nominees ∷ []; sends = [] }) _
 
   -- The rows of a voter.
 
@@ -665,12 +647,11 @@ module _ (own : Station) (s : State) (few : own.rules.inner ≤ MOST_CIRCLE) (ro
       → AreFitting own s (invitation_in own s.voter s.copies s.numbers.repairs tick q au).records
   unfolding invitation_in may_join_in
   invitation_fits tick q au =
-      either_fits (is_open q s.voter) (answers (challenge q true)) _ (λ runs. tt)
-      (λ closed. either_fits (may_join_in own s.voter s.copies tick q au)
-      (joined_now own s.voter s.numbers.repairs tick q au) _ (λ may.
-      let all = and_parts _ (is_admitted_in own s.voter tick q) may in
-      let first = and_parts _ (ltb (open_sessions s.voter) 16) all.0 in
-      ((and_parts (not (was_ended q s.voter)) (is_some (copy_at au s.copies)) first.0).1, tt)) (λ may_not. tt))
+      either_fits (is_open q s.voter) _ _ _ (λ closed. either_fits (may_join_in own s.voter s.copies tick q au)
+      _ _ (λ may.
+      let all = and_parts _ _ may in
+      let first = and_parts _ _ all.0 in
+      ((and_parts _ _ first.0).1, tt)) (λ may_not. tt))
 
   proof_fits : (q : PollName) (nonce : List ℕ) (kind : HashKind) (judged : Judged)
       → AreFitting own s (proof_in own s.voter s.copies s.refs q nonce kind judged).records
@@ -687,14 +668,13 @@ module _ (own : Station) (s : State) (few : own.rules.inner ≤ MOST_CIRCLE) (ro
       by_state : (x : Option Session) (p : Option Pinned) (c : Option Cast)
           → AreFitting own s (proof_at own s.copies s.refs q nonce kind judged x p c).records
       by_state (Some x) p c = by_judged x judged
-      by_state None (Some p) c = nothing_fits (repeats p.committed.commitment nonce kind) _ (λ same. tt)
-      by_state None None (Some c) = nothing_fits (repeats c.voted.committed.commitment nonce kind) _ (λ same. tt)
+      by_state None (Some p) c = nothing_fits (repeats p.committed.commitment nonce kind) _ _
+      by_state None None (Some c) = nothing_fits (repeats c.voted.committed.commitment nonce kind) _ _
       by_state None None None = tt
 
   work_fits : (q : PollName) → AreFitting own s (work_in own s.voter q).records
   unfolding work_in hashes_for vote_hashes
-  work_fits q =
-      by_state (pinned_at q s.voter.pinned) (any_where IsPinnedWell (is_pinned_of q) s.voter.pinned sound.pinned)
+  work_fits q = by_state (pinned_at q s.voter.pinned) (any_where IsPinnedWell _ s.voter.pinned sound.pinned)
     where
       by_state : (p : Option Pinned) → Where p IsPinnedWell → AreFitting own s (work_at own q p).records
       by_state None well = tt
@@ -722,15 +702,15 @@ module _ (own : Station) (s : State) (few : own.rules.inner ≤ MOST_CIRCLE) (ro
 
   end_fits : (q : PollName) → AreFitting own s (end_in s.voter q).records
   unfolding end_in
-  end_fits q = nothing_fits (is_open q s.voter) _ (λ runs. (tt, tt))
+  end_fits q = nothing_fits (is_open q s.voter) _ _
 
   tune_fits : (quorum minority repairs : ℕ) → AreFitting own s (on_tune own quorum minority repairs).records
   unfolding on_tune may_tune
-  tune_fits quorum minority repairs = nothing_fits (may_tune own.rules quorum minority repairs) _ (λ may.
-      let all = and_parts (leb 1 quorum && leb quorum own.rules.inner && obeys_quorum_rule quorum minority)
+  tune_fits quorum minority repairs = nothing_fits _ _ (λ may.
+      let all = and_parts _
       (leb repairs MOST_REPAIRS) may in
-      let three = and_parts (leb 1 quorum && leb quorum own.rules.inner) (obeys_quorum_rule quorum minority) all.0 in
-      let two = and_parts (leb 1 quorum) (leb quorum own.rules.inner) three.0 in
+      let three = and_parts _ (obeys_quorum_rule quorum minority) all.0 in
+      let two = and_parts (leb 1 quorum) _ three.0 in
       let low = leb-true quorum own.rules.inner two.1 in
       (((leb-true 1 quorum two.0, omega (arith, low, few), three.1), leb-true repairs MOST_REPAIRS all.1), tt))
 
@@ -738,26 +718,22 @@ module _ (own : Station) (s : State) (few : own.rules.inner ≤ MOST_CIRCLE) (ro
 
   receive_fits : (tick from : ℕ) (m : Message) (judged : Judged) → IsWithin m
       → AreFitting own s (receive_in own s tick from m judged).records
-  receive_fits tick from (message.Poll n au) judged within = invitation_fits tick (poll_named from n) au
-  receive_fits tick from (message.PollChallenge n agrees) judged within =
-      for_found n (challenge_in own from agrees) (challenge_fits from agrees n)
-  receive_fits tick from (message.PollProof n nonce kind proof) judged within =
-      proof_fits (poll_named from n) nonce kind judged
-  receive_fits tick from (message.Nominate n nominees) judged within =
-      for_found n (nominate_in from nominees) (nominate_fits from nominees n)
-  receive_fits tick from (message.Vote n hashes proof) judged within =
-      for_found n (vote_in_poll from hashes judged s.copies) (vote_fits from hashes judged n)
-  receive_fits tick from (message.RepairRequest n b) judged within = request_fits (poll_named from n) b
+  receive_fits tick from (message.Poll n au) judged within = invitation_fits tick _ au
+  receive_fits tick from (message.PollChallenge n agrees) judged within = for_found n _ (challenge_fits from agrees n)
+  receive_fits tick from (message.PollProof n nonce kind proof) judged within = proof_fits _ nonce kind judged
+  receive_fits tick from (message.Nominate n nominees) judged within = for_found n _ (nominate_fits from nominees n)
+  receive_fits tick from (message.Vote n hashes proof) judged within = for_found n _ (vote_fits from hashes judged n)
+  receive_fits tick from (message.RepairRequest n b) judged within = request_fits _ b
   receive_fits tick from (message.Repair n b bytes) judged within =
-      for_found n (repair_in own from b bytes s.copies) (repair_fits from b bytes within.1 n)
-  receive_fits tick from (message.Receipt n) judged within = end_fits (poll_named from n)
+      for_found n _ (repair_fits from b bytes within.1 n)
+  receive_fits tick from (message.Receipt n) judged within = end_fits _
 
   pub reaction_fits : (tick : ℕ) (i : Input) → IsHeard i → AreFitting own s (react_on own s tick i).records
   unfolding react_on check_in
   reaction_fits tick (input.OpenPoll au) heard = open_fits tick au
-  reaction_fits tick (input.Widen n) heard = for_found n (widen_in own) (widen_fits n)
-  reaction_fits tick (input.Shut n) heard = for_found n (shut_in own tick) (shut_fits tick n)
-  reaction_fits tick (input.Tally n) heard = for_found n (tally_in own tick s.copies) (tally_fits tick n)
+  reaction_fits tick (input.Widen n) heard = for_found n _ (widen_fits n)
+  reaction_fits tick (input.Shut n) heard = for_found n _ (shut_fits tick n)
+  reaction_fits tick (input.Tally n) heard = for_found n _ (tally_fits tick n)
   reaction_fits tick (input.Nudge n) heard = for_found n nudge_in (nudge_fits n)
   reaction_fits tick (input.GiveUp n) heard = for_found n give_up_in (give_up_fits n)
   reaction_fits tick (input.Work q) heard = work_fits q

@@ -19,7 +19,7 @@ use Rattle.lks_tally.specs.declared.ballots.Vote.{Vote}
 
 pub any_more : (p : Record → Bool) (js : List Record) (r : Record)
     → list_any p (js ++ r ∷ []) ≡ cond (p r) true (list_any p js)
-any_more p js r = list_any-append p js (r ∷ []) ∙ either (list_any p js) (p r)
+any_more p js r = list_any-append p js _ ∙ either (list_any p js) (p r)
   where
     either : (a b : Bool) → (a || (b || false)) ≡ cond b true a
     either true true = refl
@@ -30,17 +30,17 @@ any_more p js r = list_any-append p js (r ∷ []) ∙ either (list_any p js) (p 
 pub shut_more : (n : ℕ) (js : List Record) (r : Record)
     → is_shut n (js ++ r ∷ []) ≡ cond (shuts n r) true (is_shut n js)
 unfolding is_shut
-shut_more n js r = any_more (shuts n) js r
+shut_more n js r = any_more _ js r
 
 pub closed_more : (n : ℕ) (js : List Record) (r : Record)
     → is_closed n (js ++ r ∷ []) ≡ cond (closes n r) true (is_closed n js)
 unfolding is_closed
-closed_more n js r = any_more (closes n) js r
+closed_more n js r = any_more _ js r
 
 pub asked_more : (n : ℕ) (js : List Record) (r : Record)
     → has_asked n (js ++ r ∷ []) ≡ cond (asks_any n r) true (has_asked n js)
 unfolding has_asked
-asked_more n js r = any_more (asks_any n) js r
+asked_more n js r = any_more _ js r
 
 -- the votes with the one that the record has
 abbrev pub votes_after : List Vote → Option Vote → List Vote
@@ -50,7 +50,7 @@ votes_after vs (Some v) = vs ++ v ∷ []
 pub votes_more : (n : ℕ) (js : List Record) (r : Record)
     → votes n (js ++ r ∷ []) ≡ votes_after (votes n js) (vote_in n r)
 unfolding votes
-votes_more n js r = filter_map-append (vote_in n) js (r ∷ []) ∙ by_vote (filter_map (vote_in n) js) (vote_in n r)
+votes_more n js r = filter_map-append _ js _ ∙ by_vote (filter_map _ js) (vote_in n r)
   where
     by_vote : (vs : List Vote) (v : Option Vote) → vs ++ cons_option v [] ≡ votes_after vs v
     by_vote vs None = append-nil vs
@@ -103,18 +103,18 @@ opening_more n (j ∷ js) r =
 
 pub openings_more : (js : List Record) (r : Record) → openings (js ++ r ∷ []) ≡ openings js + cond (is_opening r) 1 0
 unfolding openings
-openings_more js r = sum_by_push (λ j. cond (is_opening j) 1 0) js r
+openings_more js r = sum_by_push _ js r
 
 pub numbers_more : (js : List Record) (r : Record)
     → opened_numbers (js ++ r ∷ []) ≡ opened_numbers js ++ cons_option (opened_in r) []
 unfolding opened_numbers
-numbers_more js r = filter_map-append opened_in js (r ∷ [])
+numbers_more js r = filter_map-append opened_in js _
 
 -- the numbers in force
 pub numbers_last : (before : Numbers) (js : List Record) (r : Record)
     → numbers_from before (js ++ r ∷ []) ≡ numbers_after (numbers_from before js) r
 numbers_last before [] r = refl
-numbers_last before (j ∷ js) r = numbers_last (numbers_after before j) js r
+numbers_last before (j ∷ js) r = numbers_last _ js r
 
 -- Copies of AUs.
 
@@ -132,14 +132,14 @@ replaced_if blocks (Some r) = slice_set blocks r.block r.bytes
 replaced_last : (blocks : List (List ℕ)) (rs : List Replacement) (r : Replacement)
     → replaced_by blocks (rs ++ r ∷ []) ≡ slice_set (replaced_by blocks rs) r.block r.bytes
 replaced_last blocks [] r = refl
-replaced_last blocks (s ∷ rs) r = replaced_last (slice_set blocks s.block s.bytes) rs r
+replaced_last blocks (s ∷ rs) r = replaced_last _ rs r
 
 pub contents_more : (au : ℕ) (js : List Record) (r : Record) → deposit_in au r ≡ None
     → contents_of au (js ++ r ∷ []) ≡ replaced_if (contents_of au js) (replacement_in au r)
 unfolding contents_of
 contents_more au js r none =
     ap (λ d. replaced_by (unwrap_or d []) (replacements au (js ++ r ∷ []))) (deposit_more au js r none)
-    ∙ ap (replaced_by blocks) (filter_map-append (replacement_in au) js (r ∷ []))
+    ∙ ap (replaced_by blocks) (filter_map-append _ js _)
     ∙ by_replacement (replacement_in au r)
   where
     blocks : List (List ℕ)

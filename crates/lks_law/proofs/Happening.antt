@@ -19,7 +19,7 @@ use Rattle.lks_law.specs.Facts.{HasJournal}
 use Rattle.lks_law.specs.Histories.{was_judged, IsHonest, MayHappen, MayAllHappen, IsHistory}
 use Rattle.lks_law.specs.Questions.{Verdicts, judgement_on, question_at, asked_by, questions_from, questions}
 use Rattle.lks_law.specs.Questions.{delivery_of}
-use Rattle.lks_law.specs.World.{World, Standing, is_honest, start, happens, happen_all, world}
+use Rattle.lks_law.specs.World.{World, Standing, is_honest, happens, happen_all, world}
 use Rattle.lks_law.proofs.Histories.{waiting_stands}
 use Rattle.lks_law.proofs.Journals.{journals_are_own}
 
@@ -39,35 +39,33 @@ unfolding world
 history_more plan history e is room may =
     let all = length-append history (e ∷ []) in
     let one : length (e ∷ []) ≡ 1 = refl in
-    record { few = omega (arith, room, all, one); may = all_may_more plan (start plan) history e is.may may }
+    record { few = omega (arith, room, all, one); may = all_may_more plan _ history e is.may may }
 
 -- Questions and alarms grow with the history.
 
 questions_last : (w : World) (history : List Event) (e : Event)
     → questions_from w (history ++ e ∷ []) ≡ questions_from w history ++ asked_by (happen_all w history) e
-questions_last w [] e = append-nil (asked_by w e)
+questions_last w [] e = append-nil _
 questions_last w (d ∷ ds) e =
     ap (λ (qs : List Question). asked_by w d ++ qs) (questions_last (happens w d) ds e)
-    ∙ sym
-    (append_assoc (asked_by w d) (questions_from (happens w d) ds) (asked_by (happen_all (happens w d) ds) e))
+    ∙ sym (append_assoc (asked_by w d) _ _)
 
 pub questions_more : (plan : Plan) (history : List Event) (e : Event)
     → questions plan (history ++ e ∷ []) ≡ questions plan history ++ asked_by (world plan history) e
 unfolding questions world
-questions_more plan history e = questions_last (start plan) history e
+questions_more plan history e = questions_last _ history e
 
 alarms_last : (w : World) (history : List Event) (e : Event)
     → alarms_from w (history ++ e ∷ []) ≡ alarms_from w history ++ alarms_by (happen_all w history) e
-alarms_last w [] e = append-nil (alarms_by w e)
+alarms_last w [] e = append-nil _
 alarms_last w (d ∷ ds) e =
     ap (λ (raised : List Alarm). alarms_by w d ++ raised) (alarms_last (happens w d) ds e)
-    ∙ sym
-    (append_assoc (alarms_by w d) (alarms_from (happens w d) ds) (alarms_by (happen_all (happens w d) ds) e))
+    ∙ sym (append_assoc (alarms_by w d) _ _)
 
 pub alarms_more : (plan : Plan) (history : List Event) (e : Event)
     → alarms plan (history ++ e ∷ []) ≡ alarms plan history ++ alarms_by (world plan history) e
 unfolding alarms world
-alarms_more plan history e = alarms_last (start plan) history e
+alarms_more plan history e = alarms_last _ history e
 
 -- Each peer of a world is an honest one of its plan.
 
@@ -83,15 +81,15 @@ listed_honest (q ∷ qs) place p at = by_test (is_honest q) refl place at (λ k 
         → ((q.id == p.id && is_honest q) || list_any (λ r. r.id == p.id && is_honest r) qs) ≡ true
     by_test true honest zero at rest =
         let same : q ≡ p = cc in
-        or_left (q.id == p.id && is_honest q) _
-        (and_from (q.id == p.id) (is_honest q) (eq-eqb q.id p.id (ap (λ (x : PeerPlan). x.id) same)) honest)
-    by_test true honest (suc k) at rest = or_right (q.id == p.id && is_honest q) _ (rest k at)
-    by_test false honest k at rest = or_right (q.id == p.id && is_honest q) _ (rest k at)
+        or_left _ _
+        (and_from _ _ (eq-eqb q.id p.id (ap (λ (x : PeerPlan). x.id) same)) honest)
+    by_test true honest (suc k) at rest = or_right _ _ (rest k at)
+    by_test false honest k at rest = or_right _ _ (rest k at)
 
 pub standing_honest : (plan : Plan) (history : List Event) (place : ℕ) (s : Standing)
     → slice_get (world plan history).peers place ≡ Some s → IsHonest plan s.own.id
 standing_honest plan history place s at =
-    by_plan (slice_get (filter is_honest plan.peers) place) refl ((journals_are_own plan history).each place s at)
+    by_plan (slice_get _ place) refl ((journals_are_own plan history).each place s at)
   where
     by_plan : (o : Option PeerPlan) → slice_get (filter is_honest plan.peers) place ≡ o
         → HasJournal plan (world plan history).tick o s → IsHonest plan s.own.id

@@ -12,7 +12,7 @@ use Rattle.lks_law.specs.Journal.{Opening, Replacement, Audit, later, deposit_in
 use Rattle.lks_law.specs.Journal.{replacements, replaced_by, contents_of, opening_in, opening_of, closes, is_closed}
 use Rattle.lks_law.specs.Journal.{is_of_au, audit_after, audit_from, audit_of}
 use Rattle.lks_law.specs.State.{Poll, Copy, copy_at, blocks_in, blocks_at, deposited_copy, opened_at, replaced_in}
-use Rattle.lks_law.specs.State.{agreed_at, noted_overdue, copy_changed, agreed_on, copies_after, poll_at}
+use Rattle.lks_law.specs.State.{agreed_at, noted_overdue, copy_changed, agreed_on, copies_after}
 use Rattle.lks_law.specs.Written.{is_deposit, MayFollow}
 use Rattle.lks_law.proofs.Grown.{first_opening, opening_more, contents_more, replaced_if, first_stays}
 use Rattle.lks_law.proofs.RunningPolls.{eqb_swap, pushed, filter_map_more, unnamed, polls_of, running_by, poll_found}
@@ -63,8 +63,7 @@ deposit_first au [] r = only (deposit_in au r)
     only None = refl
     only (Some o) = refl
 deposit_first au (j ∷ js) r =
-    here (deposit_in au j) (deposit_of au js) (deposit_in au r) (deposit_of au (js ++ r ∷ []))
-    (deposit_first au js r)
+    here (deposit_in au j) (deposit_of au js) (deposit_in au r) (deposit_of au (js ++ r ∷ [])) (deposit_first au js r)
   where
     here : (o rest last all : Option (List (List ℕ))) → all ≡ first rest last
         → cond (is_some o) o all ≡ first (cond (is_some o) o rest) last
@@ -81,9 +80,7 @@ record Untouched (au : ℕ) (js : List Record) : Type 0 where
 deposits_only : (au : ℕ) (js : List Record) → list_all is_deposit js ≡ true → Untouched au js
 unfolding audit_after
 deposits_only au [] e = record { replaced = refl; opened = refl; audit = λ all. refl }
-deposits_only au (j ∷ js) e =
-    let parts = and_parts (is_deposit j) (list_all is_deposit js) e in
-    by_record j parts.0 (deposits_only au js parts.1)
+deposits_only au (j ∷ js) e = let parts = and_parts _ _ e in by_record j parts.0 (deposits_only au js parts.1)
   where
     by_record : (j : Record) → is_deposit j ≡ true → Untouched au js → Untouched au (j ∷ js)
     by_record (Deposit a blocks) e rest = record { replaced = rest.replaced; opened = rest.opened; audit = rest.audit }
@@ -111,7 +108,7 @@ deposits_more : (js : List Record) (r : Record) → list_all is_deposit js ≡ t
     → list_all is_deposit (js ++ r ∷ []) ≡ true
 deposits_more [] r e last = ap (λ b. b && true) last
 deposits_more (j ∷ js) r e last =
-    let parts = and_parts (is_deposit j) (list_all is_deposit js) e in
+    let parts = and_parts _ _ e in
     ap (λ b. b && list_all is_deposit (js ++ r ∷ [])) parts.0 ∙ deposits_more js r parts.1 last
 
 at_end : (au : ℕ) (cs : List Copy) (c : Copy)
@@ -132,9 +129,8 @@ one_deposit : (js : List Record) (a : ℕ) (blocks : List (List ℕ)) (cs : List
     ≡ copy_of au (js ++ Deposit a blocks ∷ [])
 one_deposit js a blocks cs all are au =
     by_held (deposit_of a js) refl (copy_at a cs) (are a ∙ deposit_is a js all)
-    ∙ sym
-    (deposit_is au (js ++ Deposit a blocks ∷ []) (deposits_more js (Deposit a blocks) all refl)
-    ∙ ap (option_map (deposited_copy au)) (deposit_first au js (Deposit a blocks)))
+    ∙ sym (deposit_is au _ (deposits_more js _ all refl)
+    ∙ ap (option_map _) (deposit_first au js _))
   where
     was : copy_at au cs ≡ option_map (deposited_copy au) (deposit_of au js)
     was = are au ∙ deposit_is au js all
@@ -158,12 +154,11 @@ one_deposit js a blocks cs all are au =
         ≡ option_map (deposited_copy au) (first (deposit_of au js) (cond (eqb a au) (Some blocks) None))
     by_held (Some d) is held e =
         ap (λ h. copy_at au (cond (is_some h) cs (cs ++ deposited_copy a blocks ∷ []))) e ∙ was
-        ∙ ap (option_map (deposited_copy au))
-        (stays (eqb a au) (deposit_of au js)
+        ∙ ap (option_map _) (stays (eqb a au) (deposit_of au js)
         (λ t. ap is_some (ap (λ k. deposit_of k js) (sym (eqb-true a au t)) ∙ is)))
     by_held None is held e =
         ap (λ h. copy_at au (cond (is_some h) cs (cs ++ deposited_copy a blocks ∷ []))) e
-        ∙ at_end au cs (deposited_copy a blocks)
+        ∙ at_end au cs _
         ∙ ap (λ c. first c (cond (eqb a au) (Some (deposited_copy a blocks)) None)) was
         ∙ joins (eqb a au) (deposit_of au js) (eqb-true a au)
 
@@ -196,8 +191,7 @@ changed_at a au f (c ∷ cs) same =
         by_test : (b : Bool) → eqb a d.au ≡ b → b ≡ false
         by_test false e = refl
         by_test true e =
-            absurd
-            (both_ways (eqb c.au au) isnt (eq-eqb c.au au (sym (eqb-true a c.au is) ∙ eqb-true a d.au e ∙ at)))
+            absurd (both_ways _ isnt (eq-eqb c.au au (sym (eqb-true a c.au is) ∙ eqb-true a d.au e ∙ at)))
 
     by_tests : (b : Bool) → eqb a c.au ≡ b → (d : Bool) → eqb c.au au ≡ d
         → copy_at au (copy_changed a f cs) ≡ option_map (λ c. cond (eqb a c.au) (f c) c) (copy_at au cs)
@@ -220,8 +214,8 @@ audit_same : (au : ℕ) (all longer : List Record) (before : Audit) (xs : List R
 unfolding is_closed audit_after
 audit_same au all longer before [] h = refl
 audit_same au all longer before (x ∷ xs) h =
-    ap (λ a. audit_from au longer a xs) (by_record x (λ k e. h k (or_left (closes k x) (is_closed k xs) e)))
-    ∙ audit_same au all longer (audit_after au all before x) xs (λ k e. h k (or_right (closes k x) (is_closed k xs) e))
+    ap (λ a. audit_from au longer a xs) (by_record x (λ k e. h k (or_left _ _ e)))
+    ∙ audit_same au all longer (audit_after au all before x) xs (λ k e. h k (or_right _ _ e))
   where
     by_record : (x : Record) → ((k : ℕ) → closes k x ≡ true → opening_of k longer ≡ opening_of k all)
         → audit_after au longer before x ≡ audit_after au all before x
@@ -238,8 +232,7 @@ audit_last au all before (j ∷ js) r = audit_last au all (audit_after au all be
 -- no opening of a closed poll comes later
 opening_stays : (js : List Record) (r : Record) → MayFollow js r → (k : ℕ) → is_closed k js ≡ true
     → opening_of k (js ++ r ∷ []) ≡ opening_of k js
-opening_stays js r may k over =
-    opening_more k js r ∙ ap (first_opening (opening_of k js)) (none r may) ∙ first_stays (opening_of k js)
+opening_stays js r may k over = opening_more k js r ∙ ap (first_opening _) (none r may) ∙ first_stays _
   where
     none : (r : Record) → MayFollow js r → opening_in k r ≡ None
     none (PollOpened number au nonce inner tick limits kind) e = by_number (eqb number k) refl
@@ -260,9 +253,8 @@ audit_more : (au : ℕ) (js : List Record) (r : Record) → MayFollow js r
     → audit_of au (js ++ r ∷ []) ≡ audit_after au (js ++ r ∷ []) (audit_of au js) r
 unfolding audit_of
 audit_more au js r may =
-    audit_last au (js ++ r ∷ []) (record { tick = 0; noted = false }) js r
-    ∙ ap (λ a. audit_after au (js ++ r ∷ []) a r)
-    (audit_same au js (js ++ r ∷ []) (record { tick = 0; noted = false }) js (opening_stays js r may))
+    audit_last au _ _ js r
+    ∙ ap (λ a. audit_after au (js ++ r ∷ []) a r) (audit_same au js _ _ js (opening_stays js r may))
 
 abbrev counted : List Replacement → Option Replacement → ℕ
 counted rs None = length rs
@@ -302,7 +294,7 @@ copy_more : (au : ℕ) (js : List Record) (r : Record) → MayFollow js r → de
 copy_more au js r may none = λ i. record {
   au = au;
   blocks = contents_more au js r none i;
-  version = (count_more au js r ∙ counts au js (replacement_in au r)) i;
+  version = (count_more au js r ∙ counts au js _) i;
   opened = opened_more au None js r i;
   audit = audit_more au js r may i;
 }
@@ -310,8 +302,7 @@ copy_more au js r may none = λ i. record {
 held_more : (au : ℕ) (js : List Record) (r : Record) → MayFollow js r → deposit_in au r ≡ None
     → copy_of au (js ++ r ∷ []) ≡ option_map (copy_after au (js ++ r ∷ []) r) (copy_of au js)
 held_more au js r may none =
-    ap (copy_by au (js ++ r ∷ []))
-    (deposit_first au js r ∙ ap (first (deposit_of au js)) none ∙ stays (deposit_of au js))
+    ap (copy_by au _) (deposit_first au js r ∙ ap (first _) none ∙ stays (deposit_of au js))
     ∙ by_deposit (deposit_of au js)
   where
     stays : (d : Option (List (List ℕ))) → first d None ≡ d
@@ -389,52 +380,42 @@ module _ (rules : Rules) (js : List Record) (cs : List Copy) (are : (au : ℕ) �
       → found ≡ running_by rules n js (opening_of n js) (is_closed n js)
       → (au : ℕ) → copy_at au (agreed_on found tick cs) ≡ copy_of au (js ++ Closed n Agreed tick ∷ [])
   unfolding is_of_au audit_after
-  agreed n tick may found is =
-      by_opening (opening_of n js) refl (is ∙ ap (running_by rules n js (opening_of n js)) may.0)
+  agreed n tick may found is = by_opening (opening_of n js) refl (is ∙ ap (running_by rules n js _) may.0)
     where
       r : Record
       r = Closed n Agreed tick
 
       same : opening_of n (js ++ r ∷ []) ≡ opening_of n js
-      same = opening_more n js r ∙ first_stays (opening_of n js)
+      same = opening_more n js r ∙ first_stays _
 
       by_opening : (o : Option Opening) → opening_of n js ≡ o → found ≡ running_by rules n js o false → (au : ℕ)
           → copy_at au (agreed_on found tick cs) ≡ copy_of au (js ++ r ∷ [])
       by_opening None e is au =
           ap (λ p. copy_at au (agreed_on p tick cs)) is
-          ∙ by_none r may (λ a. refl)
-          (λ a. ap
-          (λ x.
+          ∙ by_none r may (λ a. refl) (λ a. ap (λ x.
           record (copy_as a js) {
             audit = cond (is_of_au a x) (record { tick = tick; noted = false })
                 (audit_of a js);
           }) (same ∙ e)) au
       by_opening (Some o) e is au =
           ap (λ p. copy_at au (agreed_on p tick cs)) is
-          ∙ by_change r o.au (agreed_at tick) may (λ a. refl) (λ c. refl)
-          (λ a. ap
-          (λ x.
+          ∙ by_change r o.au _ may (λ a. refl) (λ c. refl) (λ a. ap (λ x.
           record (copy_as a js) {
             audit = cond (is_of_au a x) (record { tick = tick; noted = false })
                 (audit_of a js);
           }) (same ∙ e)
-          ∙ agreed_by (eqb o.au a) (copy_as a js) tick) au
+          ∙ agreed_by _ _ tick) au
 
   pub copies_more : (r : Record) → MayFollow js r → (au : ℕ)
       → copy_at au (copies_after (polls_of rules js) r cs) ≡ copy_of au (js ++ r ∷ [])
   unfolding audit_after
   copies_more (Deposit a blocks) may = one_deposit js a blocks cs may are
   copies_more (PollOpened number a nonce inner tick limits kind) may =
-      by_change (PollOpened number a nonce inner tick limits kind) a (opened_at tick) may (λ au. refl) (λ c. refl)
-      (λ au. opened_by (eqb a au) (copy_as au js) tick)
+      by_change _ a _ may (λ au. refl) (λ c. refl) (λ au. opened_by _ _ tick)
   copies_more (Replaced number a block bytes) may =
-      by_change (Replaced number a block bytes) a (replaced_in block bytes) may (λ au. refl) (λ c. refl)
-      (λ au. replaced_when (eqb a au) (copy_as au js) block bytes)
-  copies_more (Closed number Agreed tick) may =
-      agreed number tick may (poll_at number (polls_of rules js)) (poll_found rules number js)
-  copies_more (Overdue a tick) may =
-      by_change (Overdue a tick) a noted_overdue may (λ au. refl) (λ c. refl)
-      (λ au. noted_by (eqb a au) (copy_as au js))
+      by_change _ a _ may (λ au. refl) (λ c. refl) (λ au. replaced_when _ _ block bytes)
+  copies_more (Closed number Agreed tick) may = agreed number tick may _ (poll_found rules number js)
+  copies_more (Overdue a tick) may = by_change _ a noted_overdue may (λ au. refl) (λ c. refl) (λ au. noted_by _ _)
   copies_more r may = by_none r may (λ au. refl) (λ au. refl)
 
 -- the blocks of an AU, held or not

@@ -11,7 +11,7 @@ use Rattle.lks_base.specs.declared.events.Event.TheVariants.{Step, Cut, Tick, Lo
 use Rattle.lks_base.specs.declared.plans.Plan.{Plan}
 use Rattle.lks_law.specs.Due.{takes_out, is_pending, pending}
 use Rattle.lks_law.specs.Entries.{entry_of, entries_from, entries}
-use Rattle.lks_law.specs.World.{World, start, happens, happen_all, world}
+use Rattle.lks_law.specs.World.{World, happens, happen_all, world}
 
 all_more : (w : World) (history : List Event) (e : Event)
     → happen_all w (history ++ e ∷ []) ≡ happens (happen_all w history) e
@@ -21,7 +21,7 @@ all_more w (d ∷ ds) e = all_more (happens w d) ds e
 pub world_more : (plan : Plan) (history : List Event) (e : Event)
     → world plan (history ++ e ∷ []) ≡ happens (world plan history) e
 unfolding world
-world_more plan history e = all_more (start plan) history e
+world_more plan history e = all_more _ history e
 
 from_more : (w : World) (history : List Event) (e : Event)
     → entries_from w (history ++ e ∷ []) ≡ entries_from w history ++ entry_of (happen_all w history) e ∷ []
@@ -31,7 +31,7 @@ from_more w (d ∷ ds) e = ap (λ es. entry_of w d ∷ es) (from_more (happens w
 pub entries_more : (plan : Plan) (history : List Event) (e : Event)
     → entries plan (history ++ e ∷ []) ≡ entries plan history ++ entry_of (world plan history) e ∷ []
 unfolding entries world
-entries_more plan history e = from_more (start plan) history e
+entries_more plan history e = from_more _ history e
 
 -- The envelopes that wait after one event more.
 
@@ -44,8 +44,7 @@ pass_all q a (suc n) p =
 
 filter-append : (q : ℕ → Bool) (xs ys : List ℕ) → filter q (xs ++ ys) ≡ filter q xs ++ filter q ys
 filter-append q [] ys = refl
-filter-append q (x ∷ xs) ys =
-    filter_head (q x) x (filter q xs) (filter q ys) (filter q (xs ++ ys)) (filter-append q xs ys)
+filter-append q (x ∷ xs) ys = filter_head (q x) x (filter q xs) (filter q ys) (filter q _) (filter-append q xs ys)
   where
     filter_head : (b : Bool) (x : ℕ) (xs ys zs : List ℕ) → zs ≡ xs ++ ys → cond b (x ∷ zs) zs ≡ cond b (x ∷ xs) xs ++ ys
     filter_head true x xs ys zs e = ap (λ is. x ∷ is) e
@@ -58,14 +57,12 @@ twice_head q false x ps qs e = e
 
 filter_twice : (p q : ℕ → Bool) (xs : List ℕ) → filter (λ i. p i && q i) xs ≡ filter q (filter p xs)
 filter_twice p q [] = refl
-filter_twice p q (x ∷ xs) = twice_head q (p x) x (filter p xs) (filter (λ i. p i && q i) xs) (filter_twice p q xs)
+filter_twice p q (x ∷ xs) = twice_head q (p x) x _ _ (filter_twice p q xs)
 
 -- an envelope waits after one event more if it waited and the event doesn't take it out
 pending_after : (history : List Event) (e : Event) (i : ℕ)
     → is_pending (history ++ e ∷ []) i ≡ (is_pending history i && not (takes_out i e))
-pending_after history e i =
-    ap not (list_any-append (takes_out i) history (e ∷ []))
-    ∙ neither (list_any (takes_out i) history) (takes_out i e)
+pending_after history e i = ap not (list_any-append _ history _) ∙ neither (list_any _ history) (takes_out i e)
   where
     neither : (a b : Bool) → not (a || (b || false)) ≡ (not a && not b)
     neither true b = refl
@@ -83,12 +80,12 @@ waiting_more : (history : List Event) (e : Event) (n k : ℕ) → ((i : ℕ) →
     ≡ filter (λ i. not (takes_out i e)) (filter (is_pending history) (range_with_len 0 n)) ++ range_with_len n k
 waiting_more history e n k fresh untouched =
     let after = is_pending (history ++ e ∷ []) in
-    let stays : (i : ℕ) → Bool = λ i. not (takes_out i e) in
+    let stays : _ → Bool = λ i. not (takes_out i e) in
     ap (filter after) (range_parts 0 n k ∙ ap (λ m. range_with_len 0 n ++ range_with_len m k) zero_n)
-    ∙ filter-append after (range_with_len 0 n) (range_with_len n k)
+    ∙ filter-append after _ _
     ∙ ap (λ is. is ++ filter after (range_with_len n k))
-    (same_tests after (λ i. is_pending history i && stays i) (range_with_len 0 n) (pending_after history e)
-    ∙ filter_twice (is_pending history) stays (range_with_len 0 n))
+    (same_tests after _ _ (pending_after history e)
+    ∙ filter_twice _ stays (range_with_len 0 n))
     ∙ ap (λ is. filter stays (filter (is_pending history) (range_with_len 0 n)) ++ is)
     (pass_all after n k
     (λ i le. pending_after history e i ∙ ap (λ b. b && stays i) (fresh i le) ∙ ap not (untouched i le)))
@@ -107,7 +104,7 @@ pub pending_more : (plan : Plan) (history : List Event) (e : Event) (k : ℕ)
 unfolding pending
 pending_more plan history e k grown fresh untouched =
     ap (λ m. filter (is_pending (history ++ e ∷ [])) (range_with_len 0 m)) grown
-    ∙ waiting_more history e (length (world plan history).bag) k fresh untouched
+    ∙ waiting_more history e _ k fresh untouched
 
 pub fresh_more : (history : List Event) (e : Event) (n m : ℕ) → n ≤ m
     → ((i : ℕ) → n ≤ i → is_pending history i ≡ true) → ((i : ℕ) → n ≤ i → takes_out i e ≡ false) → (i : ℕ) → m ≤ i
@@ -129,16 +126,13 @@ first_below : (q : ℕ → Bool) (a n end i : ℕ) (is : List ℕ) → a + n ≤
     → i < end
 first_below q a zero end i is le e = absurd cc
 first_below q a (suc n) end i is le e =
-    head_below (q a) a end i (filter q (range_with_len (a + 1) n)) is (omega arith)
-    (first_below q (a + 1) n end i is (omega arith)) e
+    head_below (q a) a end i _ is (omega arith) (first_below q (a + 1) n end i is (omega arith)) e
 
 -- an envelope that waits stands in the bag
 pub waiting_stands : (plan : Plan) (history : List Event) (i : ℕ) (is : List ℕ) → pending plan history ≡ i ∷ is
     → i < length (world plan history).bag
 unfolding pending
-waiting_stands plan history i is e =
-    first_below (is_pending history) 0 (length (world plan history).bag) (length (world plan history).bag) i is
-    (omega arith) e
+waiting_stands plan history i is e = first_below _ 0 (length (world plan history).bag) _ i is (omega arith) e
 
 pub entry_event : (w : World) (e : Event) → (entry_of w e).event ≡ e
 unfolding entry_of
@@ -158,4 +152,4 @@ events_from w (e ∷ es) =
 pub entries_events : (plan : Plan) (history : List Event)
     → map (λ (e : Entry). e.event) (entries plan history) ≡ history
 unfolding entries
-entries_events plan history = events_from (start plan) history
+entries_events plan history = events_from _ history

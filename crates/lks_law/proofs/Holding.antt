@@ -1,7 +1,7 @@
 -- Who voted over what.
 use Rattle.std.proofs.Common.{◌≡◌, ◌≤◌, ◌<◌, ◌+◌, ◌∙◌, ◌⊎◌, ap, sym, subst, ℕ, true, eqb, List, [], length, take}
-use Rattle.std.proofs.Common.{drop, refl, arith}
-use Rattle.std.specs.Prelude.{Option, Some, None, ◌*◌, unwrap_or, option_map, slice_get}
+use Rattle.std.proofs.Common.{refl, arith}
+use Rattle.std.specs.Prelude.{Option, Some, None, unwrap_or, option_map, slice_get}
 use Rattle.std.specs.Cmp.Lexicographic.{pointwise, pointwise_decides, bytes_decides}
 use Rattle.std.proofs.lemmas.Bool.{lt-ltb}
 use Rattle.std.proofs.lemmas.List.{take-append-drop, length-set}
@@ -25,7 +25,7 @@ use Rattle.lks_law.specs.Histories.{IsHistory}
 use Rattle.lks_law.specs.Safe.{Evidence, Safe}
 use Rattle.lks_law.specs.Snapshots.{HaveSnapshots, version_by, named_version, is_front, journals_of, held_if, holders}
 use Rattle.lks_law.specs.Snapshots.{HasFewHolders, Collides, IsRestored}
-use Rattle.lks_law.proofs.Linked.{Each, Any, Heard, IsFrom, Fact}
+use Rattle.lks_law.proofs.Linked.{Each, Any, Heard, Fact}
 use Rattle.lks_law.proofs.Journals.{evidence_in}
 use Rattle.lks_law.proofs.Growing.{IsLater, each_map, front_deposit, contents_length, opening_stays}
 use Rattle.lks_law.proofs.Linking.{place_at}
@@ -35,16 +35,15 @@ use Rattle.lks_law.proofs.Starts.{world_holds}
 use Rattle.lks_law.proofs.Worlds.{IsSound, Linked, place_of}
 use Rattle.lks_tally.specs.declared.ballots.Ballot.{Ballot}
 use Rattle.lks_tally.specs.declared.ballots.Vote.{Vote}
-use Rattle.lks_tally.specs.Counting.{key_for, agrees, for_at, against_at}
+use Rattle.lks_tally.specs.Counting.{key_for, for_at, against_at}
 use Rattle.lks_tally.proofs.Agreeing.{agrees_same}
 
 pub snapshots : (peers : List Standing) (bag : List Envelope) (tick k : ℕ) → Linked peers bag k
     → HaveSnapshots (record { peers = peers; bag = bag; tick = tick })
 snapshots peers bag tick k linked place e s n hashes proof at from reads =
-    snapshot_of peers k s (poll_named e.to n) hashes (linked.each e.from s from)
+    snapshot_of peers k s _ hashes (linked.each e.from s from)
     (subst (λ o. Heard o e.to (message.Vote n hashes proof)) from
-    ((subst (Any (IsFrom peers)) at (place_of (IsFrom peers) bag place linked.bagged)).heard
-    (message.Vote n hashes proof) reads)).1
+    ((subst (Any _) at (place_of _ bag place linked.bagged)).heard (message.Vote n hashes proof) reads)).1
 
 named_is : (q : PollName) (js : List Record) (j : Join) (c : Commitment) → join_of q js ≡ Some j
     → commitment_of q js ≡ Some c → named_version q js ≡ Some (contents_at j.au c.version js)
@@ -73,8 +72,8 @@ held_parts peers q blocks b voter e = by_peer (peer_at voter peers) refl e
           honest = at;
           version = version;
           named_so = named_so;
-          front = (pointwise_decides {E = pointwise eqb} bytes_decides (take (b + 1) version)
-              (take (b + 1) blocks)).0 e;
+          front = (pointwise_decides {E = pointwise eqb} bytes_decides _
+              _).0 e;
         }
 
     by_peer : (o : Option Standing) → peer_at voter peers ≡ o
@@ -87,8 +86,7 @@ held_parts peers q blocks b voter e = by_peer (peer_at voter peers) refl e
 pub opening_later : (n : ℕ) (js : List Record) (i : ℕ) (o : Opening) → opening_of n (take i js) ≡ Some o
     → opening_of n js ≡ Some o
 opening_later n js i o opened =
-    subst (λ rs. opening_of n rs ≡ Some o) (take-append-drop i js)
-    (opening_stays n (take i js) (drop i js) o opened)
+    subst (λ rs. opening_of n rs ≡ Some o) (take-append-drop i js) (opening_stays n _ _ o opened)
 
 pub repair_later : (r : Record) (x : Repair) → (said_by r).replaced ≡ Some x → IsLater r
 repair_later (Deposit au blocks) x says = absurd cc
@@ -106,8 +104,7 @@ pub repair_within : (peers : List Standing) (own : Station) (js : List Record) (
     → Each (Fact peers own js) js → slice_get js i ≡ Some r → (said_by r).replaced ≡ Some x
     → x.block < length (contents_of x.au js)
 repair_within peers own js i r x facts there says =
-    repair_fact peers own js r x (subst (Any (Fact peers own js)) there (place_of (Fact peers own js) js i facts))
-    says
+    repair_fact peers own js r x (subst (Any _) there (place_of _ js i facts)) says
 
 module _ (peers : List Standing) (k : ℕ)
     (each : (id : ℕ) (s : Standing) → peer_at id peers ≡ Some s → IsSound peers k s) (s : Standing)
@@ -144,11 +141,11 @@ module _ (peers : List Standing) (k : ℕ)
       → held_if (poll_named s.own.id x.number) blocks x.block (journals_of peers v.voter) ≡ true
       → Over blocks (length (contents_of x.au (take i s.journal))) v
   over blocks v fact held =
-      let h = held_parts peers (poll_named s.own.id x.number) blocks x.block v.voter held in
+      let h = held_parts peers _ blocks x.block v.voter held in
       let t = h.standing in
       let w = voted_over peers k s t x.number o v at h.honest sound (each v.voter t h.honest)
       (opening_later x.number s.journal i o opened) fact in
-      let named_so = named_is (poll_named s.own.id x.number) t.journal w.snap.join w.snap.commitment w.snap.joined
+      let named_so = named_is _ t.journal w.snap.join w.snap.commitment w.snap.joined
       w.snap.committed in
       subst (λ count. Over blocks count v) (ap (λ a. length (contents_of a s.journal)) of_au ∙ same_count) (record {
         standing = t;
@@ -158,9 +155,7 @@ module _ (peers : List Standing) (k : ℕ)
         hashes = w.over;
         whole = w.whole;
         front_is =
-            ap (take (x.block + 1))
-            (some_is (named_version (poll_named s.own.id x.number) t.journal)
-            (contents_at w.snap.join.au w.snap.commitment.version t.journal) h.version named_so h.named_so)
+            ap (take _) (some_is _ _ h.version named_so h.named_so)
             ∙ h.front;
       })
 
@@ -174,12 +169,11 @@ module _ (peers : List Standing) (k : ℕ)
   unfolding holders
   few_hold few =
       let copy = contents_of x.au (take i s.journal) in
-      let q = ballot_behind s.own.id (take i s.journal) x o in
-      let held = filter_few (λ v. held_if (poll_named s.own.id x.number) copy x.block (journals_of peers v.voter))
-      (agrees q copy x.block) (votes_behind (take i s.journal) x o)
-      (each_map (VoteFact peers s.own s.journal sound.records x.number)
-      (λ v. held_if (poll_named s.own.id x.number) copy x.block (journals_of peers v.voter) ≡ true
-      → agrees q copy x.block v ≡ true) _ (λ v fact is.
+      let q = ballot_behind s.own.id _ x o in
+      let held = filter_few _
+      _ _
+      (each_map _
+      _ _ (λ v fact is.
       let y = over copy v fact is in
       let whole = y.whole in
       let deep = inside in
@@ -198,17 +192,14 @@ module _ (peers : List Standing) (k : ℕ)
       ⊎ Collides (journals_of peers) (ballot_behind s.own.id (take i s.journal) x o)
       (with_repair (take i s.journal) x) x.block (votes_behind (take i s.journal) x o)
   restored_by good few many =
-      restored (journals_of peers) q (votes_behind (take i s.journal) x o) (with_repair (take i s.journal) x) good
-      x.block (limits_of s.own.rules o).minority deep set
-      (each_map (VoteFact peers s.own s.journal sound.records x.number)
-      (λ v. held_if q.poll good x.block (journals_of peers v.voter) ≡ true
-      → HeldBy q x.block good (Names (journals_of peers) q.poll) v) _ held_so facts) few many
+      restored _ q _ _ good x.block (limits_of s.own.rules o).minority deep set (each_map _
+      _ _ held_so facts) few many
     where
       q : Ballot
       q = ballot_behind s.own.id (take i s.journal) x o
 
       set : length (with_repair (take i s.journal) x) ≡ length (contents_of x.au (take i s.journal))
-      set = length-set (contents_of x.au (take i s.journal)) x.block x.bytes
+      set = length-set _ x.block x.bytes
 
       deep : x.block < length (with_repair (take i s.journal) x)
       deep = let within = inside in let same = set in omega (arith, within, same)
@@ -223,7 +214,7 @@ module _ (peers : List Standing) (k : ℕ)
             names =
                 record {
                   journal = y.standing.journal;
-                  known = ap (option_map (λ (t : Standing). t.journal)) y.honest;
+                  known = ap (option_map _) y.honest;
                   named_so = y.named_so;
                 };
             hashes = y.hashes;
@@ -234,7 +225,7 @@ module _ (peers : List Standing) (k : ℕ)
 -- Every history.
 
 pub plan_is_lawful : (plan : Plan) → plan_fault plan ≡ None → ObeyQuorumRule (limits_in plan.rules)
-plan_is_lawful plan good = lt-ltb (2 * plan.rules.minority) plan.rules.quorum (good_rules plan good).3
+plan_is_lawful plan good = lt-ltb _ plan.rules.quorum (good_rules plan good).3
 
 module _ (plan : Plan) (history : List Event) (good : plan_fault plan ≡ None) (is : IsHistory plan history) where
   all_linked : Linked (world plan history).peers (world plan history).bag (0 + length history)
@@ -246,8 +237,7 @@ module _ (plan : Plan) (history : List Event) (good : plan_fault plan ≡ None) 
 
   pub votes_are_over_versions : HaveSnapshots (world plan history)
   votes_are_over_versions =
-      snapshots (world plan history).peers (world plan history).bag (world plan history).tick (0 + length history)
-      all_linked
+      snapshots (world plan history).peers (world plan history).bag (world plan history).tick _ all_linked
 
   -- the evidence of a replaced block is of the poll that was opened so
   record Behind (s : Standing) (before : List Record) (x : Repair) (o : Opening) : Type 0 where
@@ -262,8 +252,7 @@ module _ (plan : Plan) (history : List Event) (good : plan_fault plan ≡ None) 
   behind : (s : Standing) (before : List Record) (x : Repair) (o : Opening) → opening_of x.number before ≡ Some o
       → Evidence s.own.rules s.own.id before x → Behind s before x o
   behind s before x o opened evidence =
-      subst (Behind s before x) (some_is (opening_of x.number before) evidence.opening o evidence.opened opened)
-      (record {
+      subst (Behind s before x) (some_is _ evidence.opening o evidence.opened opened) (record {
         of_au = evidence.of_au;
         few_for_old = evidence.few_for_old;
         few_against_new = evidence.few_against_new;
@@ -273,18 +262,18 @@ module _ (plan : Plan) (history : List Event) (good : plan_fault plan ≡ None) 
       → HasFewHolders (world plan history) s
   few_held_it place s at i r x there says o opened =
       let own = own_place place s at in
-      let found = behind s (take i s.journal) x o opened
+      let found = behind s _ x o opened
       (evidence_in plan history place s (plan_is_lawful plan good) at i r x there says) in
-      few_hold (world plan history).peers (0 + length history) all_linked.each s own
+      few_hold (world plan history).peers _ all_linked.each s own
       (all_linked.each s.own.id s own) i r x o there says opened found.of_au found.few_for_old
 
   pub replaced_restores : (place : ℕ) (s : Standing) → slice_get (world plan history).peers place ≡ Some s
       → IsRestored (world plan history) s
   replaced_restores place s at i r x there says o held opened many =
       let own = own_place place s at in
-      let found = behind s (take i s.journal) x o opened
+      let found = behind s _ x o opened
       (evidence_in plan history place s (plan_is_lawful plan good) at i r x there says) in
-      restored_by (world plan history).peers (0 + length history) all_linked.each s own
+      restored_by (world plan history).peers _ all_linked.each s own
       (all_linked.each s.own.id s own) i r x o there says opened found.of_au held found.few_against_new many
 
 pub is_safe : (plan : Plan) (history : List Event) → plan_fault plan ≡ None → IsHistory plan history → Safe plan history

@@ -1,6 +1,6 @@
 -- What holds of every journal, and in every world.
 use Rattle.std.proofs.Common.{◌≡◌, ◌≢◌, ◌≤◌, ◌+◌, ◌∙◌, ◌⊎◌, inl, inr, ap, sym, subst, ℕ, zero, suc, Bool, true, false}
-use Rattle.std.proofs.Common.{cond, eqb, List, [], ◌∷◌, ◌++◌, length, take, filter, refl, arith}
+use Rattle.std.proofs.Common.{cond, eqb, List, [], ◌∷◌, ◌++◌, length, filter, refl, arith}
 use Rattle.std.specs.Prelude.{Option, Some, None, IfSome, Result, Ok, Err, slice_get, option_map, ◌&&◌}
 use Rattle.std.specs.List.{list_all, filter_map, cons_option, range_with_len}
 use Rattle.std.proofs.lemmas.List.{length-map}
@@ -31,7 +31,7 @@ use Rattle.lks_law.specs.Facts.{Heard, IsHeard, GoesBy, AreInOrder, IsJournalOf,
 use Rattle.lks_law.specs.Journal.{Opening, said_by, contents_of, opening_of, is_shut, is_closed, has_asked}
 use Rattle.lks_law.specs.Journal.{unanswered_request, waiting_requests, openings, opened_numbers}
 use Rattle.lks_law.specs.Polls.{Station, ObeyQuorumRule, limits_in, numbers_in_force, limits_in_force, limits_of}
-use Rattle.lks_law.specs.Polls.{ballot_of, votes, inner_votes, verdict_in}
+use Rattle.lks_law.specs.Polls.{votes, verdict_in}
 use Rattle.lks_law.specs.Reaction.{may_tally}
 use Rattle.lks_law.specs.Safe.{HasEvidence}
 use Rattle.lks_law.specs.Table.{reaction, on_message}
@@ -41,12 +41,11 @@ use Rattle.lks_law.specs.World.{peers_after, after_step, happens, happen_all, wo
 use Rattle.lks_law.specs.Written.{is_deposit}
 use Rattle.lks_law.proofs.Kept.{Kept}
 use Rattle.lks_law.proofs.Openings.{kept_on_open}
-use Rattle.lks_law.proofs.PollStates.{Good, poll_of, blank, copies_in, good_poll}
+use Rattle.lks_law.proofs.PollStates.{Good, poll_of, blank, good_poll}
 use Rattle.lks_law.proofs.Repairs.{kept_on_repair, kept_on_give_up}
 use Rattle.lks_law.proofs.Samples.{circles_more, reaction_adds, list_kept, peers_listed}
 use Rattle.lks_law.proofs.Unnumbered.{adds_kept, adds_circles}
 use Rattle.lks_message.proofs.Within.{read_within}
-use Rattle.lks_message.specs.Reading.{decode_of}
 use Rattle.lks_message.specs.Spelling.{IsWithin}
 use Rattle.lks_message.specs.declared.fault.MsgFault.{MsgFault}
 use Rattle.lks_choice.specs.Lists.{IsReferenceList}
@@ -54,7 +53,6 @@ use Rattle.lks_law.proofs.Rows.{KeptBy, kept_on_challenge, kept_on_nominate, kep
 use Rattle.lks_law.proofs.Rows.{kept_on_tally, kept_on_widen, kept_on_check, kept_on_nudge, tally_parts}
 use Rattle.lks_tally.specs.declared.ballots.Verdict.TheVariants as verdict
 use Rattle.lks_tally.proofs.Deciding.{inquorate_votes}
-use Rattle.lks_law.specs.Voting.{poll_named}
 use Rattle.lks_law.proofs.VoterAdds.{invitation_adds, proof_adds, work_adds, request_adds, end_adds, tune_adds}
 use Rattle.lks_law.proofs.KeptVoters.{kept_voters}
 
@@ -67,13 +65,12 @@ kept_message own js tick from (message.Nominate n nominees) judged kept = kept_o
 kept_message own js tick from (message.Vote n hashes proof) judged kept = kept_on_vote own js from n hashes judged kept
 kept_message own js tick from (message.Repair n b bytes) judged kept = kept_on_repair own js from n b bytes kept
 kept_message own js tick from (message.Poll n au) judged kept =
-    kept_voters own js kept _ (invitation_adds own js tick (poll_named from n) au)
+    kept_voters own js kept _ (invitation_adds own js tick _ au)
 kept_message own js tick from (message.PollProof n nonce kind proof) judged kept =
-    kept_voters own js kept _ (proof_adds own js (poll_named from n) nonce kind judged)
+    kept_voters own js kept _ (proof_adds own js _ nonce kind judged)
 kept_message own js tick from (message.RepairRequest n b) judged kept =
-    kept_voters own js kept _ (request_adds own js (poll_named from n) b)
-kept_message own js tick from (message.Receipt n) judged kept =
-    kept_voters own js kept _ (end_adds own js (poll_named from n))
+    kept_voters own js kept _ (request_adds own js _ b)
+kept_message own js tick from (message.Receipt n) judged kept = kept_voters own js kept _ (end_adds own js _)
 
 pub kept_reaction : (own : Station) (js : List Record) (tick : ℕ) (i : Input) → Kept own js
     → KeptBy own js (reaction own js tick i)
@@ -146,7 +143,7 @@ pub kept_deposits : (own : Station) (js : List Record) → AreDeposits js → Ke
 kept_deposits own js all =
     let none : (n : ℕ) → opening_of n js ≡ None = λ n. ap (λ p. p.opening) (deposits_say n js all) in
     record {
-      good = λ n. subst (Good own n (copies_in js)) (sym (deposits_say n js all)) (good_blank own n (copies_in js));
+      good = λ n. subst (Good own n _) (sym (deposits_say n js all)) (good_blank own n _);
       rest = record {
         in_order = none_opened js all;
         numbered = λ n o is. absurd (no_opening (opening_of n js) o (none n) is);
@@ -183,7 +180,7 @@ pub deposits_are : (aus : List AuPlan) (copies : List Holding) → AreDeposits (
 unfolding AreDeposits deposits
 deposits_are [] copies = refl
 deposits_are (au ∷ aus) copies =
-    list_all-append is_deposit (filter_map (deposit_for au) copies) (deposits aus copies)
+    list_all-append is_deposit (filter_map _ copies) _
     ∙ ap (λ b. b && list_all is_deposit (deposits aus copies)) (held_are au copies) ∙ deposits_are aus copies
 
 no_circle : (own : Station) (before : List Record) (r : Record) → is_deposit r ≡ true → IsCircle own before r
@@ -191,14 +188,13 @@ no_circle own before (Deposit au blocks) e = tt
 no_circle own before r e = absurd cc
 
 deposits_have_circles : (own : Station) (js : List Record) → AreDeposits js → HaveCircles own js
-deposits_have_circles own js all i r at = no_circle own (take i js) r (deposit_at js all i r at)
+deposits_have_circles own js all i r at = no_circle own _ r (deposit_at js all i r at)
 
 -- Every journal.
 
 kept_journal : (own : Station) (aus : List AuPlan) (copies : List Holding) (heard : List Heard) (js : List Record)
     → GoesBy own (deposits aus copies) heard js → Kept own js
-kept_journal own aus copies [] js is =
-    subst (Kept own) (sym is) (kept_deposits own (deposits aus copies) (deposits_are aus copies))
+kept_journal own aus copies [] js is = subst (Kept own) (sym is) (kept_deposits own _ (deposits_are aus copies))
 kept_journal own aus copies (h ∷ hs) js (before, added, goes, heard, adds, is) =
     let kept = kept_journal own aus copies hs before goes in
     subst (Kept own) (sym is)
@@ -212,10 +208,9 @@ circles_of : (own : Station) (aus : List AuPlan) (copies : List Holding) (heard 
     → IsReferenceList own.id own.refs
     → GoesBy own (deposits aus copies) heard js → HaveCircles own js
 circles_of own aus copies [] js listed is =
-    subst (HaveCircles own) (sym is) (deposits_have_circles own (deposits aus copies) (deposits_are aus copies))
+    subst (HaveCircles own) (sym is) (deposits_have_circles own _ (deposits_are aus copies))
 circles_of own aus copies (h ∷ hs) js listed (before, added, goes, heard, adds, is) =
-    subst (HaveCircles own) (sym is)
-    (circles_more own before added (circles_of own aus copies hs before listed goes)
+    subst (HaveCircles own) (sym is) (circles_more own before added (circles_of own aus copies hs before listed goes)
     (adds_circles own before h.tick h.input added adds (reaction_adds own before h.tick h.input listed) listed))
 
 polls_of : (own : Station) (js : List Record) → Kept own js → HasPolls own js
@@ -287,7 +282,7 @@ journal_later plan tick by (Some p) s has = (
   has.0,
   record {
     heard = has.1.heard;
-    in_order = ordered_later tick (tick + by) has.1.heard (omega arith) has.1.in_order;
+    in_order = ordered_later tick _ has.1.heard (omega arith) has.1.in_order;
     made = has.1.made;
   },
 )
@@ -311,7 +306,7 @@ deed_heard bag (Deliver envelope judged) = by_envelope (slice_get bag envelope)
   where
     by_envelope : (e : Option Envelope) → IfSome (delivers e judged) (λ d. IsHeard d.input)
     by_envelope None = tt
-    by_envelope (Some e) = said_heard e judged (decode_of e.bytes) (read_within e.bytes)
+    by_envelope (Some e) = said_heard e judged _ (read_within e.bytes)
 deed_heard bag (OpenPoll peer au) = tt
 deed_heard bag (Widen peer number) = tt
 deed_heard bag (Shut peer number) = tt
@@ -330,14 +325,14 @@ deed_keeps plan tick peers (Some d) heard has place s at =
     elim (records_at d.peer (effect_of tick peers (Some d)).records peers place s at) [
       | inl same ↦ has place s same
       | inr more ↦
-          subst (HasJournal plan tick (slice_get (filter is_honest plan.peers) place)) more.is
+          subst (HasJournal plan tick _) more.is
           (subst
           (λ o. HasJournal plan tick (slice_get (filter is_honest plan.peers) place)
           (record {
             own = more.before.own;
             journal = more.before.journal ++ (reaction_at tick o d.input).records;
           })) (sym more.found)
-          (journal_more plan tick (slice_get (filter is_honest plan.peers) place) more.before d.input heard
+          (journal_more plan tick _ more.before d.input heard
           (has place more.before more.there)))
     ]
 
@@ -360,8 +355,8 @@ deed_count tick peers (Some d) = records_count d.peer (effect_of tick peers (Som
 step_keeps : (plan : Plan) (w : World) (s : PeerStep) → HaveJournals plan w → HaveJournals plan (after_step w s true)
 unfolding after_step
 step_keeps plan w s has = record {
-  count = deed_count w.tick w.peers (deed_of w.bag s) ∙ has.count;
-  each = deed_keeps plan w.tick w.peers (deed_of w.bag s) (deed_heard w.bag s) has.each;
+  count = deed_count w.tick w.peers _ ∙ has.count;
+  each = deed_keeps plan w.tick w.peers _ (deed_heard w.bag s) has.each;
 }
 
 happens_keeps : (plan : Plan) (w : World) (e : Event) → HaveJournals plan w → HaveJournals plan (happens w e)
@@ -373,7 +368,7 @@ happens_keeps plan w (Cut s false) has = has
 happens_keeps plan w (Tick by) has = record {
   count = has.count;
   each =
-      λ place s at. journal_later plan w.tick by (slice_get (filter is_honest plan.peers) place) s
+      λ place s at. journal_later plan w.tick by _ s
       (has.each place s at);
 }
 happens_keeps plan w (Lose envelope) has = has
@@ -388,10 +383,10 @@ all_keep plan w (e ∷ es) has = all_keep plan (happens w e) es (happens_keeps p
 start_has : (plan : Plan) → HaveJournals plan (start plan)
 unfolding start
 start_has plan = record {
-  count = length-map (filter is_honest plan.peers) (standing_of plan);
+  count = length-map _ _;
   each =
-      λ place s at. standing s (slice_get (filter is_honest plan.peers) place)
-      (sym (slice_get-map (standing_of plan) (filter is_honest plan.peers) place) ∙ at);
+      λ place s at. standing s (slice_get _ place)
+      (sym (slice_get-map _ _ place) ∙ at);
 }
   where
     standing : (s : Standing) (p : Option PeerPlan) → option_map (standing_of plan) p ≡ Some s → HasJournal plan 0 p s
@@ -402,7 +397,7 @@ start_has plan = record {
 
 pub journals_are_own : (plan : Plan) (history : List Event) → HaveJournals plan (world plan history)
 unfolding world
-journals_are_own plan history = all_keep plan (start plan) history (start_has plan)
+journals_are_own plan history = all_keep plan _ history (start_has plan)
 
 kept_at : (plan : Plan) (tick : ℕ) (p : Option PeerPlan) (s : Standing) → HasJournal plan tick p s
     → Kept s.own s.journal
@@ -412,8 +407,7 @@ kept_at plan tick (Some p) s has = kept_of s.own plan.aus p.copies tick s.journa
 pub kept_in : (plan : Plan) (history : List Event) (place : ℕ) (s : Standing)
     → slice_get (world plan history).peers place ≡ Some s → Kept s.own s.journal
 kept_in plan history place s at =
-    kept_at plan (world plan history).tick (slice_get (filter is_honest plan.peers) place) s
-    ((journals_are_own plan history).each place s at)
+    kept_at plan (world plan history).tick _ s ((journals_are_own plan history).each place s at)
 
 pub polls_keep : (plan : Plan) (history : List Event) (place : ℕ) (s : Standing)
     → slice_get (world plan history).peers place ≡ Some s → HasPolls s.own s.journal
@@ -421,8 +415,7 @@ polls_keep plan history place s at = polls_of s.own s.journal (kept_in plan hist
 
 pub rules_are : (plan : Plan) (history : List Event) (place : ℕ) (s : Standing)
     → slice_get (world plan history).peers place ≡ Some s → s.own.rules ≡ plan.rules
-rules_are plan history place s at =
-    by_peer (slice_get (filter is_honest plan.peers) place) ((journals_are_own plan history).each place s at)
+rules_are plan history place s at = by_peer (slice_get _ place) ((journals_are_own plan history).each place s at)
   where
     by_peer : (p : Option PeerPlan) → HasJournal plan (world plan history).tick p s → s.own.rules ≡ plan.rules
     by_peer None has = absurd has
@@ -446,8 +439,8 @@ tallies_have_quorum plan history place s at n opening may opened lacks =
     let limits = limits_of s.own.rules opening in
     let copy = contents_of opening.au s.journal in
     let enough = state.quorum opening opened parts.runs parts.over in
-    let few = inquorate_votes limits.minority (ballot_of s.own n opening (length copy))
-    (inner_votes n opening.inner s.journal) copy limits.quorum lacks in
+    let few = inquorate_votes limits.minority _
+    _ copy limits.quorum lacks in
     absurd (omega (arith, enough, few))
 
 -- Every reference list and every circle.
@@ -456,8 +449,8 @@ good_at : (plan : Plan) → plan_fault plan ≡ None → (place : ℕ) (p : Peer
     → slice_get (filter is_honest plan.peers) place ≡ Some p → IsReferenceList p.id p.refs
 good_at plan good place p at =
     let all = All-filter is_honest (λ q. IsReferenceList q.id q.refs) plan.peers (peers_listed plan good) in
-    subst (λ q. IsReferenceList q.id q.refs) (get_or_from_slice_get (filter is_honest plan.peers) place p p at)
-    (all place p (slice_get_within (filter is_honest plan.peers) place p at))
+    subst (λ q. IsReferenceList q.id q.refs) (get_or_from_slice_get _ place p p at)
+    (all place p (slice_get_within _ place p at))
 
 sampled_at : (plan : Plan) → plan_fault plan ≡ None → (place tick : ℕ) (o : Option PeerPlan)
     → slice_get (filter is_honest plan.peers) place ≡ o → (s : Standing) → HasJournal plan tick o s
@@ -474,5 +467,4 @@ sampled_at plan good place tick (Some p) at s has =
 pub circles_are_samples : (plan : Plan) → plan_fault plan ≡ None → (history : List Event) (place : ℕ) (s : Standing)
     → slice_get (world plan history).peers place ≡ Some s → Samples s
 circles_are_samples plan good history place s at =
-    sampled_at plan good place (world plan history).tick (slice_get (filter is_honest plan.peers) place) refl s
-    ((journals_are_own plan history).each place s at)
+    sampled_at plan good place (world plan history).tick _ refl s ((journals_are_own plan history).each place s at)

@@ -58,8 +58,7 @@ pub record IsPlain (r : Record) : Type 0 where
 
 pub same_opening : (n : ℕ) (js : List Record) (r : Record) → opening_in n r ≡ None
     → opening_of n (js ++ r ∷ []) ≡ opening_of n js
-same_opening n js r none =
-    opening_more n js r ∙ ap (first_opening (opening_of n js)) none ∙ first_stays (opening_of n js)
+same_opening n js r none = opening_more n js r ∙ ap (first_opening _) none ∙ first_stays _
 
 -- a poll that isn't closed wasn't closed before
 pub was_running : (n : ℕ) (js : List Record) (r : Record) → is_closed n (js ++ r ∷ []) ≡ false → is_closed n js ≡ false
@@ -88,11 +87,11 @@ pub evidence_more : (own : Station) (js : List Record) (r : Record) → HasEvide
 evidence_more own js r has last i q x at says = elim (last_or_before js r i q at) [
   | inl before ↦ let low =
       before.0 in
-      subst (λ front. Evidence own.rules own.id front x) (sym (take-append-le i js (r ∷ []) (omega (arith, low))))
+      subst (λ front. Evidence own.rules own.id front x) (sym (take-append-le i js _ (omega (arith, low))))
       (has i q x before.1 says)
   | inr here ↦ let place =
       here.0 in
-      subst (λ front. Evidence own.rules own.id front x) (sym (take_at js (r ∷ []) i (sym place)))
+      subst (λ front. Evidence own.rules own.id front x) (sym (take_at js _ i (sym place)))
       (last x (ap (λ s. (said_by s).replaced) here.1 ∙ says))
 ]
 
@@ -112,7 +111,7 @@ same_numbers : (js : List Record) (r : Record) → is_opening r ≡ false
     → opened_numbers (js ++ r ∷ []) ≡ opened_numbers js
 same_numbers js r counted =
     numbers_more js r ∙ ap (λ o. opened_numbers js ++ cons_option o []) (opens_none r counted)
-    ∙ append-nil (opened_numbers js)
+    ∙ append-nil _
 
 -- a record that opens no poll leaves their numbers, and at most one runs on an AU
 pub rest_after : (own : Station) (js : List Record) (r : Record) → ((n : ℕ) → opening_in n r ≡ None)
@@ -120,8 +119,8 @@ pub rest_after : (own : Station) (js : List Record) (r : Record) → ((n : ℕ) 
     → (ObeyQuorumRule (limits_in own.rules) → HasEvidence own.rules own.id (js ++ r ∷ [])) → Rest own js
     → Rest own (js ++ r ∷ [])
 rest_after own js r none counted tuned evidence rest =
-    let same : (n : ℕ) → opening_of n (js ++ r ∷ []) ≡ opening_of n js = λ n. same_opening n js r (none n) in
-    let count : openings (js ++ r ∷ [])
+    let same : (n : ℕ) → opening_of n _ ≡ opening_of n js = λ n. same_opening n js r (none n) in
+    let count : openings _
     ≡ openings js + 0 = openings_more js r ∙ ap (λ b. openings js + cond b 1 0) counted in
     let as_many : openings (js ++ r ∷ []) ≡ openings js = omega (arith, count) in
     record {
@@ -136,8 +135,7 @@ rest_after own js r none counted tuned evidence rest =
 
 pub rest_more : (own : Station) (js : List Record) (r : Record) → IsPlain r → Rest own js → Rest own (js ++ r ∷ [])
 rest_more own js r plain rest =
-    rest_after own js r plain.opening plain.counted plain.tuned
-    (λ rule. evidence_more own js r (rest.evidence rule)
+    rest_after own js r plain.opening plain.counted plain.tuned (λ rule. evidence_more own js r (rest.evidence rule)
     (λ x is. absurd (let both : None ≡ Some x = sym plain.replaced ∙ is in cc))) rest
 
 pub same_copies : (js : List Record) (r : Record) → IsPlain r → copies_in (js ++ r ∷ []) ≡ copies_in js
@@ -150,7 +148,7 @@ pub good_more : (own : Station) (js : List Record) (r : Record) → IsPlain r
     → ((n : ℕ) → Good own n (copies_in js) (poll_after n (poll_of n js) r)) → AllGood own (js ++ r ∷ [])
 good_more own js r plain good n =
     subst (λ copies. Good own n copies (poll_of n (js ++ r ∷ []))) (sym (same_copies js r plain))
-    (subst (Good own n (copies_in js)) (sym (poll_more n js r)) (good n))
+    (subst (Good own n _) (sym (poll_more n js r)) (good n))
 
 pub kept_more : (own : Station) (js : List Record) (r : Record) → IsPlain r → Kept own js
     → ((n : ℕ) → Good own n (copies_in js) (poll_after n (poll_of n js) r)) → Kept own (js ++ r ∷ [])
@@ -196,7 +194,7 @@ is_by n v (VoteIn number voter hashes) w is of = by_number (eqb number n) refl i
     by_number true e is =
         let same : voter
         ≡ w.voter = ap (λ (x : Option Vote). elim x as (λ _. ℕ) [ None ↦ 0 | Some y ↦ y.voter ]) is in
-        and_from (eqb number n) (eqb voter v) e (eq-eqb voter v (same ∙ of))
+        and_from _ _ e (eq-eqb voter v (same ∙ of))
     by_number false e is = absurd cc
 is_by n v r w is of = absurd cc
 
@@ -213,6 +211,6 @@ pub unvoted : (n v : ℕ) (js : List Record) → has_voted n v js ≡ false → 
 unfolding has_voted votes
 unvoted n v [] none = λ k d low. absurd (omega arith)
 unvoted n v (r ∷ rs) none =
-    let parts = or_parts (is_vote_of n v r) (has_voted n v rs) none in
-    one_more v (vote_in n r) (votes n rs) (λ x is of. both_ways (is_vote_of n v r) parts.0 (is_by n v r x is of))
+    let parts = or_parts _ _ none in
+    one_more v _ _ (λ x is of. both_ways _ parts.0 (is_by n v r x is of))
     (unvoted n v rs parts.1)

@@ -1,5 +1,5 @@
 -- Lists of things that go by the names of polls: what is found, changed, taken out and put in, by name.
-use Rattle.std.proofs.Common.{◌≡◌, ◌∙◌, ap, sym, subst, Bool, true, false, cond, eqb, List, [], ◌∷◌, ◌++◌, length}
+use Rattle.std.proofs.Common.{◌≡◌, ◌∙◌, ap, sym, subst, Bool, true, false, cond, List, [], ◌∷◌, ◌++◌, length}
 use Rattle.std.proofs.Common.{refl, arith}
 use Rattle.std.specs.Prelude.{Option, Some, None, is_some, option_map, map, filter, find, not, ◌+◌}
 use Rattle.std.proofs.lemmas.Bool.{eqb-true, eq-eqb, and_parts, and_from}
@@ -11,13 +11,11 @@ use Rattle.lks_law.specs.Sessions.{is_poll}
 
 pub same_poll : (p q : PollName) → is_poll p q ≡ true → p ≡ q
 same_poll p q e =
-    let parts = and_parts (eqb p.poller q.poller) (eqb p.number q.number) e in
+    let parts = and_parts _ _ e in
     λ i. record { poller = eqb-true p.poller q.poller parts.0 i; number = eqb-true p.number q.number parts.1 i }
 
 pub is_itself : (q : PollName) → is_poll q q ≡ true
-is_itself q =
-    and_from (eqb q.poller q.poller) (eqb q.number q.number) (eq-eqb q.poller q.poller refl)
-    (eq-eqb q.number q.number refl)
+is_itself q = and_from _ _ (eq-eqb q.poller q.poller refl) (eq-eqb q.number q.number refl)
 
 pub is_swapped : (p q : PollName) → is_poll p q ≡ is_poll q p
 is_swapped p q = by_test (is_poll p q) (is_poll q p) refl refl
@@ -64,7 +62,7 @@ module _ {X : Type 0} (name : X → PollName) where
   pub at_push : (q : PollName) (xs : List X) (x : X)
       → at q (xs ++ x ∷ []) ≡ first (at q xs) (cond (is_poll (name x) q) (Some x) None)
   at_push q [] x = refl
-  at_push q (y ∷ xs) x = here (is_poll (name y) q) (at_push q xs x)
+  at_push q (y ∷ xs) x = here (is_poll _ q) (at_push q xs x)
     where
       here : (b : Bool) → at q (xs ++ x ∷ []) ≡ first (at q xs) (cond (is_poll (name x) q) (Some x) None)
           → cond b (Some y) (at q (xs ++ x ∷ []))
@@ -75,11 +73,11 @@ module _ {X : Type 0} (name : X → PollName) where
   -- what is found has the name
   pub at_named : (q : PollName) (xs : List X) (x : X) → at q xs ≡ Some x → name x ≡ q
   at_named q [] x e = absurd cc
-  at_named q (y ∷ xs) x e = here (is_poll (name y) q) refl e (λ e. at_named q xs x e)
+  at_named q (y ∷ xs) x e = here (is_poll _ q) refl e (λ e. at_named q xs x e)
     where
       here : (b : Bool) → is_poll (name y) q ≡ b → cond b (Some y) (at q xs) ≡ Some x
           → (at q xs ≡ Some x → name x ≡ q) → name x ≡ q
-      here true is e later = let same : y ≡ x = cc in subst (λ z. name z ≡ q) same (same_poll (name y) q is)
+      here true is e later = let same : y ≡ x = cc in subst (λ z. name z ≡ q) same (same_poll _ q is)
       here false is e later = later e
 
   not_first : (x : X) (q : PollName) (xs : List X) (b : Bool) → cond b (Some x) (at q xs) ≡ None
@@ -92,53 +90,52 @@ module _ {X : Type 0} (name : X → PollName) where
   pub absent_without : (p : PollName) (xs : List X) → at p xs ≡ None → without_first (goes_by p) xs ≡ xs
   absent_without p [] e = refl
   absent_without p (x ∷ xs) e =
-      let parts = not_first x p xs (is_poll (name x) p) e in
-      off (is_poll (name x) p) xs (x ∷ without_first (goes_by p) xs) parts.0
+      let parts = not_first x p xs _ e in
+      off _ xs _ parts.0
       ∙ ap (λ ys. x ∷ ys) (absent_without p xs parts.1)
 
   pub gone : (p : PollName) (xs : List X) → Apart xs → at p (without_first (goes_by p) xs) ≡ None
   gone p [] apart = refl
-  gone p (x ∷ xs) apart = by_test (is_poll (name x) p) refl (gone p xs apart.1)
+  gone p (x ∷ xs) apart = by_test (is_poll _ p) refl (gone p xs apart.1)
     where
       by_test : (b : Bool) → is_poll (name x) p ≡ b → at p (without_first (goes_by p) xs) ≡ None
           → at p (cond b xs (x ∷ without_first (goes_by p) xs)) ≡ None
-      by_test true is rest = ap (λ q. at q xs) (sym (same_poll (name x) p is)) ∙ apart.0
-      by_test false is rest = off (is_poll (name x) p) (Some x) (at p (without_first (goes_by p) xs)) is ∙ rest
+      by_test true is rest = ap (λ q. at q xs) (sym (same_poll _ p is)) ∙ apart.0
+      by_test false is rest = off _ _ _ is ∙ rest
 
   pub others_without : (p q : PollName) (xs : List X) → is_poll p q ≡ false
       → at q (without_first (goes_by p) xs) ≡ at q xs
   others_without p q [] other = refl
-  others_without p q (x ∷ xs) other = by_test (is_poll (name x) p) refl (others_without p q xs other)
+  others_without p q (x ∷ xs) other = by_test (is_poll _ p) refl (others_without p q xs other)
     where
       by_test : (b : Bool) → is_poll (name x) p ≡ b → at q (without_first (goes_by p) xs) ≡ at q xs
           → at q (cond b xs (x ∷ without_first (goes_by p) xs)) ≡ cond (is_poll (name x) q) (Some x) (at q xs)
-      by_test true is rest = sym (off (is_poll (name x) q) (Some x) (at q xs) (isnt_other (name x) p q is ∙ other))
-      by_test false is rest = ap (cond (is_poll (name x) q) (Some x)) rest
+      by_test true is rest = sym (off _ _ _ (isnt_other _ p q is ∙ other))
+      by_test false is rest = ap (cond (is_poll _ q) (Some x)) rest
 
   absent_still : (p q : PollName) (xs : List X) → at q xs ≡ None → at q (without_first (goes_by p) xs) ≡ None
   absent_still p q [] e = refl
   absent_still p q (x ∷ xs) e =
-      let parts = not_first x q xs (is_poll (name x) q) e in
-      by_test (is_poll (name x) p) parts.0 parts.1 (absent_still p q xs parts.1)
+      let parts = not_first x q xs _ e in
+      by_test (is_poll _ p) parts.0 parts.1 (absent_still p q xs parts.1)
     where
       by_test : (b : Bool) → is_poll (name x) q ≡ false → at q xs ≡ None
           → at q (without_first (goes_by p) xs) ≡ None → at q (cond b xs (x ∷ without_first (goes_by p) xs)) ≡ None
       by_test true other before rest = before
-      by_test false other before rest =
-          off (is_poll (name x) q) (Some x) (at q (without_first (goes_by p) xs)) other ∙ rest
+      by_test false other before rest = off _ _ _ other ∙ rest
 
   pub apart_without : (p : PollName) (xs : List X) → Apart xs → Apart (without_first (goes_by p) xs)
   apart_without p [] apart = tt
-  apart_without p (x ∷ xs) apart = by_test (is_poll (name x) p) (apart_without p xs apart.1)
+  apart_without p (x ∷ xs) apart = by_test (is_poll _ p) (apart_without p xs apart.1)
     where
       by_test : (b : Bool) → Apart (without_first (goes_by p) xs) → Apart (cond b xs (x ∷ without_first (goes_by p) xs))
       by_test true rest = apart.1
-      by_test false rest = (absent_still p (name x) xs apart.0, rest)
+      by_test false rest = (absent_still p _ xs apart.0, rest)
 
   pub one_less : (p : PollName) (xs : List X) → is_some (at p xs) ≡ true
       → length xs ≡ length (without_first (goes_by p) xs) + 1
   one_less p [] e = absurd cc
-  one_less p (x ∷ xs) e = by_test (is_poll (name x) p) e (λ e. one_less p xs e)
+  one_less p (x ∷ xs) e = by_test (is_poll _ p) e (λ e. one_less p xs e)
     where
       by_test : (b : Bool) → is_some (cond b (Some x) (at p xs)) ≡ true
           → (is_some (at p xs) ≡ true → length xs ≡ length (without_first (goes_by p) xs) + 1)
@@ -150,7 +147,7 @@ module _ {X : Type 0} (name : X → PollName) where
       → filter (λ q. not (is_poll q p)) (map name xs) ≡ map name xs
   names_without p [] e = refl
   names_without p (x ∷ xs) e =
-      let parts = not_first x p xs (is_poll (name x) p) e in
+      let parts = not_first x p xs _ e in
       ap
       (λ b. cond (not b) (name x ∷ filter (λ q. not (is_poll q p)) (map name xs))
       (filter (λ q. not (is_poll q p)) (map name xs))) parts.0
@@ -159,27 +156,27 @@ module _ {X : Type 0} (name : X → PollName) where
   pub names_left : (p : PollName) (xs : List X) → Apart xs
       → map name (without_first (goes_by p) xs) ≡ filter (λ q. not (is_poll q p)) (map name xs)
   names_left p [] apart = refl
-  names_left p (x ∷ xs) apart = by_test (is_poll (name x) p) refl (names_left p xs apart.1)
+  names_left p (x ∷ xs) apart = by_test (is_poll _ p) refl (names_left p xs apart.1)
     where
       by_test : (b : Bool) → is_poll (name x) p ≡ b
           → map name (without_first (goes_by p) xs) ≡ filter (λ q. not (is_poll q p)) (map name xs)
           → map name (cond b xs (x ∷ without_first (goes_by p) xs))
           ≡ cond (not b) (name x ∷ filter (λ q. not (is_poll q p)) (map name xs))
           (filter (λ q. not (is_poll q p)) (map name xs))
-      by_test true is rest = sym (names_without p xs (ap (λ q. at q xs) (sym (same_poll (name x) p is)) ∙ apart.0))
+      by_test true is rest = sym (names_without p xs (ap (λ q. at q xs) (sym (same_poll _ p is)) ∙ apart.0))
       by_test false is rest = ap (λ qs. name x ∷ qs) rest
 
   -- Putting one in.
 
   absent_push : (q : PollName) (xs : List X) (x : X) → at q xs ≡ None → is_poll (name x) q ≡ false
       → at q (xs ++ x ∷ []) ≡ None
-  absent_push q xs x e other = at_push q xs x ∙ (λ i. first (e i) (off (is_poll (name x) q) (Some x) None other i))
+  absent_push q xs x e other = at_push q xs x ∙ (λ i. first (e i) (off _ (Some x) None other i))
 
   pub apart_push : (xs : List X) (x : X) → Apart xs → at (name x) xs ≡ None → Apart (xs ++ x ∷ [])
   apart_push [] x apart new = (refl, tt)
   apart_push (y ∷ xs) x apart new =
-      let parts = not_first y (name x) xs (is_poll (name y) (name x)) new in
-      (absent_push (name y) xs x apart.0 (is_swapped (name x) (name y) ∙ parts.0), apart_push xs x apart.1 parts.1)
+      let parts = not_first y _ xs _ new in
+      (absent_push _ xs x apart.0 (is_swapped _ (name y) ∙ parts.0), apart_push xs x apart.1 parts.1)
 
   pub names_push : (xs : List X) (x : X) → map name (xs ++ x ∷ []) ≡ map name xs ++ name x ∷ []
   names_push [] x = refl
@@ -222,7 +219,7 @@ module _ {X : Type 0} (name : X → PollName) where
 
     pub names_changed : (p : PollName) (xs : List X) → map name (changed_first (goes_by p) f xs) ≡ map name xs
     names_changed p [] = refl
-    names_changed p (x ∷ xs) = by_test (is_poll (name x) p) (names_changed p xs)
+    names_changed p (x ∷ xs) = by_test (is_poll _ p) (names_changed p xs)
       where
         by_test : (b : Bool) → map name (changed_first (goes_by p) f xs) ≡ map name xs
             → map name (cond b (f x ∷ xs) (x ∷ changed_first (goes_by p) f xs)) ≡ name x ∷ map name xs
@@ -231,7 +228,7 @@ module _ {X : Type 0} (name : X → PollName) where
 
     pub length_changed : (p : PollName) (xs : List X) → length (changed_first (goes_by p) f xs) ≡ length xs
     length_changed p [] = refl
-    length_changed p (x ∷ xs) = by_test (is_poll (name x) p) (length_changed p xs)
+    length_changed p (x ∷ xs) = by_test (is_poll _ p) (length_changed p xs)
       where
         by_test : (b : Bool) → length (changed_first (goes_by p) f xs) ≡ length xs
             → length (cond b (f x ∷ xs) (x ∷ changed_first (goes_by p) f xs)) ≡ length (x ∷ xs)
@@ -248,9 +245,9 @@ module _ {X : Type 0} (name : X → PollName) where
 
     pub apart_changed : (p : PollName) (xs : List X) → Apart xs → Apart (changed_first (goes_by p) f xs)
     apart_changed p [] apart = tt
-    apart_changed p (x ∷ xs) apart = by_test (is_poll (name x) p) (apart_changed p xs apart.1)
+    apart_changed p (x ∷ xs) apart = by_test (is_poll _ p) (apart_changed p xs apart.1)
       where
         by_test : (b : Bool) → Apart (changed_first (goes_by p) f xs)
             → Apart (cond b (f x ∷ xs) (x ∷ changed_first (goes_by p) f xs))
         by_test true rest = (ap (λ n. at n xs) (keeps x) ∙ apart.0, apart.1)
-        by_test false rest = (absent_changed p (name x) xs apart.0, rest)
+        by_test false rest = (absent_changed p _ xs apart.0, rest)

@@ -1,14 +1,13 @@
 -- What a peer knows by the facts of its journal.
 use Rattle.std.proofs.Common.{◌≡◌, ◌≤◌, ◌<◌, ◌+◌, ◌^◌, ◌∙◌, ap, sym, subst, ℕ, Bool, true, false, cond, eqb, List, []}
-use Rattle.std.proofs.Common.{◌∷◌, ◌++◌, length, take, refl, arith}
-use Rattle.std.specs.Prelude.{Option, Some, None, unwrap_or, slice_get, slice_set, All}
+use Rattle.std.proofs.Common.{◌∷◌, length, refl, arith}
+use Rattle.std.specs.Prelude.{Option, Some, None, unwrap_or, slice_get, All}
 use Rattle.std.specs.List.{AllByRecursion, filter_map, cons_option}
 use Rattle.std.proofs.lemmas.Bool.{eqb-true}
 use Rattle.std.proofs.lemmas.List.Elements.{All-nil, All-set, All-from_recursion}
 use Rattle.std.proofs.lemmas.Option.{slice_get_within, get_or_from_slice_get}
 use Rattle.sha2.proofs.Facts256.{length-sha256}
 use Rattle.sha2.proofs.Facts512.{length-sha512_256}
-use Rattle.lks_base.specs.Kinds.{is_second}
 use Rattle.lks_base.specs.declared.limits.TheConstants.{MOST_BLOCK_BYTES}
 use Rattle.lks_base.specs.declared.messages.Message.TheVariants as message
 use Rattle.lks_base.specs.declared.names.PollName.{PollName}
@@ -20,7 +19,7 @@ use Rattle.lks_hash.specs.Running.{linked, hashes_of}
 use Rattle.lks_hash.proofs.RunningLaws.{hashes_length}
 use Rattle.lks_message.specs.Spelling.{IsInLimits}
 use Rattle.lks_law.specs.Fitting.{AreSmall}
-use Rattle.lks_law.specs.Journal.{Opening, Replacement, Request, replacement_in, replacements, replaced_by}
+use Rattle.lks_law.specs.Journal.{Opening, Replacement, Request, replacement_in, replaced_by}
 use Rattle.lks_law.specs.Journal.{deposit_in, deposit_of, opening_in, opening_of, openings, contents_at, contents_of}
 use Rattle.lks_law.specs.Journal.{unanswered_after, unanswered_from, unanswered_request}
 use Rattle.lks_law.specs.Polls.{Station}
@@ -50,7 +49,7 @@ nonce_length seed n = length-sha256 _
 hashes_sized : (second : Bool) (key : List ℕ) (blocks : List (List ℕ))
     → AllByRecursion (λ h. length h ≡ 32) (hashes_of second key blocks)
 hashes_sized second key [] = tt
-hashes_sized second key (b ∷ bs) = (hash_length second (key ++ b), hashes_sized second (linked second key b) bs)
+hashes_sized second key (b ∷ bs) = (hash_length second _, hashes_sized second (linked second key b) bs)
 
 pub record OpeningFact (js : List Record) (n : ℕ) (o : Opening) : Type 0 where
   pub low : n ≤ openings js
@@ -68,14 +67,13 @@ replaced_small : (blocks : List (List ℕ)) (xs : List Replacement) → AreSmall
     → AreSmall (replaced_by blocks xs)
 replaced_small blocks [] small each = small
 replaced_small blocks (x ∷ xs) small each =
-    replaced_small (slice_set blocks x.block x.bytes) xs
+    replaced_small _ xs
     (All-set (λ (b : List ℕ). length b ≤ MOST_BLOCK_BYTES) blocks x.block x.bytes each.0 small) each.1
 
 module _ (peers : List Standing) (own : Station) (js : List Record) (all : Each (Fact peers own js) js) where
   pub opening_fact : (n : ℕ) (o : Opening) → opening_of n js ≡ Some o → OpeningFact js n o
   opening_fact n o e =
-      first_of (opening_in n) (Fact peers own js) (OpeningFact js n) by_record js o (sym (opening_first n js) ∙ e)
-      all
+      first_of (opening_in n) (Fact peers own js) (OpeningFact js n) by_record js o (sym (opening_first n js) ∙ e) all
     where
       by_number : (b : Bool) (m : ℕ) (x o : Opening) → eqb m n ≡ b
           → (m ≤ openings js) × (length x.nonce ≡ 32) × (x.au < 2 ^ 16) → cond b (Some x) None ≡ Some o
@@ -88,25 +86,21 @@ module _ (peers : List Standing) (own : Station) (js : List Record) (all : Each 
       by_number false m x o same fact e = absurd cc
 
       by_record : (r : Record) (o : Opening) → opening_in n r ≡ Some o → Fact peers own js r → OpeningFact js n o
-      by_record (PollOpened m au nonce inner tick limits kind) o e fact =
-          by_number (eqb m n) m (record { au = au; nonce = nonce; inner = inner; limits = limits; kind = kind }) o
-          refl fact e
+      by_record (PollOpened m au nonce inner tick limits kind) o e fact = by_number _ m _ o refl fact e
       by_record r o e fact = absurd cc
 
   pub opened_low : (n : ℕ) (o : Opening) → openings js + 1 < 2 ^ 32 → opening_of n js ≡ Some o → n < 2 ^ 32
   opened_low n o room e = let low = (opening_fact n o e).low in omega (arith, low, room)
 
   pub deposit_fact : (au : ℕ) (blocks : List (List ℕ)) → deposit_of au js ≡ Some blocks → IsDeposited au blocks
-  deposit_fact au blocks e =
-      first_of (deposit_in au) (Fact peers own js) (IsDeposited au) by_record js blocks
-      (sym (deposit_first au js) ∙ e) all
+  deposit_fact au blocks e = first_of _ _ _ by_record js blocks (sym (deposit_first au js) ∙ e) all
     where
       by_number : (b : Bool) (a : ℕ) (x blocks : List (List ℕ)) → eqb a au ≡ b → IsDeposited a x
           → cond b (Some x) None ≡ Some blocks → IsDeposited au blocks
       by_number true a x blocks same fact e =
           let is : x ≡ blocks = cc in
           subst (λ (k : ℕ). IsDeposited k blocks) (eqb-true a au same)
-          (subst (λ (y : List (List ℕ)). IsDeposited a y) is fact)
+          (subst (λ (y : List _). IsDeposited a y) is fact)
       by_number false a x blocks same fact e = absurd cc
 
       by_record : (r : Record) (blocks : List (List ℕ)) → deposit_in au r ≡ Some blocks → Fact peers own js r
@@ -120,7 +114,7 @@ module _ (peers : List Standing) (own : Station) (js : List Record) (all : Each 
     where
       by_deposit : (o : Option (List (List ℕ))) → deposit_of au js ≡ o
           → (length (unwrap_or o []) ≤ 512) × AreSmall (unwrap_or o [])
-      by_deposit None e = (omega arith, All-nil (λ (b : List ℕ). length b ≤ MOST_BLOCK_BYTES))
+      by_deposit None e = (omega arith, All-nil _)
       by_deposit (Some blocks) e = let fact = deposit_fact au blocks e in (fact.1, fact.2)
 
   pub short_version : (au k : ℕ) → length (contents_at au k js) ≤ 512
@@ -150,8 +144,7 @@ module _ (peers : List Standing) (own : Station) (js : List Record) (all : Each 
   small_version : (au k : ℕ) → AreSmall (contents_at au k js)
   unfolding contents_at
   small_version au k =
-      replaced_small _ (take k (replacements au js)) (short_deposit au).1
-      (each_take HasSmallBytes k (replacements au js) (small_replacements au js all))
+      replaced_small _ _ (short_deposit au).1 (each_take HasSmallBytes k _ (small_replacements au js all))
 
   -- what a peer asks for, and what it gives
 
@@ -163,19 +156,19 @@ module _ (peers : List Standing) (own : Station) (js : List Record) (all : Each 
   pub repair_limits : (n au k b : ℕ) (bytes : List ℕ) → n < 2 ^ 32 → slice_get (contents_at au k js) b ≡ Some bytes
       → IsInLimits (message.Repair n b bytes)
   repair_limits n au k b bytes number at =
-      let within = slice_get_within (contents_at au k js) b bytes at in
+      let within = slice_get_within _ b bytes at in
       let few = short_version au k in (
         (
           omega (arith, within, few),
           subst (λ (x : List ℕ). length x ≤ MOST_BLOCK_BYTES)
-              (get_or_from_slice_get (contents_at au k js) b bytes bytes at) (small_version au k b bytes within),
+              (get_or_from_slice_get _ b bytes bytes at) (small_version au k b bytes within),
         ),
         number,
       )
 
   pub join_fact : (q : PollName) (j : Join) → join_of q js ≡ Some j → q.number < 2 ^ 32
   unfolding join_of
-  join_fact q j e = first_of (join_in q) (Fact peers own js) (λ _. q.number < 2 ^ 32) by_record js j e all
+  join_fact q j e = first_of _ _ _ by_record js j e all
     where
       by_name : (b : Bool) (p : PollName) (x : Option Join) (j : Join) → is_poll p q ≡ b → p.number < 2 ^ 32
           → cond b x None ≡ Some j → q.number < 2 ^ 32
@@ -191,9 +184,7 @@ module _ (peers : List Standing) (own : Station) (js : List Record) (all : Each 
   pub committed_fact : (q : PollName) (c : Commitment) → commitment_of q js ≡ Some c
       → Has (λ j. c.version ≤ version_now j.au js) (join_of q js)
   unfolding commitment_of
-  committed_fact q c e =
-      first_of (commitment_in q) (Fact peers own js)
-      (λ c. Has (λ j. c.version ≤ version_now j.au js) (join_of q js)) by_record js c e all
+  committed_fact q c e = first_of _ _ _ by_record js c e all
     where
       by_name : (b : Bool) (p : PollName) (x c : Commitment) → is_poll p q ≡ b
           → Has (λ j. x.version ≤ version_now j.au js) (join_of p js) → cond b (Some x) None ≡ Some c
@@ -221,7 +212,7 @@ module _ (peers : List Standing) (own : Station) (js : List Record) (all : Each 
           → Has (λ j. Has (IsVoteOver own js q hs j) (commitment_of q js)) (join_of q js)
       by_name true p x hs same has e =
           let is : x ≡ hs = cc in
-          subst (λ (y : List (List ℕ)). Has (λ j. Has (IsVoteOver own js q y j) (commitment_of q js)) (join_of q js)) is
+          subst (λ (y : List _). Has (λ j. Has (IsVoteOver own js q y j) (commitment_of q js)) (join_of q js)) is
           (subst (λ (s : PollName). Has (λ j. Has (IsVoteOver own js s x j) (commitment_of s js)) (join_of s js))
           (same_poll p q same) has)
       by_name false p x hs same has e = absurd cc
@@ -234,10 +225,7 @@ module _ (peers : List Standing) (own : Station) (js : List Record) (all : Each 
   pub voted_fact : (q : PollName) (hashes : List (List ℕ)) → hashes_of_vote q js ≡ Some hashes
       → Has (λ j. Has (IsVoteOver own js q hashes j) (commitment_of q js)) (join_of q js)
   unfolding hashes_of_vote
-  voted_fact q hashes e =
-      first_of (hashes_in q) (Fact peers own js)
-      (λ hs. Has (λ j. Has (IsVoteOver own js q hs j) (commitment_of q js)) (join_of q js)) (voted_so q) js hashes
-      e all
+  voted_fact q hashes e = first_of _ _ _ (voted_so q) js hashes e all
 
   -- a request is for a block that is there
   abbrev pub IsWithin : ℕ → Request → Type 0
@@ -250,8 +238,7 @@ module _ (peers : List Standing) (own : Station) (js : List Record) (all : Each 
       by_number : (b : Bool) → eqb number n ≡ b
           → Any (IsWithin n) (cond b (Some (record { block = block; voter = voter })) before)
       by_number true same =
-          subst (λ k. Has (λ o. block < length (contents_of o.au js)) (opening_of k js)) (eqb-true number n same)
-          fact
+          subst (λ k. Has (λ o. block < length (contents_of o.au js)) (opening_of k js)) (eqb-true number n same) fact
       by_number false same = was
   within_after n before (RepairBad number block voter) was fact = by_number (eqb number n)
     where
@@ -282,15 +269,15 @@ module _ (peers : List Standing) (own : Station) (js : List Record) (all : Each 
   unfolding vote_hashes
   vote_limits q j c hashes proof joined over =
       let blocks = contents_at j.au c.version js in
-      let key = key_of (is_second c.kind) q.poller q.number c.nonce own.id j.au (length blocks) in
-      let count = ap length over ∙ hashes_length (is_second c.kind) key blocks in
+      let key = key_of _ q.poller q.number c.nonce own.id j.au _ in
+      let count = ap length over ∙ hashes_length _ key blocks in
       let short = short_version j.au c.version in (
         (omega (arith, count, short), proof),
         (
           join_fact q j joined,
-          subst (λ (hs : List (List ℕ)). All (λ h. length h ≡ 32) hs) (sym over)
-              (All-from_recursion (λ h. length h ≡ 32) (hashes_of (is_second c.kind) key blocks)
-              (hashes_sized (is_second c.kind) key blocks)),
+          subst (λ (hs : List _). All (λ h. length h ≡ 32) hs) (sym over)
+              (All-from_recursion _ _
+              (hashes_sized _ key blocks)),
         ),
       )
 

@@ -51,7 +51,7 @@ without_any P test (x ∷ xs) all = here (test x) (without_any P test xs (All-ta
   where
     here : (b : Bool) → All P (without_first test xs) → All P (cond b xs (x ∷ without_first test xs))
     here true rest = All-tail P x xs all
-    here false rest = All-cons P x (without_first test xs) (All-head P x xs all) rest
+    here false rest = All-cons P x _ (All-head P x xs all) rest
 
 pub changed_any : {X : Type 0} (P : X → Type 0) (test : X → Bool) (f : X → X) (xs : List X)
     → ((x : X) → P x → P (f x)) → All P xs → All P (changed_first test f xs)
@@ -60,7 +60,7 @@ changed_any P test f (x ∷ xs) keeps all = here (test x) (changed_any P test f 
   where
     here : (b : Bool) → All P (changed_first test f xs) → All P (cond b (f x ∷ xs) (x ∷ changed_first test f xs))
     here true rest = All-cons P (f x) xs (keeps x (All-head P x xs all)) (All-tail P x xs all)
-    here false rest = All-cons P x (changed_first test f xs) (All-head P x xs all) rest
+    here false rest = All-cons P x _ (All-head P x xs all) rest
 
 pub any_where : {X : Type 0} (P : X → Type 0) (test : X → Bool) (xs : List X) → All P xs → Where (find test xs) P
 any_where P test [] all = tt

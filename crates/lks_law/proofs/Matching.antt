@@ -4,7 +4,6 @@ use Rattle.std.proofs.Common.{refl}
 use Rattle.std.specs.Prelude.{Option, Some, None}
 use Rattle.std.specs.List.{filter_map, cons_option}
 use Rattle.std.proofs.lemmas.Bool.{eqb-true}
-use Rattle.lks_base.specs.Checking.{has_member}
 use Rattle.lks_base.specs.Kinds.{is_second}
 use Rattle.lks_base.specs.declared.names.PollName.{PollName}
 use Rattle.lks_base.specs.declared.records.Record.{Record}
@@ -74,17 +73,13 @@ module _ (peers : List Standing) (own : Station) (js : List Record) (all : Each 
 
       by_record : (r : Record) (j : Join) → join_in q r ≡ Some j → Fact peers own js r
           → Any (λ s. Has (λ o. o.au ≡ j.au) (opening_of q.number s.journal)) (peer_at q.poller peers)
-      by_record (Joined p au tick low repairs) j e fact =
-          by_name (is_poll p q) p (record { au = au; tick = tick; low = low; repairs = repairs }) j refl fact.1 e
+      by_record (Joined p au tick low repairs) j e fact = by_name _ p _ j refl fact.1 e
       by_record r j e fact = absurd cc
 
   pub join_match : (q : PollName) (j : Join) → join_of q js ≡ Some j
       → Any (λ s. Has (λ o. o.au ≡ j.au) (opening_of q.number s.journal)) (peer_at q.poller peers)
   unfolding join_of
-  join_match q j e =
-      first_of (join_in q) (Fact peers own js)
-      (λ j. Any (λ s. Has (λ o. o.au ≡ j.au) (opening_of q.number s.journal)) (peer_at q.poller peers))
-      (joined_so q) js j e all
+  join_match q j e = first_of _ _ _ (joined_so q) js j e all
 
   -- it is committed under the poll's nonce and kind of hash
   pub committed_so : (q : PollName) (r : Record) (c : Commitment) → commitment_in q r ≡ Some c → Fact peers own js r
@@ -121,10 +116,7 @@ module _ (peers : List Standing) (own : Station) (js : List Record) (all : Each 
       → Any (λ s. Has (λ o. (o.nonce ≡ c.nonce) × (o.kind ≡ c.kind)) (opening_of q.number s.journal))
       (peer_at q.poller peers)
   unfolding commitment_of
-  commit_match q c e =
-      first_of (commitment_in q) (Fact peers own js)
-      (λ c. Any (λ s. Has (λ o. (o.nonce ≡ c.nonce) × (o.kind ≡ c.kind)) (opening_of q.number s.journal))
-      (peer_at q.poller peers)) (committed_so q) js c e all
+  commit_match q c e = first_of _ _ _ (committed_so q) js c e all
 
   -- what is known of a vote that a journal has
   abbrev pub VoteFact : ℕ → Vote → Type 0
@@ -156,9 +148,7 @@ module _ (peers : List Standing) (own : Station) (js : List Record) (all : Each 
   -- and of each of a poll's inner ones
   pub inner_facts : (n : ℕ) (inner : List ℕ) (i : ℕ) → Each (VoteFact n) (inner_votes n inner (take i js))
   unfolding inner_votes votes
-  inner_facts n inner i =
-      each_filter (VoteFact n) (λ v. has_member inner v.voter) _
-      (vote_facts n (take i js) (each_front (Fact peers own js) i js all))
+  inner_facts n inner i = each_filter _ _ _ (vote_facts n _ (each_front _ i js all))
 
 -- An honest vote that a poller has is the vote over a version that the voter named, under the poll's own key.
 pub record VotedOver (s t : Standing) (n : ℕ) (o : Opening) (v : Vote) : Type 0 where
@@ -180,28 +170,27 @@ unfolding vote_hashes
 voted_over peers k s t n o v at from sound voter opened fact =
     let q = poll_named s.own.id n in
     let snap = snapshot_of peers k t q v.hashes voter
-    (subst (Any (λ x. hashes_of_vote q x.journal ≡ Some v.hashes)) from fact.0) in
+    (subst (Any _) from fact.0) in
     let au : o.au ≡ snap.join.au =
-    is_had (λ (x : Opening). x.au ≡ snap.join.au) (opening_of n s.journal) o opened
-    (subst (Any (λ x. Has (λ (y : Opening). y.au ≡ snap.join.au) (opening_of n x.journal))) at
+    is_had _ _ o opened
+    (subst (Any _) at
     (join_match peers t.own t.journal voter.records q snap.join snap.joined)) in
-    let same : (o.nonce ≡ snap.commitment.nonce) × (o.kind ≡ snap.commitment.kind) =
-    is_had (λ (x : Opening). (x.nonce ≡ snap.commitment.nonce) × (x.kind ≡ snap.commitment.kind))
-    (opening_of n s.journal) o opened
+    let same : _ × (o.kind ≡ snap.commitment.kind) =
+    is_had _
+    _ o opened
     (subst
     (Any
-    (λ x. Has (λ (y : Opening). (y.nonce ≡ snap.commitment.nonce) × (y.kind ≡ snap.commitment.kind))
-    (opening_of n x.journal))) at
+    _) at
     (commit_match peers t.own t.journal voter.records q snap.commitment snap.committed)) in
     let blocks = contents_at snap.join.au snap.commitment.version t.journal in
-    let key = key_of (is_second snap.commitment.kind) s.own.id n snap.commitment.nonce t.own.id snap.join.au
-    (length blocks) in
+    let key = key_of _ s.own.id n snap.commitment.nonce t.own.id snap.join.au
+    _ in
     let count : length v.hashes
     ≡ length (contents_of o.au s.journal) = is_had
-    (λ (x : Opening). length v.hashes ≡ length (contents_of x.au s.journal)) (opening_of n s.journal) o opened
+    _ _ o opened
     fact.1 in
     let whole : length blocks
-    ≡ length (contents_of o.au s.journal) = sym (hashes_length (is_second snap.commitment.kind) key blocks)
+    ≡ length (contents_of o.au s.journal) = sym (hashes_length _ key blocks)
     ∙ sym (ap length snap.over) ∙ count in
     let own : t.own.id ≡ v.voter = at_own v.voter peers t from in
     record {

@@ -1,18 +1,16 @@
 -- What the opening of a poll keeps.
-use Rattle.std.proofs.Common.{◌≡◌, ◌≤◌, ◌+◌, ◌∙◌, ◌⊎◌, inl, inr, ap, sym, subst, ℕ, Bool, true, false, cond, eqb, ltb}
+use Rattle.std.proofs.Common.{◌≡◌, ◌≤◌, ◌+◌, ◌∙◌, ◌⊎◌, inl, inr, ap, sym, subst, ℕ, Bool, true, false, cond, eqb}
 use Rattle.std.proofs.Common.{List, [], ◌∷◌, ◌++◌, refl, arith}
-use Rattle.std.specs.Prelude.{Option, Some, None, is_some, not, ◌&&◌, count_by}
+use Rattle.std.specs.Prelude.{Option, Some, None, is_some, not, ◌&&◌}
 use Rattle.std.specs.List.{list_any, range_with_len}
 use Rattle.std.proofs.lemmas.Bool.{and_parts, not-true, eqb-true, eq-eqb, and_from, both_ways, or_left, or_right}
 use Rattle.std.proofs.lemmas.Bool.{not_from_false}
 use Rattle.lks_base.specs.declared.records.Record.{Record}
 use Rattle.lks_base.specs.declared.records.Record.TheVariants as records
-use Rattle.lks_hash.specs.Hashes.{nonce_from}
-use Rattle.lks_law.specs.Journal.{Opening, deposit_of, opening_in, opening_of, openings, opened_numbers, is_closed}
-use Rattle.lks_law.specs.Journal.{opens_running, opens_open, opens_lately}
+use Rattle.lks_law.specs.Journal.{Opening, opening_in, opening_of, openings, opened_numbers, is_closed}
+use Rattle.lks_law.specs.Journal.{opens_running}
 use Rattle.lks_law.specs.Polls.{Station, ObeyQuorumRule, limits_in, limits_of, limits_in_force}
-use Rattle.lks_law.specs.Reaction.{may_open, opens_poll, on_open}
-use Rattle.lks_law.specs.References.{inner_circle}
+use Rattle.lks_law.specs.Reaction.{may_open, on_open}
 use Rattle.lks_law.proofs.Grown.{first_opening, opening_more, openings_more, numbers_more, contents_more}
 use Rattle.lks_law.proofs.Kept.{Kept, AllGood, AreLawful, in_force_more, evidence_more, was_running}
 use Rattle.lks_law.proofs.PollStates.{Good, poll_of, poll_more, copies_in, if_own, good_opened}
@@ -32,8 +30,8 @@ opens_is all k (records.PollOpened number au nonce inner tick limits kind) x is 
         → (eqb au x.au && not (is_closed number all)) ≡ true
     by_number true e is =
         let same : au ≡ x.au = ap (λ (o : Option Opening). elim o as (λ _. ℕ) [ None ↦ 0 | Some y ↦ y.au ]) is in
-        and_from (eqb au x.au) (not (is_closed number all)) (eq-eqb au x.au same)
-        (not_from_false (is_closed number all) (ap (λ m. is_closed m all) (eqb-true number k e) ∙ runs))
+        and_from _ _ (eq-eqb au x.au same)
+        (not_from_false _ (ap (λ m. is_closed m all) (eqb-true number k e) ∙ runs))
     by_number false e is = absurd cc
 opens_is all k j x is runs = absurd cc
 
@@ -42,14 +40,13 @@ running_found : (all js : List Record) (k : ℕ) (x : Opening) → opening_of k 
 unfolding opening_of
 running_found all [] k x is runs = absurd cc
 running_found all (j ∷ js) k x is runs =
-    by_first (opening_in k j) refl is
-    (λ later. or_right (opens_running x.au all j) _ (running_found all js k x later runs))
+    by_first (opening_in k j) refl is (λ later. or_right _ _ (running_found all js k x later runs))
   where
     by_first : (o : Option Opening) → opening_in k j ≡ o → cond (is_some o) o (opening_of k js) ≡ Some x
         → (opening_of k js ≡ Some x → list_any (opens_running x.au all) (j ∷ js) ≡ true)
         → list_any (opens_running x.au all) (j ∷ js) ≡ true
     by_first None e is later = later is
-    by_first (Some o) e is later = or_left (opens_running x.au all j) _ (opens_is all k j x (e ∙ is) runs)
+    by_first (Some o) e is later = or_left _ _ (opens_is all k j x (e ∙ is) runs)
 
 -- One poll more.
 
@@ -85,7 +82,7 @@ module _ (own : Station) (js : List Record) (n tick : ℕ) (o : Opening) where
     numbered_after : (k : ℕ) (x : Opening) → opening_of k (js ++ opening ∷ []) ≡ Some x
         → k ≤ openings (js ++ opening ∷ [])
     numbered_after k x is =
-        let count : openings (js ++ opening ∷ []) ≡ openings js + 1 = openings_more js opening in
+        let count : openings _ ≡ openings js + 1 = openings_more js opening in
         elim (opened_where k x is) [
           | inl older ↦ let low = kept.rest.numbered k x older in omega (arith, low, count)
           | inr this ↦ let same = this.0 in omega (arith, same, next, count)
@@ -94,7 +91,7 @@ module _ (own : Station) (js : List Record) (n tick : ℕ) (o : Opening) where
     -- no older poll runs on the AU
     apart : (k : ℕ) (x : Opening) → opening_of k js ≡ Some x → is_closed k js ≡ false → o.au ≡ x.au → ⊥
     apart k x is runs same =
-        both_ways (list_any (opens_running o.au js) js) free
+        both_ways _ free
         (subst (λ au. list_any (opens_running au js) js ≡ true) (sym same) (running_found js js k x is runs))
 
     alone_after : (m k : ℕ) (x y : Opening) → opening_of m (js ++ opening ∷ []) ≡ Some x
@@ -113,10 +110,10 @@ module _ (own : Station) (js : List Record) (n tick : ℕ) (o : Opening) where
 
     in_order_after : opened_numbers (js ++ opening ∷ []) ≡ range_with_len 1 (openings (js ++ opening ∷ []))
     in_order_after =
-        let count : openings (js ++ opening ∷ []) ≡ openings js + 1 = openings_more js opening in
+        let count : openings _ ≡ openings js + 1 = openings_more js opening in
         let last : 1 + openings js ≡ n = omega (arith, next) in
         numbers_more js opening ∙ ap (λ (ns : List ℕ). ns ++ n ∷ []) kept.rest.in_order
-        ∙ sym (range_last 1 (openings js) n last) ∙ ap (range_with_len 1) (sym count)
+        ∙ sym (range_last 1 _ n last) ∙ ap (range_with_len 1) (sym count)
 
     same_copies_after : copies_in (js ++ opening ∷ []) ≡ copies_in js
     same_copies_after = λ i au. contents_more au js opening refl i
@@ -124,10 +121,8 @@ module _ (own : Station) (js : List Record) (n tick : ℕ) (o : Opening) where
     good_after : AllGood own (js ++ opening ∷ [])
     good_after k =
         subst (λ copies. Good own k copies (poll_of k (js ++ opening ∷ []))) (sym same_copies_after)
-        (subst (Good own k (copies_in js)) (sym (poll_more k js opening))
-        (if_own own k (copies_in js) n (poll_of k js) _ (kept.good k) (λ same.
-        good_opened own k (copies_in js) o (poll_of k js) (kept.good k)
-        (subst (λ m. opening_of m js ≡ None) same (is_new (opening_of n js) refl)))))
+        (subst (Good own k _) (sym (poll_more k js opening)) (if_own own k _ n _ _ (kept.good k) (λ same.
+        good_opened own k _ o _ (kept.good k) (subst (λ m. opening_of m js ≡ None) same (is_new _ refl)))))
 
     lawful_after : ObeyQuorumRule (limits_in own.rules) → AreLawful own.rules (js ++ opening ∷ [])
     lawful_after rule =
@@ -157,24 +152,15 @@ pub free_of : (own : Station) (js : List Record) (tick au : ℕ) → may_open ow
 unfolding may_open
 free_of own js tick au may =
     let all = and_parts
-    (is_some (deposit_of au js) && not (list_any (opens_running au js) js)
-    && ltb (count_by (opens_open js) js) 8) (not (list_any (opens_lately au tick own.rules.pace) js)) may in
-    let first = and_parts (is_some (deposit_of au js) && not (list_any (opens_running au js) js))
-    (ltb (count_by (opens_open js) js) 8) all.0 in
-    not-true (list_any (opens_running au js) js)
-    (and_parts (is_some (deposit_of au js)) (not (list_any (opens_running au js) js)) first.0).1
+    _ _ may in
+    let first = and_parts _
+    _ all.0 in
+    not-true _
+    (and_parts _ _ first.0).1
 
 pub kept_on_open : (own : Station) (js : List Record) (tick au : ℕ) → Kept own js
     → KeptBy own js (on_open own js tick au)
 unfolding on_open
 kept_on_open own js tick au kept =
-    kept_if own js (may_open own js tick au) (opens_poll own js tick au (openings js + 1)) kept (λ may.
-    kept_opened own js (openings js + 1) tick
-    (record {
-      au = au;
-      nonce = nonce_from own.seed (openings js + 1);
-      inner = inner_circle own (openings js + 1) js;
-      limits = Some (limits_in_force own.rules js);
-      kind = own.hash;
-    })
+    kept_if own js _ _ kept (λ may. kept_opened own js _ tick _
     kept refl (free_of own js tick au may) (λ rule in_force. in_force))

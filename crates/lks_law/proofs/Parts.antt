@@ -1,7 +1,7 @@
 -- The voter for which a journal stands: its sessions in every poll, by their phases.
 use Rattle.std.proofs.Common.{◌≡◌, ◌≤◌, ◌∙◌, ap, sym, subst, ℕ, Bool, true, false, cond, List, [], ◌∷◌, ◌++◌, refl}
 use Rattle.std.proofs.Common.{arith}
-use Rattle.std.specs.Prelude.{Option, Some, None, is_some, option_map, not, ◌&&◌}
+use Rattle.std.specs.Prelude.{Option, Some, None, is_some, option_map, not}
 use Rattle.std.proofs.lemmas.Bool.{and_parts}
 use Rattle.std.proofs.lemmas.List.{append-nil}
 use Rattle.lks_base.specs.declared.names.PollName.{PollName}
@@ -14,7 +14,7 @@ use Rattle.lks_law.specs.Journal.{deposit_in, deposit_of, contents_at, contents_
 use Rattle.lks_law.specs.Sessions.{Join, Commitment, Turn, is_poll, part_of, join_of, commitment_of, hashes_of_vote}
 use Rattle.lks_law.specs.Sessions.{served_blocks, is_ended, is_session, may_work, version_now}
 use Rattle.lks_law.specs.Taking.{Session, Pinned, Cast, Voter, session_at, pinned_at, cast_at, joined_as, pinned_to}
-use Rattle.lks_law.specs.Taking.{cast_as, pins_of, casts_of, serving_block, after_turn, turned_by}
+use Rattle.lks_law.specs.Taking.{cast_as, pins_of, casts_of, after_turn, turned_by}
 use Rattle.lks_law.specs.Written.{MayFollow}
 use Rattle.lks_law.proofs.Keyed.{Apart, first, first_only, same_poll, is_itself, off, on, at_push, at_named, gone}
 use Rattle.lks_law.proofs.Keyed.{others_without, apart_without, apart_push, at_changed, apart_changed}
@@ -110,29 +110,22 @@ module _ (js : List Record) (r : Record) (may : MayFollow js r) where
       by_record : (r : Record) → MayFollow js r
           → contents_at j.au c.version (js ++ r ∷ []) ≡ contents_at j.au c.version js
       by_record (Deposit au blocks) all = absurd (let both : Some j ≡ None = sym joins ∙ nothing_said q js all in cc)
-      by_record (PollOpened number au nonce inner tick limits kind) may =
-          version_stays j.au c.version js (PollOpened number au nonce inner tick limits kind) refl low
-      by_record (Nominated number voter nominees) may =
-          version_stays j.au c.version js (Nominated number voter nominees) refl low
-      by_record (OuterOpened number outer) may = version_stays j.au c.version js (OuterOpened number outer) refl low
-      by_record (VoteIn number voter hashes) may = version_stays j.au c.version js (VoteIn number voter hashes) refl low
-      by_record (Shut number) may = version_stays j.au c.version js (Shut number) refl low
-      by_record (Asked number block voter) may = version_stays j.au c.version js (Asked number block voter) refl low
-      by_record (RepairBad number block voter) may =
-          version_stays j.au c.version js (RepairBad number block voter) refl low
-      by_record (Replaced number au block bytes) may =
-          version_stays j.au c.version js (Replaced number au block bytes) refl low
-      by_record (Closed number outcome tick) may = version_stays j.au c.version js (Closed number outcome tick) refl low
-      by_record (Overdue au tick) may = version_stays j.au c.version js (Overdue au tick) refl low
-      by_record (Joined poll au tick low' repairs) may =
-          version_stays j.au c.version js (Joined poll au tick low' repairs) refl low
-      by_record (Committed poll nonce version kind) may =
-          version_stays j.au c.version js (Committed poll nonce version kind) refl low
-      by_record (Voted poll hashes) may = version_stays j.au c.version js (Voted poll hashes) refl low
-      by_record (Served poll block) may = version_stays j.au c.version js (Served poll block) refl low
-      by_record (Ended poll) may = version_stays j.au c.version js (Ended poll) refl low
-      by_record (Tuned quorum minority repairs) may =
-          version_stays j.au c.version js (Tuned quorum minority repairs) refl low
+      by_record (PollOpened number au nonce inner tick limits kind) may = version_stays j.au c.version js _ refl low
+      by_record (Nominated number voter nominees) may = version_stays j.au c.version js _ refl low
+      by_record (OuterOpened number outer) may = version_stays j.au c.version js _ refl low
+      by_record (VoteIn number voter hashes) may = version_stays j.au c.version js _ refl low
+      by_record (Shut number) may = version_stays j.au c.version js _ refl low
+      by_record (Asked number block voter) may = version_stays j.au c.version js _ refl low
+      by_record (RepairBad number block voter) may = version_stays j.au c.version js _ refl low
+      by_record (Replaced number au block bytes) may = version_stays j.au c.version js _ refl low
+      by_record (Closed number outcome tick) may = version_stays j.au c.version js _ refl low
+      by_record (Overdue au tick) may = version_stays j.au c.version js _ refl low
+      by_record (Joined poll au tick low' repairs) may = version_stays j.au c.version js _ refl low
+      by_record (Committed poll nonce version kind) may = version_stays j.au c.version js _ refl low
+      by_record (Voted poll hashes) may = version_stays j.au c.version js _ refl low
+      by_record (Served poll block) may = version_stays j.au c.version js _ refl low
+      by_record (Ended poll) may = version_stays j.au c.version js _ refl low
+      by_record (Tuned quorum minority repairs) may = version_stays j.au c.version js _ refl low
 
   pub pinned_kept : (rules : Rules) (q : PollName) → IsProper js (phase q js)
       → pinned_in rules (js ++ r ∷ []) q (phase q js) ≡ pinned_in rules js q (phase q js)
@@ -160,8 +153,7 @@ module _ (js : List Record) (r : Record) (may : MayFollow js r) where
       by_phase (Some j) joins None commits h = refl
       by_phase (Some j) joins (Some c) commits None = refl
       by_phase (Some j) joins (Some c) commits (Some h) =
-          ap
-          (λ bs. cond (is_ended q js) None
+          ap (λ bs. cond (is_ended q js) None
           (Some (cast_as h (served_blocks q js) (pinned_to c bs (joined_as rules q j)))))
           (version_kept q j c proper joins commits)
 
@@ -185,12 +177,12 @@ pub quiet_at : (rules : Rules) (js : List Record) (r : Record) (v : Voter) (q : 
 quiet_at rules js r v q may none is =
     let same = phase_quiet q js r none in
     record {
-      proper = subst (IsProper (js ++ r ∷ [])) (sym same) (proper_kept js r may q is.proper);
+      proper = subst (IsProper _) (sym same) (proper_kept js r may q is.proper);
       sessions = is.sessions ∙ ap (session_in rules q) (sym same);
       pinned =
           is.pinned ∙ sym (pinned_kept js r may rules q is.proper)
-          ∙ ap (pinned_in rules (js ++ r ∷ []) q) (sym same);
-      cast = is.cast ∙ sym (cast_kept js r may rules q is.proper) ∙ ap (cast_in rules (js ++ r ∷ []) q) (sym same);
+          ∙ ap (pinned_in rules _ q) (sym same);
+      cast = is.cast ∙ sym (cast_kept js r may rules q is.proper) ∙ ap (cast_in rules _ q) (sym same);
     }
 
 -- A turn in another poll.
@@ -206,30 +198,27 @@ module _ (rules : Rules) (blocks : ℕ → List (List ℕ)) (n q : PollName) (ot
   push_pinned : (p : Pinned) → p.committed.joined.poll ≡ n → pinned_at q (v.pinned ++ p ∷ []) ≡ pinned_at q v.pinned
   push_pinned p is =
       at_push poll_of_pinned q v.pinned p
-      ∙ ap (first (pinned_at q v.pinned))
-      (off (is_poll p.committed.joined.poll q) (Some p) None (ap (λ m. is_poll m q) is ∙ other))
-      ∙ first_only (pinned_at q v.pinned)
+      ∙ ap (first _) (off _ _ None (ap (λ m. is_poll m q) is ∙ other))
+      ∙ first_only _
 
   push_cast : (c : Cast) → c.voted.committed.joined.poll ≡ n → cast_at q (v.cast ++ c ∷ []) ≡ cast_at q v.cast
   push_cast c is =
       at_push poll_of_cast q v.cast c
-      ∙ ap (first (cast_at q v.cast))
-      (off (is_poll c.voted.committed.joined.poll q) (Some c) None (ap (λ m. is_poll m q) is ∙ other))
-      ∙ first_only (cast_at q v.cast)
+      ∙ ap (first _) (off _ _ None (ap (λ m. is_poll m q) is ∙ other))
+      ∙ first_only _
 
   pinning_other : (c : Commitment) (o : Option Session) → session_at n v.sessions ≡ o
       → pinned_at q (v.pinned ++ pins_of blocks c o) ≡ pinned_at q v.pinned
   pinning_other c None e = ap (pinned_at q) (append-nil v.pinned)
-  pinning_other c (Some s) e =
-      push_pinned (pinned_to c (blocks s.joined.au) s) (at_named poll_of_session n v.sessions s e)
+  pinning_other c (Some s) e = push_pinned _ (at_named poll_of_session n v.sessions s e)
 
   casting_other : (hashes : List (List ℕ)) (o : Option Pinned) → pinned_at n v.pinned ≡ o
       → cast_at q (v.cast ++ casts_of hashes o) ≡ cast_at q v.cast
   casting_other hashes None e = ap (cast_at q) (append-nil v.cast)
-  casting_other hashes (Some p) e = push_cast (cast_as hashes [] p) (at_named poll_of_pinned n v.pinned p e)
+  casting_other hashes (Some p) e = push_cast _ (at_named poll_of_pinned n v.pinned p e)
 
   others_sessions : (t : Turn) → session_at q (after_turn rules blocks n t v).sessions ≡ session_at q v.sessions
-  others_sessions (Turn.Joins j) = push_session (joined_as rules n j) refl
+  others_sessions (Turn.Joins j) = push_session _ refl
   others_sessions (Turn.Commits c) = others_without poll_of_session n q v.sessions other
   others_sessions (Turn.Votes hashes) = refl
   others_sessions (Turn.Serves block) = refl
@@ -237,7 +226,7 @@ module _ (rules : Rules) (blocks : ℕ → List (List ℕ)) (n q : PollName) (ot
 
   others_pinned : (t : Turn) → pinned_at q (after_turn rules blocks n t v).pinned ≡ pinned_at q v.pinned
   others_pinned (Turn.Joins j) = refl
-  others_pinned (Turn.Commits c) = pinning_other c (session_at n v.sessions) refl
+  others_pinned (Turn.Commits c) = pinning_other c _ refl
   others_pinned (Turn.Votes hashes) = others_without poll_of_pinned n q v.pinned other
   others_pinned (Turn.Serves block) = refl
   others_pinned Turn.Ends = others_without poll_of_pinned n q v.pinned other
@@ -245,26 +234,24 @@ module _ (rules : Rules) (blocks : ℕ → List (List ℕ)) (n q : PollName) (ot
   others_cast : (t : Turn) → cast_at q (after_turn rules blocks n t v).cast ≡ cast_at q v.cast
   others_cast (Turn.Joins j) = refl
   others_cast (Turn.Commits c) = refl
-  others_cast (Turn.Votes hashes) = casting_other hashes (pinned_at n v.pinned) refl
-  others_cast (Turn.Serves block) =
-      at_changed poll_of_cast (serving_block block) (λ c. refl) n q v.cast
-      ∙ off (is_poll n q) (option_map (serving_block block) (cast_at q v.cast)) (cast_at q v.cast) other
+  others_cast (Turn.Votes hashes) = casting_other hashes _ refl
+  others_cast (Turn.Serves block) = at_changed poll_of_cast _ (λ c. refl) n q v.cast ∙ off _ _ _ other
   others_cast Turn.Ends = others_without poll_of_cast n q v.cast other
 
   pub turned_other : (js : List Record) (r : Record) (t : Turn) → MayFollow js r
       → part_of r ≡ Some (record { poll = n; turn = t }) → TakesAt rules js v q
       → TakesAt rules (js ++ r ∷ []) (after_turn rules blocks n t v) q
   turned_other js r t may says is =
-      let same = phase_other q js r (record { poll = n; turn = t }) says other in
+      let same = phase_other q js r _ says other in
       record {
-        proper = subst (IsProper (js ++ r ∷ [])) (sym same) (proper_kept js r may q is.proper);
+        proper = subst (IsProper _) (sym same) (proper_kept js r may q is.proper);
         sessions = others_sessions t ∙ is.sessions ∙ ap (session_in rules q) (sym same);
         pinned =
             others_pinned t ∙ is.pinned ∙ sym (pinned_kept js r may rules q is.proper)
-            ∙ ap (pinned_in rules (js ++ r ∷ []) q) (sym same);
+            ∙ ap (pinned_in rules _ q) (sym same);
         cast =
             others_cast t ∙ is.cast ∙ sym (cast_kept js r may rules q is.proper)
-            ∙ ap (cast_in rules (js ++ r ∷ []) q) (sym same);
+            ∙ ap (cast_in rules _ q) (sym same);
       }
 
 -- A turn in this poll.
@@ -314,10 +301,10 @@ module _ (js : List Record) (n : PollName) (proper : IsProper js (phase n js)) w
   pub joined_phase : is_session n js ≡ true → commitment_of n js ≡ None → (j : Join) × (phase n js ≡ joined j)
   unfolding is_session
   joined_phase opened commits =
-      let parts = and_parts (is_some (join_of n js)) (not (is_ended n js)) opened in
-      let found = some_of (join_of n js) parts.0 in
+      let parts = and_parts _ _ opened in
+      let found = some_of _ parts.0 in
       let votes : hashes_of_vote n js
-      ≡ None = not_there (hashes_of_vote n js) (commitment_of n js) proper.voted commits in (
+      ≡ None = not_there _ _ proper.voted commits in (
         found.0,
         λ i.
             record {
@@ -325,29 +312,29 @@ module _ (js : List Record) (n : PollName) (proper : IsProper js (phase n js)) w
               commitment = commits i;
               hashes = votes i;
               served = proper.gave (ap is_some votes) i;
-              over = turned_off (is_ended n js) parts.1 i;
+              over = turned_off _ parts.1 i;
             },
       )
 
   pub committed_phase : may_work n js ≡ true → (j : Join) × (c : Commitment) × (phase n js ≡ committed j c)
   unfolding is_session may_work
   committed_phase may =
-      let rest = and_parts (is_some (join_of n js) && not (is_ended n js) && is_some (commitment_of n js))
-      (not (is_some (hashes_of_vote n js))) may in
-      let opened = and_parts (is_some (join_of n js) && not (is_ended n js)) (is_some (commitment_of n js)) rest.0 in
-      let parts = and_parts (is_some (join_of n js)) (not (is_ended n js)) opened.0 in
-      let join = some_of (join_of n js) parts.0 in
-      let commitment = some_of (commitment_of n js) opened.1 in
-      let votes : is_some (hashes_of_vote n js) ≡ false = turned_off (is_some (hashes_of_vote n js)) rest.1 in (
+      let rest = and_parts _
+      _ may in
+      let opened = and_parts _ _ rest.0 in
+      let parts = and_parts _ _ opened.0 in
+      let join = some_of _ parts.0 in
+      let commitment = some_of _ opened.1 in
+      let votes : is_some _ ≡ false = turned_off _ rest.1 in (
         join.0,
         commitment.0,
         λ i.
             record {
               join = join.1 i;
               commitment = commitment.1 i;
-              hashes = none_of (hashes_of_vote n js) votes i;
+              hashes = none_of _ votes i;
               served = proper.gave votes i;
-              over = turned_off (is_ended n js) parts.1 i;
+              over = turned_off _ parts.1 i;
             },
       )
 
@@ -355,10 +342,10 @@ module _ (js : List Record) (n : PollName) (proper : IsProper js (phase n js)) w
       → (j : Join) × (c : Commitment) × (h : List (List ℕ)) × (phase n js ≡ voted j c h (served_blocks n js))
   unfolding is_session
   voted_phase opened votes =
-      let parts = and_parts (is_some (join_of n js)) (not (is_ended n js)) opened in
-      let join = some_of (join_of n js) parts.0 in
-      let commitment = some_of (commitment_of n js) (proper.voted votes) in
-      let hashes = some_of (hashes_of_vote n js) votes in (
+      let parts = and_parts _ _ opened in
+      let join = some_of _ parts.0 in
+      let commitment = some_of _ (proper.voted votes) in
+      let hashes = some_of _ votes in (
         join.0,
         commitment.0,
         hashes.0,
@@ -368,7 +355,7 @@ module _ (js : List Record) (n : PollName) (proper : IsProper js (phase n js)) w
               commitment = commitment.1 i;
               hashes = hashes.1 i;
               served = served_blocks n js;
-              over = turned_off (is_ended n js) parts.1 i;
+              over = turned_off _ parts.1 i;
             },
       )
 
@@ -419,16 +406,16 @@ module _ (rules : Rules) (blocks : ℕ → List (List ℕ)) (js : List Record) (
       let j : Join = shape.0 in
       let before : phase n js ≡ joined j = shape.1 in
       let version : version_now j.au js
-      ≡ c.version = (let e : Some (version_now j.au js)
-      ≡ Some c.version = ap (option_map (λ j. version_now j.au js))
+      ≡ c.version = (let e : Some _
+      ≡ Some c.version = ap (option_map _)
       (sym (ap (λ (p : Phase). p.join) before))
       ∙ newest in cc) in
       let found : session_at n v.sessions ≡ Some (joined_as rules n j) = is.sessions ∙ ap (session_in rules n) before in
-      let same : contents_at j.au c.version (js ++ r ∷ []) ≡ blocks j.au =
+      let same : contents_at j.au c.version _ ≡ blocks j.au =
       version_stays j.au c.version js r (nothing_new j.au) (omega (arith, version))
       ∙ ap (λ k. contents_at j.au k js) (sym version) ∙ newest_is j.au js ∙ sym (are j.au) in
-      at_phase rules js r n v (after_turn rules blocks n (Turn.Commits c) v) (committed j c)
-      (phase_mine n js r (Turn.Commits c) says ∙ ap (turned_in (Turn.Commits c)) before)
+      at_phase rules js r n v _ _
+      (phase_mine n js r _ says ∙ ap (turned_in (Turn.Commits c)) before)
       (record {
         committed = λ e. refl;
         voted = λ e. absurd cc;
@@ -446,9 +433,9 @@ module _ (rules : Rules) (blocks : ℕ → List (List ℕ)) (js : List Record) (
       })
       (gone poll_of_session n v.sessions apart.sessions)
       (ap (λ o. pinned_at n (v.pinned ++ pins_of blocks c o)) found
-      ∙ at_push poll_of_pinned n v.pinned (pinned_to c (blocks j.au) (joined_as rules n j))
+      ∙ at_push poll_of_pinned n v.pinned _
       ∙ (λ i. first ((is.pinned ∙ ap (pinned_in rules js n) before) i)
-      (on (is_poll n n) (Some (pinned_to c (sym same i) (joined_as rules n j))) None (is_itself n) i)))
+      (on _ (Some (pinned_to c (sym same i) (joined_as rules n j))) None (is_itself n) i)))
       (is.cast ∙ ap (cast_in rules js n) before)
 
   -- the version that was named before the record
@@ -487,15 +474,15 @@ module _ (rules : Rules) (blocks : ℕ → List (List ℕ)) (js : List Record) (
       let before : phase n js ≡ committed j c = shape.2 in
       let joins : join_of n js ≡ Some j = ap (λ (p : Phase). p.join) before in
       let commits : commitment_of n js ≡ Some c = ap (λ (p : Phase). p.commitment) before in
-      at_phase rules js r n v (after_turn rules blocks n (Turn.Votes hashes) v) (voted j c hashes [])
-      (phase_mine n js r (Turn.Votes hashes) says ∙ ap (turned_in (Turn.Votes hashes)) before)
-      (proper_on j c (Some hashes) [] false joins commits (λ e. refl))
+      at_phase rules js r n v _ _
+      (phase_mine n js r _ says ∙ ap (turned_in (Turn.Votes hashes)) before)
+      (proper_on j c _ [] false joins commits (λ e. refl))
       (is.sessions ∙ ap (session_in rules n) before)
       (gone poll_of_pinned n v.pinned apart.pinned)
       (ap (λ o. cast_at n (v.cast ++ casts_of hashes o)) (is.pinned ∙ ap (pinned_in rules js n) before)
-      ∙ at_push poll_of_cast n v.cast (cast_as hashes [] (pinned_as rules js n j c))
+      ∙ at_push poll_of_cast n v.cast _
       ∙ (λ i. first ((is.cast ∙ ap (cast_in rules js n) before) i)
-      (on (is_poll n n) (Some (cast_as hashes [] (sym (kept_as j c may joins commits) i))) None (is_itself n)
+      (on _ (Some (cast_as hashes [] (sym (kept_as j c may joins commits) i))) None (is_itself n)
       i)))
 
   serves_mine : (block : ℕ) → MayFollow js r → part_of r ≡ Some (record { poll = n; turn = Turn.Serves block })
@@ -505,27 +492,27 @@ module _ (rules : Rules) (blocks : ℕ → List (List ℕ)) (js : List Record) (
       let shape = voted_phase js n is.proper opened votes in
       let j : Join = shape.0 in
       let c : Commitment = shape.1 in
-      let h : List (List ℕ) = shape.2 in
-      let before : phase n js ≡ voted j c h (served_blocks n js) = shape.3 in
+      let h : List _ = shape.2 in
+      let before : phase n js ≡ voted j c h _ = shape.3 in
       let joins : join_of n js ≡ Some j = ap (λ (p : Phase). p.join) before in
       let commits : commitment_of n js ≡ Some c = ap (λ (p : Phase). p.commitment) before in
-      at_phase rules js r n v (after_turn rules blocks n (Turn.Serves block) v)
-      (voted j c h (served_blocks n js ++ block ∷ []))
-      (phase_mine n js r (Turn.Serves block) says ∙ ap (turned_in (Turn.Serves block)) before)
-      (proper_on j c (Some h) (served_blocks n js ++ block ∷ []) false joins commits (λ e. absurd cc))
+      at_phase rules js r n v _
+      _
+      (phase_mine n js r _ says ∙ ap (turned_in (Turn.Serves block)) before)
+      (proper_on j c _ _ false joins commits (λ e. absurd cc))
       (is.sessions ∙ ap (session_in rules n) before)
       (is.pinned ∙ ap (pinned_in rules js n) before)
-      (at_changed poll_of_cast (serving_block block) (λ c. refl) n n v.cast
-      ∙ on (is_poll n n) (option_map (serving_block block) (cast_at n v.cast)) (cast_at n v.cast) (is_itself n)
-      ∙ ap (option_map (serving_block block)) (is.cast ∙ ap (cast_in rules js n) before)
+      (at_changed poll_of_cast _ (λ c. refl) n n v.cast
+      ∙ on _ _ _ (is_itself n)
+      ∙ ap (option_map _) (is.cast ∙ ap (cast_in rules js n) before)
       ∙ ap (λ p. Some (cast_as h (served_blocks n js ++ block ∷ []) p)) (sym (kept_as j c may joins commits)))
 
   ends_mine : part_of r ≡ Some (record { poll = n; turn = Turn.Ends }) → MayFollow js r → is_session n js ≡ true
       → TakesAt rules (js ++ r ∷ []) (after_turn rules blocks n Turn.Ends v) n
   unfolding is_session
   ends_mine says may opened =
-      let parts = and_parts (is_some (join_of n js)) (not (is_ended n js)) opened in
-      at_phase rules js r n v (after_turn rules blocks n Turn.Ends v) (record (phase n js) { over = true })
+      let parts = and_parts _ _ opened in
+      at_phase rules js r n v _ _
       (phase_mine n js r Turn.Ends says)
       (let stays = proper_kept js r may n is.proper in record {
         committed = stays.committed;
@@ -579,61 +566,56 @@ module _ (rules : Rules) (blocks : ℕ → List (List ℕ)) (js : List Record) (
   turned_at (Joined n au tick low repairs) may q =
       let r : Record = Joined n au tick low repairs in
       let j : Join = record { au = au; tick = tick; low = low; repairs = repairs } in
-      by_name r n (Turn.Joins j) may refl
+      by_name r n _ may refl
       (joins_mine rules blocks js r n v (is n) apart (λ a. refl) j refl may.0 may.1) q
   turned_at (Committed n nonce version kind) may q =
       let r : Record = Committed n nonce version kind in
       let c : Commitment = record { nonce = nonce; version = version; kind = kind } in
-      by_name r n (Turn.Commits c) may refl
+      by_name r n _ may refl
       (commits_mine rules blocks js r n v (is n) apart (λ a. refl) c refl may.0 may.1 may.2 are) q
   turned_at (Voted n hashes) may q =
       let r : Record = Voted n hashes in
-      by_name r n (Turn.Votes hashes) may refl
+      by_name r n _ may refl
       (votes_mine rules blocks js r n v (is n) apart (λ a. refl) hashes may refl may) q
   turned_at (Served n block) may q =
       let r : Record = Served n block in
-      by_name r n (Turn.Serves block) may refl
+      by_name r n _ may refl
       (serves_mine rules blocks js r n v (is n) apart (λ a. refl) block may refl may.0 may.1) q
   turned_at (Ended n) may q =
       let r : Record = Ended n in
       by_name r n Turn.Ends may refl (ends_mine rules blocks js r n v (is n) apart (λ a. refl) refl may may) q
-  turned_at (Deposit au blocks) may q = quiet_at rules js (Deposit au blocks) v q may refl (is q)
-  turned_at (PollOpened number au nonce inner tick limits kind) may q =
-      quiet_at rules js (PollOpened number au nonce inner tick limits kind) v q may refl (is q)
-  turned_at (Nominated number voter nominees) may q =
-      quiet_at rules js (Nominated number voter nominees) v q may refl (is q)
-  turned_at (OuterOpened number outer) may q = quiet_at rules js (OuterOpened number outer) v q may refl (is q)
-  turned_at (VoteIn number voter hashes) may q = quiet_at rules js (VoteIn number voter hashes) v q may refl (is q)
-  turned_at (Shut number) may q = quiet_at rules js (Shut number) v q may refl (is q)
-  turned_at (Asked number block voter) may q = quiet_at rules js (Asked number block voter) v q may refl (is q)
-  turned_at (RepairBad number block voter) may q = quiet_at rules js (RepairBad number block voter) v q may refl (is q)
-  turned_at (Replaced number au block bytes) may q =
-      quiet_at rules js (Replaced number au block bytes) v q may refl (is q)
-  turned_at (Closed number outcome tick) may q = quiet_at rules js (Closed number outcome tick) v q may refl (is q)
-  turned_at (Overdue au tick) may q = quiet_at rules js (Overdue au tick) v q may refl (is q)
-  turned_at (Tuned quorum minority repairs) may q =
-      quiet_at rules js (Tuned quorum minority repairs) v q may refl (is q)
+  turned_at (Deposit au blocks) may q = quiet_at rules js _ v q may refl (is q)
+  turned_at (PollOpened number au nonce inner tick limits kind) may q = quiet_at rules js _ v q may refl (is q)
+  turned_at (Nominated number voter nominees) may q = quiet_at rules js _ v q may refl (is q)
+  turned_at (OuterOpened number outer) may q = quiet_at rules js _ v q may refl (is q)
+  turned_at (VoteIn number voter hashes) may q = quiet_at rules js _ v q may refl (is q)
+  turned_at (Shut number) may q = quiet_at rules js _ v q may refl (is q)
+  turned_at (Asked number block voter) may q = quiet_at rules js _ v q may refl (is q)
+  turned_at (RepairBad number block voter) may q = quiet_at rules js _ v q may refl (is q)
+  turned_at (Replaced number au block bytes) may q = quiet_at rules js _ v q may refl (is q)
+  turned_at (Closed number outcome tick) may q = quiet_at rules js _ v q may refl (is q)
+  turned_at (Overdue au tick) may q = quiet_at rules js _ v q may refl (is q)
+  turned_at (Tuned quorum minority repairs) may q = quiet_at rules js _ v q may refl (is q)
 
   apart_pinning : (n : PollName) (c : Commitment) (o : Option Session) → session_at n v.sessions ≡ o
       → pinned_at n v.pinned ≡ None → Apart poll_of_pinned (v.pinned ++ pins_of blocks c o)
   apart_pinning n c None found new = subst (Apart poll_of_pinned) (sym (append-nil v.pinned)) apart.pinned
   apart_pinning n c (Some s) found new =
-      apart_push poll_of_pinned v.pinned (pinned_to c (blocks s.joined.au) s) apart.pinned
+      apart_push poll_of_pinned v.pinned _ apart.pinned
       (ap (λ m. pinned_at m v.pinned) (at_named poll_of_session n v.sessions s found) ∙ new)
 
   apart_casting : (n : PollName) (hashes : List (List ℕ)) (o : Option Pinned) → pinned_at n v.pinned ≡ o
       → cast_at n v.cast ≡ None → Apart poll_of_cast (v.cast ++ casts_of hashes o)
   apart_casting n hashes None found new = subst (Apart poll_of_cast) (sym (append-nil v.cast)) apart.cast
   apart_casting n hashes (Some p) found new =
-      apart_push poll_of_cast v.cast (cast_as hashes [] p) apart.cast
+      apart_push poll_of_cast v.cast _ apart.cast
       (ap (λ m. cast_at m v.cast) (at_named poll_of_pinned n v.pinned p found) ∙ new)
 
   pub turned_apart : (r : Record) → MayFollow js r → AreApart (turned_by rules blocks (part_of r) v)
   turned_apart (Joined n au tick low repairs) may =
       record {
         sessions =
-            apart_push poll_of_session v.sessions
-            (joined_as rules n (record { au = au; tick = tick; low = low; repairs = repairs })) apart.sessions
+            apart_push poll_of_session v.sessions _ apart.sessions
             ((is n).sessions ∙ ap (session_in rules n) (begun_phase js n (is n).proper may.0));
         pinned = apart.pinned;
         cast = apart.cast;
@@ -643,8 +625,7 @@ module _ (rules : Rules) (blocks : ℕ → List (List ℕ)) (js : List Record) (
       record {
         sessions = apart_without poll_of_session n v.sessions apart.sessions;
         pinned =
-            apart_pinning n (record { nonce = nonce; version = version; kind = kind }) (session_at n v.sessions)
-            refl ((is n).pinned ∙ ap (pinned_in rules js n) shape.1);
+            apart_pinning n _ _ refl ((is n).pinned ∙ ap (pinned_in rules js n) shape.1);
         cast = apart.cast;
       }
   turned_apart (Voted n hashes) may =
@@ -652,13 +633,13 @@ module _ (rules : Rules) (blocks : ℕ → List (List ℕ)) (js : List Record) (
       record {
         sessions = apart.sessions;
         pinned = apart_without poll_of_pinned n v.pinned apart.pinned;
-        cast = apart_casting n hashes (pinned_at n v.pinned) refl ((is n).cast ∙ ap (cast_in rules js n) shape.2);
+        cast = apart_casting n hashes _ refl ((is n).cast ∙ ap (cast_in rules js n) shape.2);
       }
   turned_apart (Served n block) may =
       record {
         sessions = apart.sessions;
         pinned = apart.pinned;
-        cast = apart_changed poll_of_cast (serving_block block) (λ c. refl) n v.cast apart.cast;
+        cast = apart_changed poll_of_cast _ (λ c. refl) n v.cast apart.cast;
       }
   turned_apart (Ended n) may =
       record {

@@ -52,7 +52,7 @@ first_more has [] r = only (has r)
     only : {X : Type 0} (o : Option X) → cond (is_some o) o None ≡ o
     only None = refl
     only (Some x) = refl
-first_more has (j ∷ js) r = here (has j) (first_in has js) (has r) (first_in has (js ++ r ∷ [])) (first_more has js r)
+first_more has (j ∷ js) r = here (has j) (first_in has js) (has r) (first_in has _) (first_more has js r)
   where
     here : {X : Type 0} (o rest later all : Option X) → all ≡ first rest later
         → cond (is_some o) o all ≡ first (cond (is_some o) o rest) later
@@ -101,22 +101,22 @@ own_says {X = X} b (Some x) e = ap (λ c. cond {A = Option X} c (Some x) None) e
 
 other_said : (q : PollName) (x : Part) (p : Phase) → is_poll x.poll q ≡ false → said q (Some x) p ≡ p
 other_said q x p other = λ i. record {
-  join = (ap (first p.join) (other_says (is_poll x.poll q) (join_by x.turn) other) ∙ first_only p.join) i;
+  join = (ap (first p.join) (other_says _ (join_by x.turn) other) ∙ first_only p.join) i;
   commitment =
-      (ap (first p.commitment) (other_says (is_poll x.poll q) (commitment_by x.turn) other)
+      (ap (first p.commitment) (other_says _ (commitment_by x.turn) other)
       ∙ first_only p.commitment) i;
-  hashes = (ap (first p.hashes) (other_says (is_poll x.poll q) (hashes_by x.turn) other) ∙ first_only p.hashes) i;
-  served = ap (pushed p.served) (other_says (is_poll x.poll q) (block_by x.turn) other) i;
+  hashes = (ap (first p.hashes) (other_says _ (hashes_by x.turn) other) ∙ first_only p.hashes) i;
+  served = ap (pushed p.served) (other_says _ (block_by x.turn) other) i;
   over = ap (λ b. cond (b && is_end x.turn) true p.over) other i;
 }
 
 mine_said : (q : PollName) (t : Turn) (p : Phase) → said q (Some (record { poll = q; turn = t })) p ≡ turned_in t p
 mine_said q t p =
     (λ i. record {
-      join = first p.join (own_says (is_poll q q) (join_by t) (is_itself q) i);
-      commitment = first p.commitment (own_says (is_poll q q) (commitment_by t) (is_itself q) i);
-      hashes = first p.hashes (own_says (is_poll q q) (hashes_by t) (is_itself q) i);
-      served = pushed p.served (own_says (is_poll q q) (block_by t) (is_itself q) i);
+      join = first p.join (own_says _ (join_by t) (is_itself q) i);
+      commitment = first p.commitment (own_says _ (commitment_by t) (is_itself q) i);
+      hashes = first p.hashes (own_says _ (hashes_by t) (is_itself q) i);
+      served = pushed p.served (own_says _ (block_by t) (is_itself q) i);
       over = cond (is_itself q i && is_end t) true p.over;
     }) ∙ by_turn t
   where
@@ -177,16 +177,15 @@ mine_said q t p =
 
 pub phase_quiet : (q : PollName) (js : List Record) (r : Record) → part_of r ≡ None
     → phase q (js ++ r ∷ []) ≡ phase q js
-phase_quiet q js r none = phase_more q js r ∙ ap (λ o. said q o (phase q js)) none ∙ none_said q (phase q js)
+phase_quiet q js r none = phase_more q js r ∙ ap (λ o. said q o (phase q js)) none ∙ none_said q _
 
 pub phase_other : (q : PollName) (js : List Record) (r : Record) (x : Part) → part_of r ≡ Some x
     → is_poll x.poll q ≡ false → phase q (js ++ r ∷ []) ≡ phase q js
-phase_other q js r x is other =
-    phase_more q js r ∙ ap (λ o. said q o (phase q js)) is ∙ other_said q x (phase q js) other
+phase_other q js r x is other = phase_more q js r ∙ ap (λ o. said q o (phase q js)) is ∙ other_said q x _ other
 
 pub phase_mine : (q : PollName) (js : List Record) (r : Record) (t : Turn)
     → part_of r ≡ Some (record { poll = q; turn = t }) → phase q (js ++ r ∷ []) ≡ turned_in t (phase q js)
-phase_mine q js r t is = phase_more q js r ∙ ap (λ o. said q o (phase q js)) is ∙ mine_said q t (phase q js)
+phase_mine q js r t is = phase_more q js r ∙ ap (λ o. said q o (phase q js)) is ∙ mine_said q t _
 
 -- Deposits alone say nothing of any part.
 
@@ -200,21 +199,18 @@ nothing_said q (j ∷ js) all = absurd cc
 
 front : (k : ℕ) (rs : List Replacement) (o : Option Replacement) → k ≤ length rs → take k (pushed rs o) ≡ take k rs
 front k rs None low = refl
-front k rs (Some r) low = take-append-le k rs (r ∷ []) low
+front k rs (Some r) low = take-append-le k rs _ low
 
 pub version_stays : (au k : ℕ) (js : List Record) (r : Record) → deposit_in au r ≡ None → k ≤ version_now au js
     → contents_at au k (js ++ r ∷ []) ≡ contents_at au k js
 unfolding contents_at version_now
 version_stays au k js r none low = λ i.
-    replaced_by (unwrap_or (deposit_more au js r none i) [])
-    ((ap (take k) (filter_map_more (replacement_in au) js r)
-    ∙ front k (replacements au js) (replacement_in au r) low) i)
+    replaced_by (unwrap_or (deposit_more au js r none i) []) ((ap (take k) (filter_map_more (replacement_in au) js r)
+    ∙ front k _ _ low) i)
 
 pub newest_is : (au : ℕ) (js : List Record) → contents_at au (version_now au js) js ≡ contents_of au js
 unfolding contents_at contents_of version_now
-newest_is au js =
-    ap (replaced_by (unwrap_or (deposit_of au js) []))
-    (take_all (length (replacements au js)) (replacements au js) (omega arith))
+newest_is au js = ap (replaced_by (unwrap_or (deposit_of au js) [])) (take_all _ (replacements au js) (omega arith))
 
 -- and its number grows
 pub version_grows : (au : ℕ) (js : List Record) (r : Record) → version_now au js ≤ version_now au (js ++ r ∷ [])

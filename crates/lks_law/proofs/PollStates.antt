@@ -110,17 +110,17 @@ opening_by p o false = same_poll p
 vote_by : (p : Poll) (v : Vote) (b : Bool)
     → record p { opening = first_opening p.opening None; votes = votes_after p.votes (cond b (Some v) None) }
     ≡ cond b (voted_by v p) p
-vote_by p v true = same_poll (voted_by v p)
+vote_by p v true = same_poll _
 vote_by p v false = same_poll p
 
 shut_by : (p : Poll) (b : Bool)
     → record p { opening = first_opening p.opening None; shut = cond b true p.shut } ≡ cond b (ended p) p
-shut_by p true = same_poll (ended p)
+shut_by p true = same_poll _
 shut_by p false = same_poll p
 
 closed_by : (p : Poll) (b : Bool)
     → record p { opening = first_opening p.opening None; closed = cond b true p.closed } ≡ cond b (done p) p
-closed_by p true = same_poll (done p)
+closed_by p true = same_poll _
 closed_by p false = same_poll p
 
 asked_by : (p : Poll) (r : Request) (b : Bool)
@@ -131,7 +131,7 @@ asked_by : (p : Poll) (r : Request) (b : Bool)
       waiting = cond b (p.waiting ++ r ∷ []) p.waiting;
     }
     ≡ cond b (asking r p) p
-asked_by p r true = same_poll (asking r p)
+asked_by p r true = same_poll _
 asked_by p r false = same_poll p
 
 answered_by : (p : Poll) (b : Bool)
@@ -141,22 +141,21 @@ answered_by : (p : Poll) (b : Bool)
       waiting = cond b [] p.waiting;
     }
     ≡ cond b (answered p) p
-answered_by p true = same_poll (answered p)
+answered_by p true = same_poll _
 answered_by p false = same_poll p
 
 parts_are : (n : ℕ) (p : Poll) (r : Record) → parts_after n p r ≡ poll_after n p r
-parts_are n p (PollOpened number au nonce inner tick limits kind) =
-    opening_by p (record { au = au; nonce = nonce; inner = inner; limits = limits; kind = kind }) (eqb number n)
-parts_are n p (VoteIn number voter hashes) = vote_by p (record { voter = voter; hashes = hashes }) (eqb number n)
-parts_are n p (Shut number) = shut_by p (eqb number n)
-parts_are n p (Asked number block voter) = asked_by p (record { block = block; voter = voter }) (eqb number n)
-parts_are n p (RepairBad number block voter) = answered_by p (eqb number n)
-parts_are n p (Replaced number au block bytes) = answered_by p (eqb number n)
-parts_are n p (Closed number outcome tick) = closed_by p (eqb number n)
+parts_are n p (PollOpened number au nonce inner tick limits kind) = opening_by p _ _
+parts_are n p (VoteIn number voter hashes) = vote_by p _ _
+parts_are n p (Shut number) = shut_by p _
+parts_are n p (Asked number block voter) = asked_by p _ _
+parts_are n p (RepairBad number block voter) = answered_by p _
+parts_are n p (Replaced number au block bytes) = answered_by p _
+parts_are n p (Closed number outcome tick) = closed_by p _
 parts_are n p r = same_poll p
 
 pub poll_more : (n : ℕ) (js : List Record) (r : Record) → poll_of n (js ++ r ∷ []) ≡ poll_after n (poll_of n js) r
-poll_more n js r = parts_more n js r ∙ parts_are n (poll_of n js) r
+poll_more n js r = parts_more n js r ∙ parts_are n _ r
 
 -- What holds of each poll, whose AU has these contents.
 

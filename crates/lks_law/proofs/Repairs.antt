@@ -1,21 +1,20 @@
 -- What an answer to a request keeps, and the evidence for a block that it replaces.
 use Rattle.std.proofs.Common.{◌≡◌, ◌≢◌, ◌≤◌, ◌∙◌, ap, sym, subst, ℕ, Bool, true, false, cond, eqb, List, [], ◌∷◌}
-use Rattle.std.proofs.Common.{◌++◌, length, refl}
+use Rattle.std.proofs.Common.{◌++◌, refl}
 use Rattle.std.specs.Prelude.{Option, Some, None, slice_set}
 use Rattle.std.proofs.lemmas.Bool.{and_parts, cond_both, eqb-true, eqb-false, ne_eqb}
 use Rattle.std.proofs.lemmas.List.{length-set}
 use Rattle.std.proofs.lemmas.List.Kept.{AllPairs-filter}
-use Rattle.lks_base.specs.Checking.{has_member}
 use Rattle.lks_base.specs.declared.records.Record.{Record}
 use Rattle.lks_base.specs.declared.records.Record.TheVariants as records
 use Rattle.lks_law.specs.Journal.{Opening, Request, contents_of, opening_of, unanswered_request}
 use Rattle.lks_law.specs.Polls.{Station, ObeyQuorumRule, limits_in, limits_of, ballot_of, inner_votes, said_at}
 use Rattle.lks_law.specs.Polls.{is_win, restores}
-use Rattle.lks_law.specs.Reaction.{for_opening, is_request, may_repair, takes_repair, on_repair, given_up, on_give_up}
+use Rattle.lks_law.specs.Reaction.{is_request, may_repair, on_repair, given_up, on_give_up}
 use Rattle.lks_law.specs.Safe.{Evidence}
 use Rattle.lks_law.proofs.Grown.{contents_more, replaced_if}
 use Rattle.lks_law.proofs.Kept.{Kept, AllGood, kept_more, rest_after, evidence_more, plain_bad}
-use Rattle.lks_law.proofs.PollStates.{Good, Poll, poll_of, poll_after, poll_more, copies_in, answered, if_own}
+use Rattle.lks_law.proofs.PollStates.{Good, Poll, poll_of, poll_more, answered, if_own}
 use Rattle.lks_law.proofs.PollStates.{good_answered, good_copies}
 use Rattle.lks_law.proofs.Rows.{KeptBy, kept_nothing, kept_if, kept_opening}
 use Rattle.lks_tally.specs.declared.ballots.At.{At}
@@ -31,12 +30,12 @@ record Waits (journal : List Record) (n b : ℕ) : Type 0 where
 
 request_is : (b v : ℕ) (q : Option Request) → is_request b v q ≡ true → (r : Request) × (q ≡ Some r) × (r.block ≡ b)
 request_is b v None e = absurd cc
-request_is b v (Some r) e = (r, refl, eqb-true r.block b (and_parts (eqb r.block b) (eqb r.voter v) e).0)
+request_is b v (Some r) e = (r, refl, eqb-true r.block b (and_parts _ _ e).0)
 
 waits : (journal : List Record) (from n b : ℕ) → may_repair journal from n b ≡ true → Waits journal n b
 unfolding may_repair
 waits journal from n b may =
-    let found = request_is b from (unanswered_request n journal) may in
+    let found = request_is b from _ may in
     record { request = found.0; unanswered_is = found.1; block = found.2 }
 
 win_is : (a : At) → is_win a ≡ true → a ≡ at.Win
@@ -62,25 +61,22 @@ evidence_for own js n b bytes o kept opened waits rule win =
       lawful = (kept.rest.lawful rule).opened n o opened;
       ended = has.0;
       distinct =
-          AllPairs-filter (λ v w. v.voter ≢ w.voter) (λ v. has_member o.inner v.voter) (poll_of n js).votes
-          good.distinct;
+          AllPairs-filter (λ v w. v.voter ≢ w.voter) _ (poll_of n js).votes good.distinct;
       quorum = has.1;
       few_for_old =
-          subst (λ k. for_at (ballot_of own n o (length copy)) votes copy k ≤ limits.minority) waits.block
-          (loss_at limits.minority (ballot_of own n o (length copy)) votes copy waits.request.block
+          subst (λ k. for_at _ votes copy k ≤ limits.minority) waits.block
+          (loss_at limits.minority _ votes copy waits.request.block
           (good.lost o waits.request opened waits.unanswered_is)).0;
       few_against_new =
           subst (λ count. against_at (ballot_of own n o count) votes (slice_set copy b bytes) b ≤ limits.minority)
-          (length-set copy b bytes)
-          (win_at limits.minority (ballot_of own n o (length (slice_set copy b bytes))) votes
-          (slice_set copy b bytes) b (win_is _ win));
+          (length-set copy b bytes) (win_at limits.minority _ votes _ b (win_is _ win));
     }
 
 -- the copy of another AU stays
 other_copy : (js : List Record) (n au b other : ℕ) (bytes : List ℕ) → (au ≡ other → ⊥)
     → contents_of other (js ++ records.Replaced n au b bytes ∷ []) ≡ contents_of other js
 other_copy js n au b other bytes apart =
-    contents_more other js (records.Replaced n au b bytes) refl
+    contents_more other js _ refl
     ∙ ap (λ t. replaced_if (contents_of other js) (cond t (Some (record { block = b; bytes = bytes })) None))
     (ne_eqb au other apart)
 
@@ -90,10 +86,10 @@ good_replaced : (own : Station) (js : List Record) (n b : ℕ) (bytes : List ℕ
     → AllGood own (js ++ records.Replaced n o.au b bytes ∷ [])
 good_replaced own js n b bytes o kept opened waits k =
     let after = js ++ records.Replaced n o.au b bytes ∷ [] in
-    subst (Good own k (copies_in after)) (sym (poll_more k js (records.Replaced n o.au b bytes)))
-    (good_copies own k (copies_in js) (copies_in after) (poll_after k (poll_of k js) (records.Replaced n o.au b bytes))
-    (if_own own k (copies_in js) n (poll_of k js) (answered (poll_of k js)) (kept.good k) (λ same.
-    good_answered own k (copies_in js) o (poll_of k js) (kept.good k)
+    subst (Good own k _) (sym (poll_more k js _))
+    (good_copies own k _ _ _
+    (if_own own k _ n _ _ (kept.good k) (λ same.
+    good_answered own k _ o _ (kept.good k)
     (subst (λ m. opening_of m js ≡ Some o) same opened)))
     (by_poll (eqb n k) refl))
   where
@@ -103,8 +99,7 @@ good_replaced own js n b bytes o kept opened waits k =
         → contents_of x.au (js ++ records.Replaced n o.au b bytes ∷ []) ≡ contents_of x.au js
     by_poll true e x r is asked = absurd cc
     by_poll false e x r is asked =
-        other_copy js n o.au b x.au bytes (λ same.
-        eqb-false n k e
+        other_copy js n o.au b x.au bytes (λ same. eqb-false n k e
         (kept.rest.alone n k o x opened is ((kept.good n).runs waits.request waits.unanswered_is).0
         ((kept.good k).runs r asked).0 same))
 
@@ -114,8 +109,8 @@ kept_replaced : (own : Station) (js : List Record) (n b : ℕ) (bytes : List ℕ
 kept_replaced own js n b bytes o kept opened waits win =
     record {
       good = good_replaced own js n b bytes o kept opened waits;
-      rest = rest_after own js (records.Replaced n o.au b bytes) (λ m. refl) refl tt
-          (λ rule. evidence_more own js (records.Replaced n o.au b bytes) (kept.rest.evidence rule) (λ x is.
+      rest = rest_after own js _ (λ m. refl) refl tt
+          (λ rule. evidence_more own js _ (kept.rest.evidence rule) (λ x is.
           let same : record { number = n; au = o.au; block = b; bytes = bytes } ≡ x = cc in
           subst (Evidence own.rules own.id js) same (evidence_for own js n b bytes o kept opened waits rule win)))
           kept.rest;
@@ -124,19 +119,14 @@ kept_replaced own js n b bytes o kept opened waits win =
 kept_bad : (own : Station) (js : List Record) (from m b : ℕ) (o : Opening) → Kept own js → opening_of m js ≡ Some o
     → Kept own (js ++ records.RepairBad m b from ∷ [])
 kept_bad own js from m b o kept opened =
-    kept_more own js (records.RepairBad m b from) (plain_bad m b from) kept (λ n.
-    if_own own n (copies_in js) m (poll_of n js) _ (kept.good n) (λ same.
-    good_answered own n (copies_in js) o (poll_of n js) (kept.good n)
-    (subst (λ k. opening_of k js ≡ Some o) same opened)))
+    kept_more own js _ (plain_bad m b from) kept (λ n. if_own own n _ m _ _ (kept.good n) (λ same.
+    good_answered own n _ o _ (kept.good n) (subst (λ k. opening_of k js ≡ Some o) same opened)))
 
 pub kept_on_repair : (own : Station) (js : List Record) (from n b : ℕ) (bytes : List ℕ) → Kept own js
     → KeptBy own js (on_repair own js from n b bytes)
 unfolding on_repair
 kept_on_repair own js from n b bytes kept =
-    kept_if own js (may_repair js from n b) (for_opening (opening_of n js) (takes_repair own js from n b bytes))
-    kept (λ may.
-    kept_opening own js (opening_of n js) (takes_repair own js from n b bytes) kept (λ o opened.
-    cond_both (restores own n o b bytes js) _ _ (KeptBy own js)
+    kept_if own js _ _ kept (λ may. kept_opening own js _ _ kept (λ o opened. cond_both _ _ _ (KeptBy own js)
     (λ win. kept_replaced own js n b bytes o kept opened (waits js from n b may) win)
     (λ lost. kept_bad own js from n b o kept opened)))
 

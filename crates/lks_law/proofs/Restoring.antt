@@ -9,7 +9,7 @@ use Rattle.std.proofs.lemmas.List.Sums.{sum_by-cons}
 use Rattle.lks_base.specs.Kinds.{is_second}
 use Rattle.lks_base.specs.declared.names.PollName.{PollName}
 use Rattle.lks_base.specs.declared.records.Record.{Record}
-use Rattle.lks_hash.specs.Running.{running, hashes_of}
+use Rattle.lks_hash.specs.Running.{hashes_of}
 use Rattle.lks_hash.proofs.RunningLaws.{hash_at as hash_at_own}
 use Rattle.lks_law.proofs.Linked.{Each}
 use Rattle.lks_law.specs.Snapshots.{Journals, named_version, held_if, holders, Collision, Collides}
@@ -33,8 +33,8 @@ pub filter_few : (h a : Vote → Bool) (vs : List Vote) → Each (λ v. h v ≡ 
 filter_few h a [] each = omega arith
 filter_few h a (v ∷ vs) each =
     let rest = filter_few h a vs each.1 in
-    let head = filter_head (h v) v (filter h vs) in
-    let step : count_by a (v ∷ vs) ≡ cond (a v) 1 0 + count_by a vs = sum_by-cons (λ x. cond (a x) 1 0) v vs in
+    let head = filter_head (h v) v _ in
+    let step : count_by a (v ∷ vs) ≡ cond (a v) 1 0 + count_by a vs = sum_by-cons _ v vs in
     by_tests (h v) (a v) each.0 rest head step
   where
     by_tests : (x y : Bool) → (x ≡ true → y ≡ true) → length (filter h vs) ≤ count_by a vs
@@ -56,8 +56,7 @@ both_pass : (P : Vote → Type 0) (h a : Vote → Bool) (vs : List Vote) → Eac
     → Both P h a ⊎ (length (filter h vs) + count_by a vs ≤ length vs)
 both_pass P h a [] each = inr (omega arith)
 both_pass P h a (v ∷ vs) each =
-    by_tests (h v) (a v) refl refl (both_pass P h a vs each.1) (filter_head (h v) v (filter h vs))
-    (sum_by-cons (λ x. cond (a x) 1 0) v vs)
+    by_tests (h v) (a v) refl refl (both_pass P h a vs each.1) (filter_head (h v) v _) (sum_by-cons _ v vs)
   where
     by_tests : (x y : Bool) → h v ≡ x → a v ≡ y → Both P h a ⊎ (length (filter h vs) + count_by a vs ≤ length vs)
         → length (filter h (v ∷ vs)) ≡ cond x 1 0 + length (filter h vs)
@@ -75,8 +74,8 @@ each_there : (vs : List Vote) → Each (λ v. list_any (λ (u : Vote). eqb u.vot
 each_there [] = tt
 each_there (v ∷ vs) = (
   ap (λ b. b || list_any (λ (u : Vote). eqb u.voter v.voter) vs) (eq-eqb v.voter v.voter refl),
-  each_map (λ w. list_any (λ (u : Vote). eqb u.voter w.voter) vs ≡ true)
-      (λ w. list_any (λ (u : Vote). eqb u.voter w.voter) (v ∷ vs) ≡ true) vs
+  each_map _
+      _ vs
       (λ w e. either (eqb v.voter w.voter) _ e) (each_there vs),
 )
   where
@@ -110,10 +109,7 @@ restores_or_collides : (q : Ballot) (votes : List Vote) (new good : List (List �
     → against_at q votes new b ≤ minority → minority < length (filter held votes)
     → (take (b + 1) new ≡ take (b + 1) good) ⊎ CollidesIn q new b good Names votes held
 restores_or_collides q votes new good b minority Names held inside count each few many =
-    elim (both_pass
-    (λ v. (held v ≡ true → HeldBy q b good Names v)
-    × (list_any (λ (u : Vote). eqb u.voter v.voter) votes ≡ true)) held (agrees q new b) votes
-    (each_both (λ v. held v ≡ true → HeldBy q b good Names v) _ votes each (each_there votes))) [
+    elim (both_pass _ held _ votes (each_both _ _ votes each (each_there votes))) [
       | inr less ↦ absurd (omega (arith, less, few, many))
       | inl both ↦ by_vote both.vote both.held (both.is.0 both.held) both.is.1 both.agreed
     ]
@@ -139,11 +135,11 @@ restores_or_collides q votes new good b minority Names held inside count each fe
         let short_new : b + 1 ≤ length new = omega (arith, inside) in
         let his = ap (λ hs. slice_get hs b) x.hashes ∙ hash_at_own second key x.version b deep in
         let mine = agrees_hash q new b v agreed in
-        let equal = some_is (slice_get v.hashes b) (running second key (take (b + 1) new))
-        (running second key (take (b + 1) x.version)) mine his in
+        let equal = some_is _ _
+        _ mine his in
         by_hashes v holds x there
-        (same_or_collide second key (take (b + 1) new) (take (b + 1) x.version)
-        (length-take-le (b + 1) new short_new ∙ sym (length-take-le (b + 1) x.version short)) equal)
+        (same_or_collide second key _ _
+        (length-take-le _ new short_new ∙ sym (length-take-le _ x.version short)) equal)
 
 -- Of known journals.
 
@@ -161,8 +157,7 @@ pub restored : (journals : Journals) (q : Ballot) (votes : List Vote) (new good 
     → (take (b + 1) new ≡ take (b + 1) good) ⊎ Collides journals q new b votes
 unfolding holders
 restored journals q votes new good b minority inside count each few many =
-    elim (restores_or_collides q votes new good b minority (Names journals q.poll)
-    (λ v. held_if q.poll good b (journals v.voter)) inside count each few many) [
+    elim (restores_or_collides q votes new good b minority _ _ inside count each few many) [
       | inl same ↦ inl same
       | inr found ↦ inr (record {
         voter = found.vote.voter;

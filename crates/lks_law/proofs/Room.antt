@@ -1,13 +1,13 @@
 -- A journal that is short enough leaves room for a record more, so each of its records fits the state before it.
 use Rattle.std.proofs.Common.{◌≡◌, ◌≤◌, ◌<◌, ◌+◌, ◌∙◌, inl, inr, ap, sym, subst, ℕ, suc, Bool, true, false, cond, eqb}
 use Rattle.std.proofs.Common.{ltb, List, [], ◌∷◌, ◌++◌, length, refl, arith, length-append}
-use Rattle.std.specs.Prelude.{Option, Some, None, ◌*◌, is_some, unwrap_or, map, find, slice_get, ◌&&◌, nat_le, All}
+use Rattle.std.specs.Prelude.{Option, Some, None, is_some, unwrap_or, map, find, slice_get, ◌&&◌, nat_le, All}
 use Rattle.std.specs.List.{list_all, filter_map, cons_option}
 use Rattle.std.proofs.lemmas.Bool.{and_from, leb-true, lt-ltb}
 use Rattle.std.proofs.lemmas.List.Elements.{All-nil, All-cons, All-append, All-head, All-tail, All-weaker}
 use Rattle.lks_base.proofs.PlanBounds.{good_rules, sound_copy}
 use Rattle.lks_base.proofs.PlanLaws.{no_first, stands}
-use Rattle.lks_base.specs.Checking.{plan_fault, is_within, are_bounded}
+use Rattle.lks_base.specs.Checking.{plan_fault, are_bounded}
 use Rattle.lks_base.specs.declared.limits.TheConstants.{MOST_CIRCLE, MOST_REPAIRS, MOST_TICKS}
 use Rattle.lks_base.specs.declared.names.Outcome.TheVariants.{Agreed, Inquorate, Split, NoSupplier}
 use Rattle.lks_base.specs.declared.plans.AuPlan.{AuPlan}
@@ -20,15 +20,15 @@ use Rattle.lks_base.specs.declared.records.Record.{Record}
 use Rattle.lks_base.specs.declared.records.Record.TheVariants as records
 use Rattle.lks_law.specs.Facts.{Heard, unnumbered, AddsFor, GoesBy, IsJournalOf}
 use Rattle.lks_law.specs.Firsts.{changed_first}
-use Rattle.lks_law.specs.Fitting.{Fits, AreFitting, IsSound, has_mark_left, marks_left, has_room, most_numbered}
+use Rattle.lks_law.specs.Fitting.{Fits, AreFitting, IsSound, has_mark_left, has_room, most_numbered}
 use Rattle.lks_law.specs.Journal.{is_opening, openings}
 use Rattle.lks_law.specs.Reaction.{no_effect, may_open, opens_poll, on_open}
 use Rattle.lks_law.specs.Polls.{Station}
-use Rattle.lks_law.specs.State.{Poll, Copy, State, copy_at, poll_at, deposited_copy, opened_at, replaced_in}
-use Rattle.lks_law.specs.State.{agreed_at, agreed_on, noted_overdue, copies_after, after, after_all, blank, state_of}
+use Rattle.lks_law.specs.State.{Poll, Copy, State, copy_at, poll_at, deposited_copy}
+use Rattle.lks_law.specs.State.{agreed_on, noted_overdue, copies_after, after, after_all, blank, state_of}
 use Rattle.lks_law.specs.Table.{react_on, reaction}
 use Rattle.lks_law.specs.Taking.{Mark, mark_at, mark_put, marked_received, marked_given}
-use Rattle.lks_law.specs.World.{station_of, deposit_for, deposits, is_honest_at, honest_peer}
+use Rattle.lks_law.specs.World.{station_of, deposit_for, deposits, honest_peer}
 use Rattle.lks_law.specs.Written.{AreWritten}
 use Rattle.lks_law.proofs.Fitting.{sound_after, reaction_fits}
 use Rattle.lks_law.proofs.Starts.{IsSoundCopy}
@@ -59,20 +59,19 @@ changed_weaker P Q test f (x ∷ xs) still new all =
   where
     here : (b : Bool) → All Q (changed_first test f xs) → All Q (cond b (f x ∷ xs) (x ∷ changed_first test f xs))
     here true rest = All-cons Q (f x) xs (new x (All-head P x xs all)) (All-weaker P Q still xs (All-tail P x xs all))
-    here false rest = All-cons Q x (changed_first test f xs) (still x (All-head P x xs all)) rest
+    here false rest = All-cons Q x _ (still x (All-head P x xs all)) rest
 
 module _ (n : ℕ) where
   later_version : (c : Copy) → HasVersions n c → HasVersions (n + 1) c
   later_version c low = omega arith
 
   versions_stay : (cs : List Copy) → All (HasVersions n) cs → All (HasVersions (n + 1)) cs
-  versions_stay cs all = All-weaker (HasVersions n) (HasVersions (n + 1)) later_version cs all
+  versions_stay cs all = All-weaker _ _ later_version cs all
 
   versions_change : (au : ℕ) (f : Copy → Copy) (cs : List Copy)
       → ((c : Copy) → HasVersions n c → HasVersions (n + 1) (f c)) → All (HasVersions n) cs
       → All (HasVersions (n + 1)) (changed_first (λ (c : Copy). eqb c.au au) f cs)
-  versions_change au f cs new all =
-      changed_weaker (HasVersions n) (HasVersions (n + 1)) (λ (c : Copy). eqb c.au au) f cs later_version new all
+  versions_change au f cs new all = changed_weaker _ _ _ f cs later_version new all
 
   versions_after : (ps : List Poll) (r : Record) (cs : List Copy) → All (HasVersions n) cs
       → All (HasVersions (n + 1)) (copies_after ps r cs)
@@ -81,18 +80,17 @@ module _ (n : ℕ) where
       here : (o : Option Copy) → All (HasVersions (n + 1)) (cond (is_some o) cs (cs ++ deposited_copy au blocks ∷ []))
       here (Some c) = versions_stay cs all
       here None =
-          All-append (HasVersions (n + 1)) cs (deposited_copy au blocks ∷ []) (versions_stay cs all)
-          (All-cons (HasVersions (n + 1)) (deposited_copy au blocks) [] (omega arith)
-          (All-nil (HasVersions (n + 1))))
+          All-append (HasVersions _) cs _ (versions_stay cs all) (All-cons (HasVersions (n + 1)) _ [] (omega arith)
+          (All-nil _))
   versions_after ps (records.PollOpened number au nonce inner tick limits kind) cs all =
-      versions_change au (opened_at tick) cs (λ c low. omega arith) all
+      versions_change au _ cs (λ c low. omega arith) all
   versions_after ps (records.Replaced number au block bytes) cs all =
-      versions_change au (replaced_in block bytes) cs (λ c low. omega arith) all
+      versions_change au _ cs (λ c low. omega arith) all
   versions_after ps (records.Closed number Agreed tick) cs all = here (poll_at number ps)
     where
       here : (o : Option Poll) → All (HasVersions (n + 1)) (agreed_on o tick cs)
       here None = versions_stay cs all
-      here (Some p) = versions_change p.opening.au (agreed_at tick) cs (λ c low. omega arith) all
+      here (Some p) = versions_change p.opening.au _ cs (λ c low. omega arith) all
   versions_after ps (records.Closed number Inquorate tick) cs all = versions_stay cs all
   versions_after ps (records.Closed number (Split block) tick) cs all = versions_stay cs all
   versions_after ps (records.Closed number (NoSupplier block) tick) cs all = versions_stay cs all
@@ -103,7 +101,7 @@ module _ (n : ℕ) where
   later_marks m low = let one = low.0 in let two = low.1 in (omega arith, omega arith)
 
   marks_stay : (ms : List Mark) → All (HasMarks n) ms → All (HasMarks (n + 1)) ms
-  marks_stay ms all = All-weaker (HasMarks n) (HasMarks (n + 1)) later_marks ms all
+  marks_stay ms all = All-weaker _ _ later_marks ms all
 
   marks_at : (f : ℕ) (ms : List Mark) → All (HasMarks n) ms → HasMarks n (mark_at f ms)
   marks_at f [] all = (omega arith, omega arith)
@@ -118,25 +116,24 @@ module _ (n : ℕ) where
 
   marks_put : (m : Mark) (ms : List Mark) → HasMarks (n + 1) m → All (HasMarks n) ms
       → All (HasMarks (n + 1)) (mark_put m ms)
-  marks_put m [] low all = All-cons (HasMarks (n + 1)) m [] low (All-nil (HasMarks (n + 1)))
+  marks_put m [] low all = All-cons _ m [] low (All-nil (HasMarks (n + 1)))
   marks_put m (x ∷ xs) low all = here (eqb x.peer m.peer) (marks_put m xs low (All-tail (HasMarks n) x xs all))
     where
       here : (b : Bool) → All (HasMarks (n + 1)) (mark_put m xs)
           → All (HasMarks (n + 1)) (cond b (m ∷ xs) (x ∷ mark_put m xs))
-      here true rest = All-cons (HasMarks (n + 1)) m xs low (marks_stay xs (All-tail (HasMarks n) x xs all))
-      here false rest =
-          All-cons (HasMarks (n + 1)) x (mark_put m xs) (later_marks x (All-head (HasMarks n) x xs all)) rest
+      here true rest = All-cons (HasMarks _) m xs low (marks_stay xs (All-tail (HasMarks n) x xs all))
+      here false rest = All-cons (HasMarks _) x _ (later_marks x (All-head (HasMarks n) x xs all)) rest
 
   received_more : (f : ℕ) (ms : List Mark) → All (HasMarks n) ms → All (HasMarks (n + 1)) (marked_received f ms)
   received_more f ms all =
       let low = marks_at f ms all in let one = low.0 in let two = low.1 in
-      marks_put (record (mark_at f ms) { received = (mark_at f ms).received + 1 }) ms (omega arith, omega arith)
+      marks_put _ ms (omega arith, omega arith)
       all
 
   given_more : (f : ℕ) (ms : List Mark) → All (HasMarks n) ms → All (HasMarks (n + 1)) (marked_given f ms)
   given_more f ms all =
       let low = marks_at f ms all in let one = low.0 in let two = low.1 in
-      marks_put (record (mark_at f ms) { given = (mark_at f ms).given + 1 }) ms (omega arith, omega arith) all
+      marks_put _ ms (omega arith, omega arith) all
 
   marks_after : (own : Station) (s : State) (r : Record) → All (HasMarks n) s.voter.marks
       → All (HasMarks (n + 1)) (after own s r).voter.marks
@@ -161,9 +158,7 @@ module _ (n : ℕ) where
 
 room_in : (n : ℕ) (s : State) → n < most_numbered → HasAtMost n s → has_room s ≡ true
 room_in n s few most =
-    and_from (ltb s.openings most_numbered && list_all (λ (c : Copy). ltb c.version most_numbered) s.copies)
-    (marks_left s.voter)
-    (and_from (ltb s.openings most_numbered) (list_all (λ (c : Copy). ltb c.version most_numbered) s.copies)
+    and_from _ _ (and_from _ _
     (lt-ltb s.openings most_numbered (let low = most.openings in omega arith))
     (by_copies s.copies most.versions)) (by_marks s.voter.marks most.marks)
   where
@@ -171,7 +166,7 @@ room_in n s few most =
         → list_all (λ (c : Copy). ltb c.version most_numbered) cs ≡ true
     by_copies [] all = refl
     by_copies (c ∷ cs) all =
-        and_from (ltb c.version most_numbered) (list_all (λ (c : Copy). ltb c.version most_numbered) cs)
+        and_from _ _
         (lt-ltb c.version most_numbered (let low = All-head (HasVersions n) c cs all in omega (arith, low, few)))
         (by_copies cs (All-tail (HasVersions n) c cs all))
 
@@ -181,8 +176,8 @@ room_in n s few most =
         let low = All-head (HasMarks n) m ms all in
         let one = low.0 in
         let two = low.1 in
-        and_from (has_mark_left m) (list_all has_mark_left ms)
-        (and_from (ltb m.received most_numbered) (ltb m.given most_numbered)
+        and_from _ _
+        (and_from _ _
         (lt-ltb m.received most_numbered (omega (arith, one, few)))
         (lt-ltb m.given most_numbered (omega (arith, two, few))))
         (by_marks ms (All-tail (HasMarks n) m ms all))
@@ -197,8 +192,7 @@ fine_all : (own : Station) (n : ℕ) (s : State) (rs : List Record) → AreFitti
     → IsFine (n + length rs) (after_all own s rs)
 fine_all own n s [] fits fine = subst (λ (k : ℕ). IsFine k s) (omega arith) fine
 fine_all own n s (r ∷ rs) fits fine =
-    subst (λ (k : ℕ). IsFine k (after_all own (after own s r) rs)) (omega arith)
-    (fine_all own (n + 1) (after own s r) rs fits.1
+    subst (λ (k : ℕ). IsFine k (after_all own (after own s r) rs)) (omega arith) (fine_all own (n + 1) _ rs fits.1
     (record { sound = sound_after own s r fits.0 fine.sound; most = most_more n own s r fine.most }))
 
 fit_more : (own : Station) (s : State) (xs ys : List Record) → AreFitting own s xs
@@ -207,22 +201,20 @@ fit_more own s [] ys first next = next
 fit_more own s (x ∷ xs) ys first next = (first.0, fit_more own (after own s x) xs ys first.1 next)
 
 blank_most : (own : Station) → HasAtMost 0 (blank own)
-blank_most own = record { openings = omega arith; versions = All-nil (HasVersions 0); marks = All-nil (HasMarks 0) }
+blank_most own = record { openings = omega arith; versions = All-nil _; marks = All-nil _ }
 
 most_all : (own : Station) (n : ℕ) (s : State) (rs : List Record) → HasAtMost n s
     → HasAtMost (n + length rs) (after_all own s rs)
 most_all own n s [] most = subst (λ (k : ℕ). HasAtMost k s) (omega arith) most
 most_all own n s (r ∷ rs) most =
     subst (λ (k : ℕ). HasAtMost k (after_all own (after own s r) rs)) (omega arith)
-    (most_all own (n + 1) (after own s r) rs (most_more n own s r most))
+    (most_all own (n + 1) _ rs (most_more n own s r most))
 
 -- a journal that is short enough leaves room
 pub room_left : (own : Station) (journal : List Record) → length journal < most_numbered
     → has_room (state_of own journal) ≡ true
 unfolding state_of
-room_left own journal few =
-    room_in (0 + length journal) (after_all own (blank own) journal) (omega (arith, few))
-    (most_all own 0 (blank own) journal (blank_most own))
+room_left own journal few = room_in _ _ (omega (arith, few)) (most_all own 0 _ journal (blank_most own))
 
 rules_fit : (own : Station) (before : List Record) (h : Heard) → AreWritten [] before
     → AreFitting own (after_all own (blank own) before)
@@ -280,19 +272,19 @@ module _ (own : Station) (js : List Record) (s : State) where
 goes_fitting : (own : Station) (aus : List AuPlan) (copies : List Holding) (heard : List Heard) (js : List Record)
     → own.rules.inner ≤ MOST_CIRCLE → IsSound (blank own) → AreFitting own (blank own) (deposits aus copies)
     → length js < most_numbered → GoesBy own (deposits aus copies) heard js → AreFitting own (blank own) js
-goes_fitting own aus copies [] js few sound begun short is = subst (AreFitting own (blank own)) (sym is) begun
+goes_fitting own aus copies [] js few sound begun short is = subst (AreFitting own _) (sym is) begun
 goes_fitting own aus copies (h ∷ hs) js few sound begun short (before, added, goes, heard, adds, is) =
     let count : length js ≡ length before + length added = ap length is ∙ length-append before added in
     let low : length before < most_numbered = omega (arith, count, short) in
-    let fits : AreFitting own (blank own) before = goes_fitting own aus copies hs before few sound begun low goes in
-    let state = after_all own (blank own) before in
-    let fine : IsFine (0 + length before) state = fine_all own 0 (blank own) before fits
+    let fits : AreFitting own _ before = goes_fitting own aus copies hs before few sound begun low goes in
+    let state = after_all own _ before in
+    let fine : IsFine _ state = fine_all own 0 _ before fits
     (record { sound = sound; most = blank_most own }) in
-    let room : has_room state ≡ true = room_in (0 + length before) state (omega (arith, low)) fine.most in
+    let room : has_room state ≡ true = room_in _ state (omega (arith, low)) fine.most in
     let by_rules = rules_fit own before h (written_by own aus copies hs before goes)
     (reaction_fits own state few room fine.sound h.tick h.input heard) in
-    subst (AreFitting own (blank own)) (sym is)
-    (fit_more own (blank own) before added fits (added_fits own before state h added adds by_rules))
+    subst (AreFitting own _) (sym is)
+    (fit_more own _ before added fits (added_fits own before state h added adds by_rules))
 
 -- Every good plan.
 
@@ -308,10 +300,10 @@ unfolding plan_fault are_bounded
 few_repairs plan good =
     let r = plan.rules in
     leb-true r.repairs MOST_REPAIRS
-    (fourth (is_within 1 MOST_CIRCLE r.inner) (nat_le 1 r.quorum) (nat_le r.outer MOST_CIRCLE)
-    (nat_le r.repairs MOST_REPAIRS) (nat_le r.pace MOST_TICKS)
-    (nat_le r.refractory MOST_TICKS) (nat_le r.overdue MOST_TICKS) (nat_le r.unknown_pct 100)
-    (nat_le r.debt_pct 100) (nat_le r.churn MOST_CIRCLE)
+    (fourth _ (nat_le 1 r.quorum) (nat_le r.outer MOST_CIRCLE)
+    _ (nat_le r.pace MOST_TICKS)
+    (nat_le r.refractory MOST_TICKS) _ (nat_le r.unknown_pct 100)
+    (nat_le r.debt_pct 100) _
     (stands _ _ (no_first _ _ good)))
 
 -- what a peer begins with
@@ -325,7 +317,7 @@ sound_blank plan p good =
       held = All-nil _;
       pinned = All-nil _;
       cast = All-nil _;
-      legal = (rules.1, rules.2, lt-ltb (2 * plan.rules.minority) plan.rules.quorum rules.3);
+      legal = (rules.1, rules.2, lt-ltb _ plan.rules.quorum rules.3);
       repairs = few_repairs plan good;
     }
 
@@ -353,7 +345,7 @@ module _ (own : Station) where
   unfolding deposits
   deposits_fit [] copies s none sound = tt
   deposits_fit (au ∷ aus) copies s none sound =
-      held_fits au copies (deposits aus copies) s none sound (λ t still. deposits_fit aus copies t still sound)
+      held_fits au copies _ s none sound (λ t still. deposits_fit aus copies t still sound)
 
 find_at : {X : Type 0} (test : X → Bool) (xs : List X) (x : X) → find test xs ≡ Some x
     → (i : ℕ) × (slice_get xs i ≡ Some x)
@@ -371,6 +363,6 @@ pub journal_fits : (plan : Plan) (id : ℕ) (p : PeerPlan) → plan_fault plan �
     → AreFitting (station_of plan p) (blank (station_of plan p)) journal
 journal_fits plan id p good found tick journal short is =
     let own = station_of plan p in
-    let at = find_at (is_honest_at id) plan.peers p found in
+    let at = find_at _ plan.peers p found in
     goes_fitting own plan.aus p.copies is.heard journal (good_rules plan good).0 (sound_blank plan p good)
-    (deposits_fit own plan.aus p.copies (blank own) refl (sound_copy plan good at.0 p at.1)) short is.made
+    (deposits_fit own plan.aus p.copies _ refl (sound_copy plan good at.0 p at.1)) short is.made

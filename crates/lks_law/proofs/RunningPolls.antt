@@ -69,7 +69,7 @@ pushed_is xs (Some x) = refl
 
 pub filter_map_more : {X : Type 0} (h : Record → Option X) (js : List Record) (r : Record)
     → filter_map h (js ++ r ∷ []) ≡ pushed (filter_map h js) (h r)
-filter_map_more h js r = filter_map-append h js (r ∷ []) ∙ pushed_is (filter_map h js) (h r)
+filter_map_more h js r = filter_map-append h js _ ∙ pushed_is _ (h r)
 
 abbrev first_outer : Option (List ℕ) → Option (List ℕ) → Option (List ℕ)
 first_outer before None = before
@@ -101,11 +101,11 @@ voted_if q vs (Some v) = cond (q v) (vs ++ v ∷ []) vs
 filter_votes : (q : Vote → Bool) (vs : List Vote) (v : Option Vote)
     → filter q (votes_after vs v) ≡ voted_if q (filter q vs) v
 filter_votes q vs None = refl
-filter_votes q vs (Some v) = filter-append q vs (v ∷ []) ∙ by_test (q v)
+filter_votes q vs (Some v) = filter-append q vs _ ∙ by_test (q v)
   where
     by_test : (b : Bool) → filter q vs ++ cond b (v ∷ []) [] ≡ cond b (filter q vs ++ v ∷ []) (filter q vs)
     by_test true = refl
-    by_test false = append-nil (filter q vs)
+    by_test false = append-nil _
 
 abbrev voter_after : List ℕ → Option Vote → List ℕ
 voter_after vs None = vs
@@ -144,11 +144,11 @@ parts_more n o js r = λ i. record {
   outer = circle_more n js r i;
   inner_votes =
       (ap (filter (λ v. has_member o.inner v.voter)) (votes_more n js r)
-      ∙ filter_votes (λ v. has_member o.inner v.voter) (votes n js) (vote_in n r)) i;
+      ∙ filter_votes (λ v. has_member o.inner v.voter) _ (vote_in n r)) i;
   outer_votes =
       (ap (filter (λ v. not (has_member o.inner v.voter))) (votes_more n js r)
-      ∙ filter_votes (λ v. not (has_member o.inner v.voter)) (votes n js) (vote_in n r)) i;
-  voters = (ap (map voter_of) (votes_more n js r) ∙ voters_push (votes n js) (vote_in n r)) i;
+      ∙ filter_votes (λ v. not (has_member o.inner v.voter)) _ (vote_in n r)) i;
+  voters = (ap (map voter_of) (votes_more n js r) ∙ voters_push (votes n js) _) i;
   shut = shut_more n js r i;
   asked = filter_map_more (asked_in n) js r i;
   request = unanswered_more n js r i;
@@ -196,7 +196,7 @@ vote_by : (p : Poll) (v : Vote) (b : Bool)
       outer_votes = voted_if (λ w. not (has_member p.opening.inner w.voter)) p.outer_votes (cond b (Some v) None);
       voters = voter_after p.voters (cond b (Some v) None);
     } ≡ cond b (voted_by v p) p
-vote_by p v true = vote_is p v (has_member p.opening.inner v.voter)
+vote_by p v true = vote_is p v _
 vote_by p v false = refl
 
 shut_by : (p : Poll) (b : Bool) → record p { shut = cond b true p.shut } ≡ cond b (shut_now p) p
@@ -214,19 +214,18 @@ answered_by p true = refl
 answered_by p false = refl
 
 parts_are : (r : Record) (p : Poll) → parts_after r p ≡ entry_after r p
-parts_are (Nominated number voter nominees) p =
-    nomination_by p (record { voter = voter; nominees = nominees }) (eqb number p.number)
-parts_are (OuterOpened number outer) p = outer_by p outer (eqb number p.number)
-parts_are (VoteIn number voter hashes) p = vote_by p (record { voter = voter; hashes = hashes }) (eqb number p.number)
-parts_are (Shut number) p = shut_by p (eqb number p.number)
-parts_are (Asked number block voter) p = asked_by p (record { block = block; voter = voter }) (eqb number p.number)
-parts_are (RepairBad number block voter) p = answered_by p (eqb number p.number)
-parts_are (Replaced number au block bytes) p = answered_by p (eqb number p.number)
+parts_are (Nominated number voter nominees) p = nomination_by p _ _
+parts_are (OuterOpened number outer) p = outer_by p outer _
+parts_are (VoteIn number voter hashes) p = vote_by p _ _
+parts_are (Shut number) p = shut_by p _
+parts_are (Asked number block voter) p = asked_by p _ _
+parts_are (RepairBad number block voter) p = answered_by p _
+parts_are (Replaced number au block bytes) p = answered_by p _
 parts_are r p = refl
 
 entry_more : (n : ℕ) (o : Opening) (js : List Record) (r : Record)
     → poll_as n o (js ++ r ∷ []) ≡ entry_after r (poll_as n o js)
-entry_more n o js r = parts_more n o js r ∙ parts_are r (poll_as n o js)
+entry_more n o js r = parts_more n o js r ∙ parts_are r _
 
 -- A poll that no record names.
 
@@ -236,7 +235,7 @@ from_right P none more js = go [] js none
   where
     go : (before rest : List Record) → P before → P (before ++ rest)
     go before [] p = subst P (sym (append-nil before)) p
-    go before (r ∷ rs) p = subst P (append_assoc before (r ∷ []) rs) (go (before ++ r ∷ []) rs (more before r p))
+    go before (r ∷ rs) p = subst P (append_assoc before _ rs) (go (before ++ r ∷ []) rs (more before r p))
 
 off : {X : Type 0} (b : Bool) (x y : X) → b ≡ false → cond b x y ≡ y
 off b x y e = ap (λ c. cond c x y) e
@@ -245,15 +244,13 @@ untouched : (n : ℕ) (r : Record) (p : Poll) → p.number ≡ n → is_of n r �
 untouched n r p is other = by_record r (subst (λ m. is_of m r ≡ false) (sym is) other)
   where
     by_record : (r : Record) → is_of p.number r ≡ false → entry_after r p ≡ p
-    by_record (Nominated number voter nominees) e = off (eqb number p.number) (nominated_by voter nominees p) p e
-    by_record (OuterOpened number outer) e = off (eqb number p.number) (widened_to outer p) p e
-    by_record (VoteIn number voter hashes) e =
-        off (eqb number p.number) (voted_by (record { voter = voter; hashes = hashes }) p) p e
-    by_record (Shut number) e = off (eqb number p.number) (shut_now p) p e
-    by_record (Asked number block voter) e =
-        off (eqb number p.number) (request_sent (record { block = block; voter = voter }) p) p e
-    by_record (RepairBad number block voter) e = off (eqb number p.number) (request_answered p) p e
-    by_record (Replaced number au block bytes) e = off (eqb number p.number) (request_answered p) p e
+    by_record (Nominated number voter nominees) e = off _ _ p e
+    by_record (OuterOpened number outer) e = off _ _ p e
+    by_record (VoteIn number voter hashes) e = off _ _ p e
+    by_record (Shut number) e = off _ _ p e
+    by_record (Asked number block voter) e = off _ _ p e
+    by_record (RepairBad number block voter) e = off _ _ p e
+    by_record (Replaced number au block bytes) e = off _ _ p e
     by_record r e = refl
 
 closes_not : (n : ℕ) (r : Record) → is_of n r ≡ false → closes n r ≡ false
@@ -261,17 +258,15 @@ closes_not n (Closed number outcome tick) e = e
 closes_not n r e = refl
 
 opens_not : (n : ℕ) (r : Record) → is_of n r ≡ false → opening_in n r ≡ None
-opens_not n (PollOpened number au nonce inner tick limits kind) e =
-    off (eqb number n) (Some (record { au = au; nonce = nonce; inner = inner; limits = limits; kind = kind })) None
-    e
+opens_not n (PollOpened number au nonce inner tick limits kind) e = off _ _ None e
 opens_not n r e = refl
 
 any_parts : (n : ℕ) (js : List Record) (r : Record) → list_any (is_of n) (js ++ r ∷ []) ≡ false
     → (list_any (is_of n) js ≡ false) × (is_of n r ≡ false)
 any_parts n js r e =
-    let parts = or_parts (list_any (is_of n) js) (list_any (is_of n) (r ∷ []))
-    (sym (list_any-append (is_of n) js (r ∷ [])) ∙ e) in
-    (parts.0, (or_parts (is_of n r) false parts.1).0)
+    let parts = or_parts _ _
+    (sym (list_any-append _ js _) ∙ e) in
+    (parts.0, (or_parts _ false parts.1).0)
 
 pub record Unnamed (n : ℕ) (js : List Record) : Type 0 where
   pub entry : (o : Opening) → poll_as n o js ≡ begun_poll n o
@@ -281,13 +276,13 @@ pub record Unnamed (n : ℕ) (js : List Record) : Type 0 where
 pub unnamed : (n : ℕ) (js : List Record) → list_any (is_of n) js ≡ false → Unnamed n js
 unfolding inner_votes outer_votes votes is_shut unanswered_request is_closed opening_of
 unnamed n js =
-    from_right (λ js. list_any (is_of n) js ≡ false → Unnamed n js)
+    from_right (λ js. list_any _ js ≡ false → Unnamed n js)
     (λ e. record { entry = λ o. refl; running = refl; unopened = refl }) (λ js r before e.
     let parts = any_parts n js r e in
     let was = before parts.0 in
     record {
-      entry = λ o. entry_more n o js r ∙ ap (entry_after r) (was.entry o) ∙ untouched n r (begun_poll n o) refl parts.1;
-      running = closed_more n js r ∙ off (closes n r) true (is_closed n js) (closes_not n r parts.1) ∙ was.running;
+      entry = λ o. entry_more n o js r ∙ ap (entry_after r) (was.entry o) ∙ untouched n r _ refl parts.1;
+      running = closed_more n js r ∙ off _ true _ (closes_not n r parts.1) ∙ was.running;
       unopened = opening_more n js r ∙ (λ i. first_opening (was.unopened i) (opens_not n r parts.1 i));
     }) js
 
@@ -295,9 +290,7 @@ unnamed n js =
 
 abbrev pub running_in : Rules → List Record → Record → Option Poll
 running_in rules js (PollOpened n au nonce inner tick limits kind) =
-    cond (is_closed n js) None
-    (Some
-    (poll_as n
+    cond (is_closed n js) None (Some (poll_as n
     (settled_opening rules (record { au = au; nonce = nonce; inner = inner; limits = limits; kind = kind }))
     js))
 running_in rules js _ = None
@@ -333,7 +326,7 @@ all_kept : (rules : Rules) (js : List Record) (r : Record) (xs : List Record)
 all_kept rules js r [] = refl
 all_kept rules js r (x ∷ xs) =
     (λ i. cons_option (one_kept rules js r x i) (all_kept rules js r xs i))
-    ∙ sym (first (running_in rules js x) (filter_map (running_in rules js) xs))
+    ∙ sym (first (running_in rules js x) (filter_map _ xs))
   where
     first : (o : Option Poll) (ps : List Poll)
         → filter_map (kept r) (cons_option o ps) ≡ cons_option (kept_from r o) (filter_map (kept r) ps)
@@ -368,8 +361,8 @@ absent : (n : ℕ) (f : Poll → Poll) (ps : List Poll) → poll_at n ps ≡ Non
     → map (λ p. cond (eqb n p.number) (f p) p) ps ≡ ps
 absent n f [] e = refl
 absent n f (p ∷ ps) e =
-    let parts = not_first p n ps (eqb p.number n) e in
-    λ i. off (eqb n p.number) (f p) p (eqb_swap n p.number ∙ parts.0) i ∷ absent n f ps parts.1 i
+    let parts = not_first p n ps _ e in
+    λ i. off _ (f p) p (eqb_swap n p.number ∙ parts.0) i ∷ absent n f ps parts.1 i
 
 -- each is found by its number
 pub found_at : (ps : List Poll) → AreApart ps → (k : ℕ) (p : Poll) → slice_get ps k ≡ Some p
@@ -406,14 +399,13 @@ absent_changed : (k n : ℕ) (f : Poll → Poll) (ps : List Poll) → ((p : Poll
     → poll_at k ps ≡ None → poll_at k (changed_poll n f ps) ≡ None
 absent_changed k n f [] same e = refl
 absent_changed k n f (p ∷ ps) same e =
-    let parts = not_first p k ps (eqb p.number k) e in
+    let parts = not_first p k ps _ e in
     by_test (eqb p.number n) parts.0 parts.1 (absent_changed k n f ps same parts.1)
   where
     by_test : (b : Bool) → eqb p.number k ≡ false → poll_at k ps ≡ None → poll_at k (changed_poll n f ps) ≡ None
         → poll_at k (cond b (f p ∷ ps) (p ∷ changed_poll n f ps)) ≡ None
-    by_test true other before after =
-        off (eqb (f p).number k) (Some (f p)) (poll_at k ps) (ap (λ m. eqb m k) (same p) ∙ other) ∙ before
-    by_test false other before after = off (eqb p.number k) (Some p) (poll_at k (changed_poll n f ps)) other ∙ after
+    by_test true other before after = off _ _ _ (ap (λ m. eqb m k) (same p) ∙ other) ∙ before
+    by_test false other before after = off _ _ _ other ∙ after
 
 apart_changed : (n : ℕ) (f : Poll → Poll) (ps : List Poll) → ((p : Poll) → (f p).number ≡ p.number) → AreApart ps
     → AreApart (changed_poll n f ps)
@@ -427,7 +419,7 @@ apart_changed n f (p ∷ ps) same apart = by_test (eqb p.number n) (apart_change
 all_stay : (n : ℕ) (ps : List Poll) → poll_at n ps ≡ None → filter (λ p. not (eqb n p.number)) ps ≡ ps
 all_stay n [] e = refl
 all_stay n (p ∷ ps) e =
-    let parts = not_first p n ps (eqb p.number n) e in
+    let parts = not_first p n ps _ e in
     ap (λ b. cond (not b) (p ∷ filter (λ p. not (eqb n p.number)) ps) (filter (λ p. not (eqb n p.number)) ps))
     (eqb_swap n p.number ∙ parts.0)
     ∙ ap (λ qs. p ∷ qs) (all_stay n ps parts.1)
@@ -447,13 +439,13 @@ one_gone n (p ∷ ps) apart =
 absent_without : (k n : ℕ) (ps : List Poll) → poll_at k ps ≡ None → poll_at k (without_poll n ps) ≡ None
 absent_without k n [] e = refl
 absent_without k n (p ∷ ps) e =
-    let parts = not_first p k ps (eqb p.number k) e in
+    let parts = not_first p k ps _ e in
     by_test (eqb p.number n) parts.0 parts.1 (absent_without k n ps parts.1)
   where
     by_test : (b : Bool) → eqb p.number k ≡ false → poll_at k ps ≡ None → poll_at k (without_poll n ps) ≡ None
         → poll_at k (cond b ps (p ∷ without_poll n ps)) ≡ None
     by_test true other before rest = before
-    by_test false other before rest = off (eqb p.number k) (Some p) (poll_at k (without_poll n ps)) other ∙ rest
+    by_test false other before rest = off _ _ _ other ∙ rest
 
 apart_without : (n : ℕ) (ps : List Poll) → AreApart ps → AreApart (without_poll n ps)
 apart_without n [] apart = tt
@@ -465,15 +457,15 @@ apart_without n (p ∷ ps) apart = by_test (eqb p.number n) (apart_without n ps 
 
 absent_push : (k : ℕ) (ps : List Poll) (p : Poll) → poll_at k ps ≡ None → eqb p.number k ≡ false
     → poll_at k (ps ++ p ∷ []) ≡ None
-absent_push k [] p e other = off (eqb p.number k) (Some p) None other
+absent_push k [] p e other = off _ _ None other
 absent_push k (x ∷ ps) p e other =
-    let parts = not_first x k ps (eqb x.number k) e in
-    off (eqb x.number k) (Some x) (poll_at k (ps ++ p ∷ [])) parts.0 ∙ absent_push k ps p parts.1 other
+    let parts = not_first x k ps _ e in
+    off _ _ _ parts.0 ∙ absent_push k ps p parts.1 other
 
 apart_push : (ps : List Poll) (p : Poll) → AreApart ps → poll_at p.number ps ≡ None → AreApart (ps ++ p ∷ [])
 apart_push [] p apart new = (refl, tt)
 apart_push (x ∷ ps) p apart new =
-    let parts = not_first x p.number ps (eqb x.number p.number) new in
+    let parts = not_first x p.number ps _ new in
     (absent_push x.number ps p apart.0 (eqb_swap p.number x.number ∙ parts.0), apart_push ps p apart.1 parts.1)
 
 same : (ps : List Poll) → filter_map (λ p. Some p) ps ≡ ps
@@ -505,33 +497,24 @@ last_is : (rules : Rules) (js : List Record) (r : Record) (ps : List Poll) → M
 last_is rules js (PollOpened n au nonce inner tick limits kind) ps e apart =
     let o : Opening = record { au = au; nonce = nonce; inner = inner; limits = limits; kind = kind } in
     λ i. same ps i ++ cons_option (new_entry rules js n tick o e i) []
-last_is rules js (Nominated number voter nominees) ps e apart =
-    append-nil _ ∙ mapped (entry_after (Nominated number voter nominees)) ps
-    ∙ only number (nominated_by voter nominees) ps apart
-last_is rules js (OuterOpened number outer) ps e apart =
-    append-nil _ ∙ mapped (entry_after (OuterOpened number outer)) ps ∙ only number (widened_to outer) ps apart
-last_is rules js (VoteIn number voter hashes) ps e apart =
-    append-nil _ ∙ mapped (entry_after (VoteIn number voter hashes)) ps
-    ∙ only number (voted_by (record { voter = voter; hashes = hashes })) ps apart
-last_is rules js (Shut number) ps e apart =
-    append-nil _ ∙ mapped (entry_after (Shut number)) ps ∙ only number shut_now ps apart
-last_is rules js (Asked number block voter) ps e apart =
-    append-nil _ ∙ mapped (entry_after (Asked number block voter)) ps
-    ∙ only number (request_sent (record { block = block; voter = voter })) ps apart
+last_is rules js (Nominated number voter nominees) ps e apart = append-nil _ ∙ mapped _ ps ∙ only number _ ps apart
+last_is rules js (OuterOpened number outer) ps e apart = append-nil _ ∙ mapped _ ps ∙ only number _ ps apart
+last_is rules js (VoteIn number voter hashes) ps e apart = append-nil _ ∙ mapped _ ps ∙ only number _ ps apart
+last_is rules js (Shut number) ps e apart = append-nil _ ∙ mapped _ ps ∙ only number shut_now ps apart
+last_is rules js (Asked number block voter) ps e apart = append-nil _ ∙ mapped _ ps ∙ only number _ ps apart
 last_is rules js (RepairBad number block voter) ps e apart =
-    append-nil _ ∙ mapped (entry_after (RepairBad number block voter)) ps ∙ only number request_answered ps apart
+    append-nil _ ∙ mapped _ ps ∙ only number request_answered ps apart
 last_is rules js (Replaced number au block bytes) ps e apart =
-    append-nil _ ∙ mapped (entry_after (Replaced number au block bytes)) ps ∙ only number request_answered ps apart
-last_is rules js (Closed number outcome tick) ps e apart =
-    append-nil _ ∙ passed (λ p. eqb number p.number) ps ∙ one_gone number ps apart
+    append-nil _ ∙ mapped _ ps ∙ only number request_answered ps apart
+last_is rules js (Closed number outcome tick) ps e apart = append-nil _ ∙ passed _ ps ∙ one_gone number ps apart
 last_is rules js r ps e apart = append-nil _ ∙ same ps
 
 pub polls_more : (rules : Rules) (js : List Record) (r : Record) → MayFollow js r → AreApart (polls_of rules js)
     → polls_of rules (js ++ r ∷ []) ≡ polls_after rules r (polls_of rules js)
 polls_more rules js r may apart =
-    filter_map-append (running_in rules (js ++ r ∷ [])) js (r ∷ [])
+    filter_map-append _ js _
     ∙ ap (λ ps. ps ++ cons_option (running_in rules (js ++ r ∷ []) r) []) (all_kept rules js r js)
-    ∙ last_is rules js r (polls_of rules js) may apart
+    ∙ last_is rules js r _ may apart
 
 -- One of them.
 
@@ -568,9 +551,7 @@ found_in : (rules : Rules) (n : ℕ) (js xs : List Record)
 unfolding opening_of
 found_in rules n js [] = refl
 found_in rules n js (PollOpened m au nonce inner tick limits kind ∷ xs) =
-    found rules n js m (record { au = au; nonce = nonce; inner = inner; limits = limits; kind = kind })
-    (opening_of n xs) (filter_map (running_in rules js) xs) (eqb m n) refl (is_closed m js) refl
-    (found_in rules n js xs)
+    found rules n js m _ _ _ _ refl _ refl (found_in rules n js xs)
 found_in rules n js (x ∷ xs) = found_in rules n js xs
 
 pub poll_found : (rules : Rules) (n : ℕ) (js : List Record)
@@ -590,24 +571,16 @@ voted_number v p = by_test (has_member p.opening.inner v.voter)
 pub apart_after : (rules : Rules) (js : List Record) (r : Record) → MayFollow js r → AreApart (polls_of rules js)
     → AreApart (polls_after rules r (polls_of rules js))
 apart_after rules js (PollOpened n au nonce inner tick limits kind) e apart =
-    apart_push (polls_of rules js)
-    (begun_poll n
-    (settled_opening rules (record { au = au; nonce = nonce; inner = inner; limits = limits; kind = kind })))
+    apart_push _ _
     apart (poll_found rules n js ∙ ap (λ o. running_by rules n js o (is_closed n js)) (unnamed n js e).unopened)
-apart_after rules js (Nominated number voter nominees) e apart =
-    apart_changed number (nominated_by voter nominees) (polls_of rules js) (λ p. refl) apart
-apart_after rules js (OuterOpened number outer) e apart =
-    apart_changed number (widened_to outer) (polls_of rules js) (λ p. refl) apart
-apart_after rules js (VoteIn number voter hashes) e apart =
-    apart_changed number (voted_by (record { voter = voter; hashes = hashes })) (polls_of rules js)
-    (voted_number (record { voter = voter; hashes = hashes })) apart
-apart_after rules js (Shut number) e apart = apart_changed number shut_now (polls_of rules js) (λ p. refl) apart
-apart_after rules js (Asked number block voter) e apart =
-    apart_changed number (request_sent (record { block = block; voter = voter })) (polls_of rules js) (λ p. refl)
-    apart
+apart_after rules js (Nominated number voter nominees) e apart = apart_changed number _ _ (λ p. refl) apart
+apart_after rules js (OuterOpened number outer) e apart = apart_changed number _ _ (λ p. refl) apart
+apart_after rules js (VoteIn number voter hashes) e apart = apart_changed number _ _ (voted_number _) apart
+apart_after rules js (Shut number) e apart = apart_changed number shut_now _ (λ p. refl) apart
+apart_after rules js (Asked number block voter) e apart = apart_changed number _ _ (λ p. refl) apart
 apart_after rules js (RepairBad number block voter) e apart =
-    apart_changed number request_answered (polls_of rules js) (λ p. refl) apart
+    apart_changed number request_answered _ (λ p. refl) apart
 apart_after rules js (Replaced number au block bytes) e apart =
-    apart_changed number request_answered (polls_of rules js) (λ p. refl) apart
-apart_after rules js (Closed number outcome tick) e apart = apart_without number (polls_of rules js) apart
+    apart_changed number request_answered _ (λ p. refl) apart
+apart_after rules js (Closed number outcome tick) e apart = apart_without number _ apart
 apart_after rules js r e apart = apart

@@ -14,7 +14,7 @@ use Rattle.lks_law.specs.Journal.{widens, is_widened, outer_of, nominees_in, nom
 use Rattle.lks_law.specs.Journal.{has_nominated, vote_in, is_vote_of, has_voted, asks, was_asked}
 use Rattle.lks_law.specs.Polls.{votes}
 use Rattle.lks_law.specs.Reacting.{is_recent}
-use Rattle.lks_law.specs.State.{settled_opening, Nomination, Poll}
+use Rattle.lks_law.specs.State.{Nomination, Poll}
 use Rattle.lks_law.proofs.HeldCopies.{opened_after, opened_from}
 use Rattle.lks_law.proofs.RunningPolls.{nomination_in, asked_in, circle_in, voter_of, poll_as, running_in, polls_of}
 use Rattle.lks_tally.specs.declared.ballots.Vote.{Vote}
@@ -41,37 +41,32 @@ if_number q false x = refl
 
 pub voted_is : (n v : ℕ) (js : List Record) → has_member (map voter_of (votes n js)) v ≡ has_voted n v js
 unfolding has_member votes has_voted
-voted_is n v js =
-    mapped (filter_map (vote_in n) js) ∙ any_in (vote_in n) (λ w. eqb w.voter v) (is_vote_of n v) by_record js
+voted_is n v js = mapped (filter_map _ js) ∙ any_in _ _ _ by_record js
   where
     mapped : (vs : List Vote) → list_any (λ i. eqb i v) (map voter_of vs) ≡ list_any (λ (w : Vote). eqb w.voter v) vs
     mapped [] = refl
     mapped (w ∷ vs) = ap (λ b. eqb w.voter v || b) (mapped vs)
 
     by_record : (r : Record) → test_of (λ (w : Vote). eqb w.voter v) (vote_in n r) ≡ is_vote_of n v r
-    by_record (VoteIn number voter hashes) =
-        if_number (λ (w : Vote). eqb w.voter v) (eqb number n) (record { voter = voter; hashes = hashes })
+    by_record (VoteIn number voter hashes) = if_number (λ (w : Vote). eqb w.voter v) _ _
     by_record r = refl
 
 pub nominated_is : (n v : ℕ) (js : List Record)
     → list_any (λ (x : Nomination). eqb x.voter v) (filter_map (nomination_in n) js) ≡ has_nominated n v js
 unfolding has_nominated
-nominated_is n v js = any_in (nomination_in n) (λ (x : Nomination). eqb x.voter v) (is_nominated_by n v) by_record js
+nominated_is n v js = any_in _ _ _ by_record js
   where
     by_record : (r : Record) → test_of (λ (x : Nomination). eqb x.voter v) (nomination_in n r) ≡ is_nominated_by n v r
-    by_record (Nominated number voter nominees) =
-        if_number (λ (x : Nomination). eqb x.voter v) (eqb number n) (record { voter = voter; nominees = nominees })
+    by_record (Nominated number voter nominees) = if_number (λ (x : Nomination). eqb x.voter v) _ _
     by_record r = refl
 
 pub asked_is : (n b v : ℕ) (js : List Record)
     → list_any (λ (x : Request). eqb x.block b && eqb x.voter v) (filter_map (asked_in n) js) ≡ was_asked n b v js
 unfolding was_asked
-asked_is n b v js = any_in (asked_in n) (λ (x : Request). eqb x.block b && eqb x.voter v) (asks n b v) by_record js
+asked_is n b v js = any_in _ _ _ by_record js
   where
     by_record : (r : Record) → test_of (λ (x : Request). eqb x.block b && eqb x.voter v) (asked_in n r) ≡ asks n b v r
-    by_record (Asked number block voter) =
-        if_number (λ (x : Request). eqb x.block b && eqb x.voter v) (eqb number n)
-        (record { block = block; voter = voter })
+    by_record (Asked number block voter) = if_number (λ (x : Request). eqb x.block b && eqb x.voter v) _ _
     by_record r = refl
 
 abbrev names : Option Nomination → Option (List ℕ)
@@ -83,7 +78,7 @@ pub nominees_are : (n : ℕ) (js : List Record)
 unfolding nominations
 nominees_are n [] = refl
 nominees_are n (r ∷ rs) =
-    first (nomination_in n r) (filter_map (nomination_in n) rs)
+    first (nomination_in n r) (filter_map _ rs)
     ∙ (λ i. cons_option (by_record r i) (nominees_are n rs i))
   where
     first : (o : Option Nomination) (xs : List Nomination)
@@ -123,7 +118,7 @@ unfolding outer_of
 outer_is n [] = refl
 outer_is n (r ∷ rs) =
     first (outer_in n r) (circle_in n rs)
-    ∙ ap (cond (is_some (outer_in n r)) (unwrap_or (outer_in n r) [])) (outer_is n rs)
+    ∙ ap (cond (is_some _) (unwrap_or (outer_in n r) [])) (outer_is n rs)
   where
     first : (o rest : Option (List ℕ))
         → unwrap_or (cond (is_some o) o rest) [] ≡ cond (is_some o) (unwrap_or o []) (unwrap_or rest [])
@@ -135,8 +130,7 @@ outer_is n (r ∷ rs) =
 pub running_is : (rules : Rules) (au : ℕ) (js : List Record)
     → list_any (λ (p : Poll). eqb p.opening.au au) (polls_of rules js) ≡ list_any (opens_running au js) js
 unfolding opens_running
-running_is rules au js =
-    any_in (running_in rules js) (λ (p : Poll). eqb p.opening.au au) (opens_running au js) by_record js
+running_is rules au js = any_in _ _ _ by_record js
   where
     by_tests : (c b : Bool) (p : Poll) → eqb p.opening.au au ≡ b
         → test_of (λ (p : Poll). eqb p.opening.au au) (cond c None (Some p)) ≡ (b && not c)
@@ -148,10 +142,7 @@ running_is rules au js =
     by_record : (r : Record)
         → test_of (λ (p : Poll). eqb p.opening.au au) (running_in rules js r) ≡ opens_running au js r
     by_record (PollOpened n a nonce inner tick limits kind) =
-        by_tests (is_closed n js) (eqb a au)
-        (poll_as n
-        (settled_opening rules
-        (record { au = a; nonce = nonce; inner = inner; limits = limits; kind = kind })) js) refl
+        by_tests (is_closed n js) (eqb a au) (poll_as n _ js) refl
     by_record r = refl
 
 counted_in : (h : Record → Option Poll) (test : Record → Bool) → ((r : Record) → is_some (h r) ≡ test r)
@@ -159,7 +150,7 @@ counted_in : (h : Record → Option Poll) (test : Record → Bool) → ((r : Rec
 counted_in h test same [] = refl
 counted_in h test same (r ∷ rs) =
     first (h r) (filter_map h rs) (count_by test rs) (counted_in h test same rs)
-    ∙ ap (λ b. cond b 1 0 + count_by test rs) (same r) ∙ sym (sum_by-cons (λ j. cond (test j) 1 0) r rs)
+    ∙ ap (λ b. cond b 1 0 + count_by test rs) (same r) ∙ sym (sum_by-cons _ r rs)
   where
     first : (o : Option Poll) (ps : List Poll) (k : ℕ) → length ps ≡ k
         → length (cons_option o ps) ≡ cond (is_some o) 1 0 + k
@@ -168,18 +159,14 @@ counted_in h test same (r ∷ rs) =
 
 pub count_is : (rules : Rules) (js : List Record) → length (polls_of rules js) ≡ count_by (opens_open js) js
 unfolding opens_open
-count_is rules js = counted_in (running_in rules js) (opens_open js) by_record js
+count_is rules js = counted_in _ _ by_record js
   where
     by_test : (c : Bool) (p : Poll) → is_some (cond c None (Some p)) ≡ not c
     by_test true p = refl
     by_test false p = refl
 
     by_record : (r : Record) → is_some (running_in rules js r) ≡ opens_open js r
-    by_record (PollOpened n a nonce inner tick limits kind) =
-        by_test (is_closed n js)
-        (poll_as n
-        (settled_opening rules (record { au = a; nonce = nonce; inner = inner; limits = limits; kind = kind }))
-        js)
+    by_record (PollOpened n a nonce inner tick limits kind) = by_test (is_closed n js) (poll_as n _ js)
     by_record r = refl
 
 -- The last opening.
@@ -203,11 +190,11 @@ later_is None t tick pace = refl
 later_is (Some b) t tick pace = by_test (ltb b t) refl
   where
     by_test : (c : Bool) → ltb b t ≡ c → ltb (tick - cond c t b) pace ≡ (ltb (tick - b) pace || ltb (tick - t) pace)
-    by_test true e = let low = ltb-true b t e in sooner (tick - t) (tick - b) pace (omega (arith, low))
+    by_test true e = let low = ltb-true b t e in sooner _ _ pace (omega (arith, low))
     by_test false e =
         let high = ltb-false b t e in
-        sooner (tick - b) (tick - t) pace (omega (arith, high))
-        ∙ or_swap (ltb (tick - t) pace) (ltb (tick - b) pace)
+        sooner _ _ pace (omega (arith, high))
+        ∙ or_swap (ltb (tick - t) pace) _
 
 or_false : (a : Bool) → a ≡ (a || false)
 or_false true = refl
@@ -221,20 +208,20 @@ pub recent_is : (au tick pace : ℕ) (before : Option ℕ) (js : List Record)
     → is_recent (opened_from au before js) tick pace
     ≡ (is_recent before tick pace || list_any (opens_lately au tick pace) js)
 unfolding opens_lately
-recent_is au tick pace before [] = or_false (is_recent before tick pace)
+recent_is au tick pace before [] = or_false _
 recent_is au tick pace before (r ∷ rs) =
     recent_is au tick pace (opened_after au before r) rs
     ∙ ap (λ b. b || list_any (opens_lately au tick pace) rs) (by_record r)
-    ∙ or_assoc (is_recent before tick pace) (opens_lately au tick pace r) (list_any (opens_lately au tick pace) rs)
+    ∙ or_assoc _ (opens_lately au tick pace r) _
   where
     by_number : (b : Bool) (t : ℕ)
         → is_recent (cond b (later before t) before) tick pace
         ≡ (is_recent before tick pace || (b && ltb (tick - t) pace))
     by_number true t = later_is before t tick pace
-    by_number false t = or_false (is_recent before tick pace)
+    by_number false t = or_false _
 
     by_record : (r : Record)
         → is_recent (opened_after au before r) tick pace
         ≡ (is_recent before tick pace || opens_lately au tick pace r)
     by_record (PollOpened number a nonce inner t limits kind) = by_number (eqb a au) t
-    by_record r = or_false (is_recent before tick pace)
+    by_record r = or_false _

@@ -14,7 +14,7 @@ use Rattle.lks_law.specs.Polls.{Station, numbers_in_force}
 use Rattle.lks_law.specs.References.{dissenters, joiners, picked_friends, list_agreed, list_with, list_from}
 use Rattle.lks_law.specs.References.{reference_list}
 use Rattle.lks_law.specs.State.{settled_opening, State, poll_at, copy_at, blocks_at, refs_agreed, refs_after, leavers}
-use Rattle.lks_law.specs.State.{comers, polls_after, copies_after, after, after_all, blank, state_of}
+use Rattle.lks_law.specs.State.{comers, polls_after, copies_after, after, after_all, state_of}
 use Rattle.lks_law.specs.Written.{MayFollow, AreWritten}
 use Rattle.lks_law.proofs.HeldCopies.{copy_of, copies_more, blocks_are}
 use Rattle.lks_law.proofs.RunningPolls.{AreApart, apart_after, poll_as, polls_of, polls_more, running_by, poll_found}
@@ -44,9 +44,9 @@ list_last : (own : Station) (before : List Record) (list : List ℕ) (js : List 
     → list_from own before list (js ++ r ∷ []) ≡ list_with own (before ++ js) (list_from own before list js) r
 list_last own before list [] r = ap (λ js. list_with own js list r) (sym (append-nil before))
 list_last own before list (j ∷ js) r =
-    list_last own (before ++ j ∷ []) (list_with own before list j) js r
+    list_last own _ (list_with own before list j) js r
     ∙ ap (λ front. list_with own front (list_from own (before ++ j ∷ []) (list_with own before list j) js) r)
-    (append_assoc before (j ∷ []) js)
+    (append_assoc before _ js)
 
 refs_last : (own : Station) (js : List Record) (r : Record)
     → reference_list own (js ++ r ∷ []) ≡ list_with own js (reference_list own js) r
@@ -73,16 +73,16 @@ module _ (own : Station) (js : List Record) (s : State) (is : Stands own js s) w
   refs_are : (r : Record) → MayFollow js r → refs_after own s r ≡ list_with own js (reference_list own js) r
   unfolding list_with
   refs_are (Closed n Agreed tick) may =
-      ap (refs_agreed own s.refs s.copies) (poll_is n ∙ ap (running_by own.rules n js (opening_of n js)) may.0)
-      ∙ agreed_refs n (opening_of n js)
+      ap (refs_agreed own s.refs s.copies) (poll_is n ∙ ap (running_by own.rules n js _) may.0)
+      ∙ agreed_refs n _
   refs_are r may = is.refs
 
   -- a poll runs on
   runs_on : (n : ℕ) (r : Record) → closes n r ≡ false → is_running n js ≡ true → is_running n (js ++ r ∷ []) ≡ true
   unfolding is_running
   runs_on n r goes e =
-      let parts = and_parts (is_some (opening_of n js)) (not (is_closed n js)) e in
-      and_from (is_some (opening_of n (js ++ r ∷ []))) (not (is_closed n (js ++ r ∷ [])))
+      let parts = and_parts _ _ e in
+      and_from _ _
       (ap is_some (opening_more n js r) ∙ stays (opening_of n js) (opening_in n r) parts.0)
       (ap not (closed_more n js r ∙ ap (λ b. cond b true (is_closed n js)) goes) ∙ parts.1)
     where
@@ -101,22 +101,20 @@ module _ (own : Station) (js : List Record) (s : State) (is : Stands own js s) w
           by_number : (b : Bool) → eqb number n ≡ b
               → is_some (cond b (Some (record { block = block; voter = voter })) (unanswered_request n js)) ≡ true
               → is_running n (js ++ Asked number block voter ∷ []) ≡ true
-          by_number true same e =
-              runs_on n (Asked number block voter) refl
-              (ap (λ m. is_running m js) (sym (eqb-true number n same)) ∙ may)
-          by_number false same e = runs_on n (Asked number block voter) refl (is.idle n e)
+          by_number true same e = runs_on n _ refl (ap (λ m. is_running m js) (sym (eqb-true number n same)) ∙ may)
+          by_number false same e = runs_on n _ refl (is.idle n e)
       by_record (RepairBad number block voter) may e = by_number (eqb number n) e
         where
           by_number : (b : Bool) → is_some (cond b None (unanswered_request n js)) ≡ true
               → is_running n (js ++ RepairBad number block voter ∷ []) ≡ true
           by_number true e = absurd cc
-          by_number false e = runs_on n (RepairBad number block voter) refl (is.idle n e)
+          by_number false e = runs_on n _ refl (is.idle n e)
       by_record (Replaced number au block bytes) may e = by_number (eqb number n) e
         where
           by_number : (b : Bool) → is_some (cond b None (unanswered_request n js)) ≡ true
               → is_running n (js ++ Replaced number au block bytes ∷ []) ≡ true
           by_number true e = absurd cc
-          by_number false e = runs_on n (Replaced number au block bytes) refl (is.idle n e)
+          by_number false e = runs_on n _ refl (is.idle n e)
       by_record (Closed number outcome tick) may e = by_number (eqb number n) refl
         where
           by_number : (b : Bool) → eqb number n ≡ b → is_running n (js ++ Closed number outcome tick ∷ []) ≡ true
@@ -125,7 +123,7 @@ module _ (own : Station) (js : List Record) (s : State) (is : Stands own js s) w
               (let both : true
               ≡ false = sym e
               ∙ ap is_some (ap (λ m. unanswered_request m js) (sym (eqb-true number n same)) ∙ may.1) in cc)
-          by_number false same = runs_on n (Closed number outcome tick) same (is.idle n e)
+          by_number false same = runs_on n _ same (is.idle n e)
       by_record r may e = runs_on n r refl (is.idle n e)
 
   stands_more : (r : Record) → MayFollow js r → Stands own (js ++ r ∷ []) (after own s r)
@@ -133,10 +131,7 @@ module _ (own : Station) (js : List Record) (s : State) (is : Stands own js s) w
   stands_more r may = record {
     numbers =
         ap (λ l. numbers_after l r) is.numbers
-        ∙ sym
-        (numbers_last
-        (record { quorum = own.rules.quorum; minority = own.rules.minority; repairs = own.rules.repairs }) js
-        r);
+        ∙ sym (numbers_last _ js r);
     openings_are = ap (λ n. cond (is_opening r) (n + 1) n) is.openings_are ∙ sym (count_more js r);
     copies =
         subst (λ ps. (au : ℕ) → copy_at au (copies_after ps r s.copies) ≡ copy_of au (js ++ r ∷ [])) (sym is.polls)
@@ -145,19 +140,19 @@ module _ (own : Station) (js : List Record) (s : State) (is : Stands own js s) w
     apart = subst AreApart (sym (polls_more own.rules js r may is.apart)) (apart_after own.rules js r may is.apart);
     refs = refs_are r may ∙ sym (refs_last own js r);
     idle = idle_more r may;
-    voter = takes_more own.rules (λ au. blocks_at au s.copies) js s.voter blocks_is is.voter r may;
+    voter = takes_more own.rules _ js s.voter blocks_is is.voter r may;
   }
 
 stands_all : (own : Station) (before rest : List Record) (s : State) → Stands own before s → AreWritten before rest
     → Stands own (before ++ rest) (after_all own s rest)
 stands_all own before [] s is written = subst (λ js. Stands own js s) (sym (append-nil before)) is
 stands_all own before (r ∷ rs) s is written =
-    subst (λ js. Stands own js (after_all own (after own s r) rs)) (append_assoc before (r ∷ []) rs)
-    (stands_all own (before ++ r ∷ []) rs (after own s r) (stands_more own before s is r written.0) written.1)
+    subst (λ js. Stands own js (after_all own (after own s r) rs)) (append_assoc before _ rs)
+    (stands_all own _ rs (after own s r) (stands_more own before s is r written.0) written.1)
 
 pub state_stands : (own : Station) (js : List Record) → AreWritten [] js → Stands own js (state_of own js)
 unfolding state_of numbers_in_force openings reference_list deposit_of unanswered_request
-state_stands own js written = stands_all own [] js (blank own) (record {
+state_stands own js written = stands_all own [] js _ (record {
   numbers = refl;
   openings_are = refl;
   copies = λ au. refl;

@@ -6,9 +6,9 @@ use Rattle.std.specs.List.{filter_map, cons_option, list_all, list_any}
 use Rattle.std.proofs.lemmas.Bool.{eqb-true, eq-eqb, and_parts, leb-true, not-true}
 use Rattle.std.proofs.lemmas.List.{append-nil}
 use Rattle.std.proofs.lemmas.List.Folds.{list_any-append}
-use Rattle.lks_base.specs.Checking.{plan_fault, is_within, is_fit, unless, each as each_fault, has_peer, has_corrupt}
+use Rattle.lks_base.specs.Checking.{plan_fault, is_within, is_fit, each as each_fault, has_peer, has_corrupt}
 use Rattle.lks_base.specs.Checking.{peer_fault}
-use Rattle.lks_base.specs.declared.plans.PlanFault.TheVariants.{Bounds, Repeat}
+use Rattle.lks_base.specs.declared.plans.PlanFault.TheVariants.{Repeat}
 use Rattle.lks_base.proofs.PlanBounds.{sound_copy}
 use Rattle.lks_base.proofs.PlanLaws.{no_first, no_second, stands, fit_peers, fit_proof, lists_stand, numbered_aus}
 use Rattle.lks_base.specs.declared.events.Event.{Event}
@@ -41,8 +41,8 @@ IsShortAu au = au.id < 2 ^ 16
 short_each : (aus : List AuPlan) → list_all (λ a. is_within 0 65535 a.id) aus ≡ true → Each IsShortAu aus
 short_each [] all = tt
 short_each (a ∷ aus) all =
-    let parts = and_parts (is_within 0 65535 a.id) (list_all (λ a. is_within 0 65535 a.id) aus) all in
-    let most = leb-true a.id 65535 (and_parts (nat_le 0 a.id) (nat_le a.id 65535) parts.0).1 in
+    let parts = and_parts _ _ all in
+    let most = leb-true a.id 65535 (and_parts _ (nat_le a.id 65535) parts.0).1 in
     (omega (arith, most), short_each aus parts.1)
 
 -- 1 to 512 blocks, none of them too large
@@ -73,13 +73,12 @@ module _ (peers : List Standing) (own : Station) (js : List Record) where
   unfolding deposits
   deposit_facts [] copies short small = tt
   deposit_facts (au ∷ aus) copies short small =
-      each_append (Fact peers own js) (filter_map (deposit_for au) copies) (deposits aus copies)
-      (held_facts au copies short.0 small) (deposit_facts aus copies short.1 small)
+      each_append _ _ _ (held_facts au copies short.0 small) (deposit_facts aus copies short.1 small)
 
 none_opened : (js : List Record) → AreDeposits js → openings js ≡ 0
 unfolding AreDeposits
 none_opened [] all = none_open
-none_opened (Deposit au blocks ∷ js) all = not_open (Deposit au blocks) js refl (none_opened js all)
+none_opened (Deposit au blocks ∷ js) all = not_open _ js refl (none_opened js all)
 none_opened (r ∷ js) all = absurd cc
 
 none_twice : (js : List Record) → AreDeposits js → IsSingle js
@@ -128,7 +127,7 @@ module _ (plan : Plan) (short : Each IsShortAu plan.aus) where
   unfolding peer_at
   sound_in peers [] fit small id s at = absurd cc
   sound_in peers (p ∷ ps) fit small id s at =
-      let fits = and_parts (is_fit p) (list_all is_fit ps) fit in
+      let fits = and_parts _ _ fit in
       by_tests (is_honest p) (eqb p.id id) refl (sound_start peers p fits.0 small.0)
       (sound_in peers ps fits.1 small.1 id s) at
     where
@@ -158,17 +157,17 @@ ids_apart : (aus : List AuPlan) (all before ps : List PeerPlan) (id : ℕ)
 unfolding peer_fault has_peer
 ids_apart aus all before [] id e was = refl
 ids_apart aus all before (q ∷ qs) id e was =
-    let here = no_first (peer_fault aus all before q) (each_fault (peer_fault aus all) (before ++ q ∷ []) qs) e in
-    let later = no_second (peer_fault aus all before q) (each_fault (peer_fault aus all) (before ++ q ∷ []) qs) e in
+    let here = no_first _ _ e in
+    let later = no_second _ (each_fault (peer_fault aus all) (before ++ q ∷ []) qs) e in
     let new : list_any (named_so q.id) before
-    ≡ false = not-true (list_any (named_so q.id) before)
+    ≡ false = not-true _
     (stands (not (has_peer before q.id)) Repeat
-    (no_first (unless (not (has_peer before q.id)) Repeat) _ (no_second (unless (is_fit q) Bounds) _ here)))
+    (no_first _ _ (no_second _ _ here)))
     in
-    let still : list_any (named_so id) (before ++ q ∷ [])
-    ≡ true = list_any-append (named_so id) before (q ∷ [])
+    let still : list_any _ (before ++ q ∷ [])
+    ≡ true = list_any-append (named_so id) before _
     ∙ ap (λ b. b || list_any (named_so id) (q ∷ [])) was in
-    by_id (eqb q.id id) refl new (ids_apart aus all (before ++ q ∷ []) qs id later still)
+    by_id (eqb q.id id) refl new (ids_apart aus all _ qs id later still)
   where
     by_id : (b : Bool) → eqb q.id id ≡ b → list_any (named_so q.id) before ≡ false
         → list_any (named_so id) qs ≡ false → (b || list_any (named_so id) qs) ≡ false
@@ -213,10 +212,10 @@ apart : (plan : Plan) (aus : List AuPlan) (all before ps : List PeerPlan) (id : 
 unfolding peer_at
 apart plan aus all before [] id e some = absurd cc
 apart plan aus all before (p ∷ ps) id e some =
-    let later = no_second (peer_fault aus all before p) (each_fault (peer_fault aus all) (before ++ p ∷ []) ps) e in
+    let later = no_second _ _ e in
     by_tests (eqb p.id id) p.corrupt refl some (apart plan aus all (before ++ p ∷ []) ps id later)
-    (λ same. ids_apart aus all (before ++ p ∷ []) ps id later
-    (list_any-append (named_so id) before (p ∷ []) ∙ last (list_any (named_so id) before) (eqb p.id id) same))
+    (λ same. ids_apart aus all _ ps id later
+    (list_any-append _ before _ ∙ last (list_any _ before) (eqb p.id id) same))
   where
     rest : List Standing
     rest = map (standing_of plan) (filter is_honest ps)
@@ -241,11 +240,11 @@ apart_start : (plan : Plan) (aus : List AuPlan) (all before ps : List PeerPlan)
     → each_fault (peer_fault aus all) before ps ≡ None → AreApart (map (standing_of plan) (filter is_honest ps))
 apart_start plan aus all before [] e = tt
 apart_start plan aus all before (p ∷ ps) e =
-    let later = no_second (peer_fault aus all before p) (each_fault (peer_fault aus all) (before ++ p ∷ []) ps) e in
-    let seen : list_any (named_so p.id) (before ++ p ∷ [])
-    ≡ true = list_any-append (named_so p.id) before (p ∷ [])
+    let later = no_second _ _ e in
+    let seen : list_any _ (before ++ p ∷ [])
+    ≡ true = list_any-append _ before _
     ∙ last (list_any (named_so p.id) before) (eqb p.id p.id) (eq-eqb p.id p.id refl) in
-    by_test (is_honest p) (nobody_named plan ps p.id (ids_apart aus all (before ++ p ∷ []) ps p.id later seen))
+    by_test (is_honest p) (nobody_named plan ps p.id (ids_apart aus all _ ps p.id later seen))
     (apart_start plan aus all (before ++ p ∷ []) ps later)
   where
     last : (a b : Bool) → b ≡ true → (a || (b || false)) ≡ true
@@ -295,5 +294,5 @@ pub world_holds : (plan : Plan) (history : List Event) → plan_fault plan ≡ N
 unfolding world
 world_holds plan history good is =
     let few = is.few in
-    all_hold (corrupt_in plan) (start plan) 0 history (all_forge_so plan (start plan) history is.may)
+    all_hold _ _ 0 history (all_forge_so plan _ history is.may)
     (omega (arith, few)) (start_holds plan good)

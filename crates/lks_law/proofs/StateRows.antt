@@ -93,10 +93,10 @@ module _ (own : Station) (js : List Record) (s : State) (is : Stands own js s) w
       → tallied_as own (poll_as n (settled_opening own.rules o) js) tick (contents_of o.au js) v
       ≡ follows_verdict own js tick n o v
   tallied_is tick n o v =
-      let lost : (b : ℕ)
+      let lost : _
       → _
-      ≡ _ = λ b. ap (asked_for (poll_as n (settled_opening own.rules o) js) tick b) (supplier_is n b o)
-      ∙ asked_are tick n b o (candidate own n o b js) in
+      ≡ _ = λ b. ap (asked_for _ tick b) (supplier_is n b o)
+      ∙ asked_are tick n b o _ in
       λ i. running.follows (λ how. closed_is tick n o how i) no_effect (λ b. lost b i) v
 
   pub tally_is : (tick n : ℕ) → for_poll (poll_at n s.polls) (tally_in own tick s.copies) ≡ on_tally own js tick n
@@ -112,12 +112,10 @@ module _ (own : Station) (js : List Record) (s : State) (is : Stands own js s) w
       by_opening None c = refl
       by_opening (Some o) true = refl
       by_opening (Some o) false =
-          ap
-          (λ bs. if_may (is_shut n js && not (is_some (unanswered_request n js)))
+          ap (λ bs. if_may (is_shut n js && not (is_some (unanswered_request n js)))
           (tallied_as own (poll_as n (settled_opening own.rules o) js) tick bs
           (verdict_of own (poll_as n (settled_opening own.rules o) js) bs))) (blocks_is own js s is o.au)
-          ∙ ap (if_may (is_shut n js && not (is_some (unanswered_request n js))))
-          (tallied_is tick n o (verdict_in own n o js))
+          ∙ ap (if_may _) (tallied_is tick n o _)
 
   -- The end of voting.
 
@@ -132,8 +130,7 @@ module _ (own : Station) (js : List Record) (s : State) (is : Stands own js s) w
       by_opening None c = refl
       by_opening (Some o) true = refl
       by_opening (Some o) false = λ i.
-          cond (not (is_shut n js))
-          (cond (ltb (length (inner_votes n o.inner js)) (limits_of own.rules o).quorum)
+          cond (not (is_shut n js)) (cond (ltb (length (inner_votes n o.inner js)) (limits_of own.rules o).quorum)
           (record {
             records = records.Shut n ∷ records.Closed n outcome.Inquorate tick ∷ [];
             sends = receipts_are n o i;
@@ -153,8 +150,7 @@ module _ (own : Station) (js : List Record) (s : State) (is : Stands own js s) w
       by_opening None c = refl
       by_opening (Some o) true = refl
       by_opening (Some o) false = λ i.
-          cond (not (is_shut n js) && not (widened_is n js i))
-          (record {
+          cond (not (is_shut n js) && not (widened_is n js i)) (record {
             records = records.OuterOpened n
                 (circle_of (drawn_from own.seed 2 n) own.id o.inner (nominees_are n js i) own.rules.outer).peers
                 ∷ [];
@@ -169,7 +165,7 @@ module _ (own : Station) (js : List Record) (s : State) (is : Stands own js s) w
     where
       by_request : (r : Option Request) → unanswered_request n js ≡ r → r ≡ None
       by_request None w = refl
-      by_request (Some r) w = absurd (both_ways (is_running n js) e (is.idle n (ap is_some w)))
+      by_request (Some r) w = absurd (both_ways _ e (is.idle n (ap is_some w)))
 
   running_is_not : (n : ℕ) (o : Option Opening) (c : Bool) → opening_of n js ≡ o → is_closed n js ≡ c
       → (is_some o && not c) ≡ false → is_running n js ≡ false
@@ -191,7 +187,7 @@ module _ (own : Station) (js : List Record) (s : State) (is : Stands own js s) w
           ≡ cond (is_some o && not c && not (is_shut n js)) (for_opening o (reminds_silent js n))
           (asked_again n (unanswered_request n js))
       by_opening None c eo ec = ap (asked_again n) (sym (quiet n (running_is_not n None c eo ec refl)))
-      by_opening (Some o) true eo ec = ap (asked_again n) (sym (quiet n (running_is_not n (Some o) true eo ec refl)))
+      by_opening (Some o) true eo ec = ap (asked_again n) (sym (quiet n (running_is_not n _ true eo ec refl)))
       by_opening (Some o) false eo ec = λ i.
           cond (not (is_shut n js))
           (record { records = []; sends = map (letter (message.Poll n o.au)) (silent_is n o i) })
@@ -206,7 +202,7 @@ module _ (own : Station) (js : List Record) (s : State) (is : Stands own js s) w
       by_opening : (o : Option Opening) (c : Bool) → opening_of n js ≡ o → is_closed n js ≡ c
           → for_poll (running_by own.rules n js o c) give_up_in ≡ given_up n (unanswered_request n js)
       by_opening None c eo ec = ap (given_up n) (sym (quiet n (running_is_not n None c eo ec refl)))
-      by_opening (Some o) true eo ec = ap (given_up n) (sym (quiet n (running_is_not n (Some o) true eo ec refl)))
+      by_opening (Some o) true eo ec = ap (given_up n) (sym (quiet n (running_is_not n _ true eo ec refl)))
       by_opening (Some o) false eo ec = refl
 
   -- A repair.
@@ -228,10 +224,10 @@ module _ (own : Station) (js : List Record) (s : State) (is : Stands own js s) w
           → for_poll (running_by own.rules n js o c) (repair_in own from b bytes s.copies)
           ≡ cond (is_request b from (unanswered_request n js)) (for_opening o (takes_repair own js from n b bytes))
           no_effect
-      by_opening None c eo ec = sym (never (is_request b from (unanswered_request n js)))
+      by_opening None c eo ec = sym (never _)
       by_opening (Some o) true eo ec =
           ap (λ r. cond (is_request b from r) (takes_repair own js from n b bytes o) no_effect)
-          (sym (quiet n (running_is_not n (Some o) true eo ec refl)))
+          (sym (quiet n (running_is_not n _ true eo ec refl)))
       by_opening (Some o) false eo ec =
           ap (λ bs. if_may (is_request b from (unanswered_request n js))
           (cond (said_of own (poll_as n (settled_opening own.rules o) js) b bytes bs)
@@ -263,8 +259,7 @@ module _ (own : Station) (js : List Record) (s : State) (is : Stands own js s) w
       by_opening false (Some o) true = refl
       by_opening false (Some o) false = refl
       by_opening true (Some o) false =
-          (λ i. if_may
-          (not (is_shut n js)
+          (λ i. if_may (not (is_shut n js)
           && poll.may_vote (invited_is n from o i) (voted_is n from js i) (length hashes)
           (length (blocks_is own js s is o.au i)))
           (record { records = records.VoteIn n from hashes ∷ []; sends = [] }))
@@ -293,11 +288,10 @@ module _ (own : Station) (js : List Record) (s : State) (is : Stands own js s) w
       by_opening None c = refl
       by_opening (Some o) true = refl
       by_opening (Some o) false =
-          (λ i. if_may
-          (poll.may_widen (not (is_shut n js)) (widened_is n js i)
+          (λ i. if_may (poll.may_widen (not (is_shut n js)) (widened_is n js i)
           && poll.may_nominate (has_member o.inner from) (nominated_is n from js i))
           (record { records = records.Nominated n from nominees ∷ []; sends = [] }))
-          ∙ by_tests (poll.may_widen (not (is_shut n js)) (is_widened n js))
+          ∙ by_tests (poll.may_widen _ _)
         where
           by_tests : (b : Bool)
               → if_may (b && poll.may_nominate (has_member o.inner from) (has_nominated n from js))
@@ -352,8 +346,7 @@ module _ (own : Station) (js : List Record) (s : State) (is : Stands own js s) w
   pub open_is : (tick au : ℕ) → open_in own s tick au ≡ on_open own js tick au
   unfolding open_in on_open inner_of inner_circle
   open_is tick au = λ i.
-      cond (may_open_is tick au i)
-      (record {
+      cond (may_open_is tick au i) (record {
         records =
             records.PollOpened (is.openings_are i + 1) au (nonce_from own.seed (is.openings_are i + 1))
             (picked_by (drawn_from own.seed 1 (is.openings_are i + 1)) (is.refs i) own.rules.inner) tick

@@ -19,7 +19,7 @@ use Rattle.lks_law.specs.Sessions.{join_of, commitment_of, hashes_of_vote, serve
 use Rattle.lks_law.specs.Sessions.{joined_polls, committed_polls, sessions, may_work, votes_received, votes_given}
 use Rattle.lks_law.specs.Sessions.{low_part, last_low}
 use Rattle.lks_law.specs.Taking.{Pinned, Voter, is_session_of, is_pinned_of, is_cast_of, session_at, pinned_at}
-use Rattle.lks_law.specs.Taking.{cast_at, joined_as, pinned_to, cast_as, pins_of, casts_of, serving_block, turned_by}
+use Rattle.lks_law.specs.Taking.{cast_at, joined_as, pins_of, casts_of, serving_block, turned_by}
 use Rattle.lks_law.specs.Taking.{mark_at, newcomer, voter_after}
 use Rattle.lks_law.specs.Written.{MayFollow}
 use Rattle.lks_law.proofs.Counts.{itself, stands_in, joined_stands, committed_stands, ended_more, joined_more}
@@ -57,7 +57,7 @@ unfolding may_work is_session
 works_by q js = refl
 
 none_stands : (q : PollName) (names : List PollName) → stands_in q names ≡ false → at itself q names ≡ None
-none_stands q names e = none_of (at itself q names) e
+none_stands q names e = none_of _ e
 
 module _ (rules : Rules) (blocks : ℕ → List (List ℕ)) (js : List Record) (v : Voter)
     (are : (au : ℕ) → blocks au ≡ contents_of au js) (is : Takes rules js v) where
@@ -68,8 +68,7 @@ module _ (rules : Rules) (blocks : ℕ → List (List ℕ)) (js : List Record) (
     where
       by_record : (r : Record) → MayFollow js r → Apart itself (pushed (joined_polls js) (joined_in r))
       by_record (Joined n au tick low repairs) may =
-          apart_push itself (joined_polls js) n is.once
-          (none_stands n (joined_polls js) (joined_stands n js ∙ ap is_some may.0))
+          apart_push itself _ n is.once (none_stands n _ (joined_stands n js ∙ ap is_some may.0))
       by_record (Deposit au bs) may = is.once
       by_record (PollOpened number au nonce inner tick limits kind) may = is.once
       by_record (Nominated number voter nominees) may = is.once
@@ -107,8 +106,8 @@ module _ (rules : Rules) (blocks : ℕ → List (List ℕ)) (js : List Record) (
           → list_any (λ p. is_poll p q) (turned_by rules blocks (part_of r) v).ended
           ≡ cond (ends q r) true (is_ended q js)
       by_record (Ended n) =
-          list_any-append (λ p. is_poll p q) v.ended (n ∷ [])
-          ∙ either (list_any (λ p. is_poll p q) v.ended) (is_poll n q)
+          list_any-append _ v.ended _
+          ∙ either (list_any _ v.ended) (is_poll n q)
           ∙ ap (cond (is_poll n q && true) true) (is.ended q)
       by_record (Joined n au tick low repairs) = is.ended q ∙ not_an_end (is_poll n q)
       by_record (Committed n nonce version kind) = is.ended q ∙ not_an_end (is_poll n q)
@@ -158,19 +157,19 @@ module _ (rules : Rules) (blocks : ℕ → List (List ℕ)) (js : List Record) (
       → sessions (js ++ Joined n au tick low repairs ∷ []) ≡ sessions js + 1
   unfolding sessions
   count_joined n au tick low repairs may =
-      count_on (Joined n au tick low repairs) (stay_open (Joined n au tick low repairs) (λ q. never q n))
-      ∙ count_push (λ q. not (is_ended q js)) (joined_polls js) n
+      count_on _ (stay_open _ (λ q. never q n))
+      ∙ count_push _ (joined_polls js) n
       ∙ ap (λ b. sessions js + cond (not b) 1 0) (ap (λ (p : Phase). p.over) (begun_phase js n (is.at n).proper may.0))
 
   count_ended : (n : PollName) → MayFollow js (Ended n) → sessions js ≡ sessions (js ++ Ended n ∷ []) + 1
   unfolding sessions is_session
   count_ended n opened =
-      let parts = and_parts (is_some (join_of n js)) (not (is_ended n js)) opened in
-      count_gone (λ q. not (is_ended q js)) (λ q. not (is_ended q (js ++ Ended n ∷ []))) n (joined_polls js)
-      (λ q other. ap not (ended_more q js (Ended n) ∙ ap (λ b. cond (b && true) true (is_ended q js)) other))
+      let parts = and_parts _ _ opened in
+      count_gone _ _ n _
+      (λ q other. ap not (ended_more q js _ ∙ ap (λ b. cond (b && true) true (is_ended q js)) other))
       is.once (joined_stands n js ∙ parts.0) parts.1
-      (ap not (ended_more n js (Ended n) ∙ ap (λ b. cond (b && true) true (is_ended n js)) (is_itself n)))
-      ∙ ap (λ names. count_by (λ q. not (is_ended q (js ++ Ended n ∷ []))) names + 1) (sym (joined_more js (Ended n)))
+      (ap not (ended_more n js _ ∙ ap (λ b. cond (b && true) true (is_ended n js)) (is_itself n)))
+      ∙ ap (λ names. count_by (λ q. not (is_ended q (js ++ Ended n ∷ []))) names + 1) (sym (joined_more js _))
 
   none_left : (n : PollName) → session_at n v.sessions ≡ None → without_first (is_session_of n) v.sessions ≡ v.sessions
   none_left n e = absent_without poll_of_session n v.sessions e
@@ -184,10 +183,10 @@ module _ (rules : Rules) (blocks : ℕ → List (List ℕ)) (js : List Record) (
   fewer n opened = by_phase (join_of n js) refl (commitment_of n js) refl (hashes_of_vote n js) refl parts.0
     where
       parts : (is_some (join_of n js) ≡ true) × (not (is_ended n js) ≡ true)
-      parts = and_parts (is_some (join_of n js)) (not (is_ended n js)) opened
+      parts = and_parts _ _ opened
 
       on : is_ended n js ≡ false
-      on = turned_off (is_ended n js) parts.1
+      on = turned_off _ parts.1
 
       none_session : session_at n v.sessions ≡ None
           → length (without_first (is_session_of n) v.sessions) ≡ length v.sessions
@@ -237,12 +236,12 @@ module _ (rules : Rules) (blocks : ℕ → List (List ℕ)) (js : List Record) (
       → length (v.pinned ++ pins_of blocks c (session_at n v.sessions)) ≡ length v.pinned + 1
   pinned_grows n c j found =
       ap (λ o. length (v.pinned ++ pins_of blocks c o)) found
-      ∙ length_push poll_of_pinned v.pinned (pinned_to c (blocks j.au) (joined_as rules n j))
+      ∙ length_push poll_of_pinned v.pinned _
 
   cast_grows : (n : PollName) (hashes : List (List ℕ)) (p : Pinned) → pinned_at n v.pinned ≡ Some p
       → length (v.cast ++ casts_of hashes (pinned_at n v.pinned)) ≡ length v.cast + 1
   cast_grows n hashes p found =
-      ap (λ o. length (v.cast ++ casts_of hashes o)) found ∙ length_push poll_of_cast v.cast (cast_as hashes [] p)
+      ap (λ o. length (v.cast ++ casts_of hashes o)) found ∙ length_push poll_of_cast v.cast _
 
   count_more : (r : Record) → MayFollow js r
       → opened_in (turned_by rules blocks (part_of r) v) ≡ sessions (js ++ r ∷ [])
@@ -278,36 +277,28 @@ module _ (rules : Rules) (blocks : ℕ → List (List ℕ)) (js : List Record) (
       let gone = count_ended n may in
       let before = is.count in
       omega (arith, less, gone, before)
-  count_more (Deposit au bs) may = is.count ∙ sym (count_same (Deposit au bs) (λ q. refl) refl)
-  count_more (PollOpened number au nonce inner tick limits kind) may =
-      is.count ∙ sym (count_same (PollOpened number au nonce inner tick limits kind) (λ q. refl) refl)
-  count_more (Nominated number voter nominees) may =
-      is.count ∙ sym (count_same (Nominated number voter nominees) (λ q. refl) refl)
-  count_more (OuterOpened number outer) may = is.count ∙ sym (count_same (OuterOpened number outer) (λ q. refl) refl)
-  count_more (VoteIn number voter hashes) may =
-      is.count ∙ sym (count_same (VoteIn number voter hashes) (λ q. refl) refl)
-  count_more (Shut number) may = is.count ∙ sym (count_same (Shut number) (λ q. refl) refl)
-  count_more (Asked number block voter) may = is.count ∙ sym (count_same (Asked number block voter) (λ q. refl) refl)
-  count_more (RepairBad number block voter) may =
-      is.count ∙ sym (count_same (RepairBad number block voter) (λ q. refl) refl)
-  count_more (Replaced number au block bytes) may =
-      is.count ∙ sym (count_same (Replaced number au block bytes) (λ q. refl) refl)
-  count_more (Closed number outcome tick) may =
-      is.count ∙ sym (count_same (Closed number outcome tick) (λ q. refl) refl)
-  count_more (Overdue au tick) may = is.count ∙ sym (count_same (Overdue au tick) (λ q. refl) refl)
-  count_more (Tuned quorum minority repairs) may =
-      is.count ∙ sym (count_same (Tuned quorum minority repairs) (λ q. refl) refl)
+  count_more (Deposit au bs) may = is.count ∙ sym (count_same _ (λ q. refl) refl)
+  count_more (PollOpened number au nonce inner tick limits kind) may = is.count ∙ sym (count_same _ (λ q. refl) refl)
+  count_more (Nominated number voter nominees) may = is.count ∙ sym (count_same _ (λ q. refl) refl)
+  count_more (OuterOpened number outer) may = is.count ∙ sym (count_same _ (λ q. refl) refl)
+  count_more (VoteIn number voter hashes) may = is.count ∙ sym (count_same _ (λ q. refl) refl)
+  count_more (Shut number) may = is.count ∙ sym (count_same _ (λ q. refl) refl)
+  count_more (Asked number block voter) may = is.count ∙ sym (count_same _ (λ q. refl) refl)
+  count_more (RepairBad number block voter) may = is.count ∙ sym (count_same _ (λ q. refl) refl)
+  count_more (Replaced number au block bytes) may = is.count ∙ sym (count_same _ (λ q. refl) refl)
+  count_more (Closed number outcome tick) may = is.count ∙ sym (count_same _ (λ q. refl) refl)
+  count_more (Overdue au tick) may = is.count ∙ sym (count_same _ (λ q. refl) refl)
+  count_more (Tuned quorum minority repairs) may = is.count ∙ sym (count_same _ (λ q. refl) refl)
 
   -- Which of them wait for their vote.
 
   works_other : (r : Record) (x : Part) → part_of r ≡ Some x → (q : PollName) → is_poll x.poll q ≡ false
       → may_work q (js ++ r ∷ []) ≡ may_work q js
-  works_other r x says q other =
-      works_by q (js ++ r ∷ []) ∙ ap work_in (phase_other q js r x says other) ∙ sym (works_by q js)
+  works_other r x says q other = works_by q _ ∙ ap work_in (phase_other q js r x says other) ∙ sym (works_by q js)
 
   works_mine : (r : Record) (n : PollName) (p : Phase) → phase n (js ++ r ∷ []) ≡ p
       → may_work n (js ++ r ∷ []) ≡ work_in p
-  works_mine r n p e = works_by n (js ++ r ∷ []) ∙ ap work_in e
+  works_mine r n p e = works_by n _ ∙ ap work_in e
 
   -- for all polls, where it stays so for this one
   works_same : (r : Record) (x : Part) → part_of r ≡ Some x → may_work x.poll (js ++ r ∷ []) ≡ may_work x.poll js
@@ -347,7 +338,7 @@ module _ (rules : Rules) (blocks : ℕ → List (List ℕ)) (js : List Record) (
       → filter (λ q. may_work q (js ++ r ∷ [])) (committed_polls (js ++ r ∷ []))
       ≡ filter (λ q. may_work q js) (committed_polls js)
   order_same r nobody works =
-      ap (filter (λ q. may_work q (js ++ r ∷ []))) (committed_more js r ∙ ap (pushed (committed_polls js)) nobody)
+      ap (filter (λ q. may_work q _)) (committed_more js r ∙ ap (pushed _) nobody)
       ∙ (λ i. filter (λ q. works q i) (committed_polls js))
 
   order_left : (r : Record) (n : PollName) → committed_in r ≡ None
@@ -356,16 +347,15 @@ module _ (rules : Rules) (blocks : ℕ → List (List ℕ)) (js : List Record) (
       ≡ filter (λ q. may_work q (js ++ r ∷ [])) (committed_polls (js ++ r ∷ []))
   order_left r n nobody works =
       ap (filter (λ q. not (is_poll q n))) is.order
-      ∙ sym (filter_left (λ q. may_work q js) (λ q. may_work q (js ++ r ∷ [])) n (committed_polls js) works)
-      ∙ ap (filter (λ q. may_work q (js ++ r ∷ [])))
-      (sym (committed_more js r ∙ ap (pushed (committed_polls js)) nobody))
+      ∙ sym (filter_left _ _ n _ works)
+      ∙ ap (filter (λ q. may_work q _)) (sym (committed_more js r ∙ ap (pushed _) nobody))
 
   names_pinned : (n : PollName) (c : Commitment) (j : Join) → session_at n v.sessions ≡ Some (joined_as rules n j)
       → map poll_of_pinned (v.pinned ++ pins_of blocks c (session_at n v.sessions))
       ≡ map poll_of_pinned v.pinned ++ n ∷ []
   names_pinned n c j found =
       ap (λ o. map poll_of_pinned (v.pinned ++ pins_of blocks c o)) found
-      ∙ names_push poll_of_pinned v.pinned (pinned_to c (blocks j.au) (joined_as rules n j))
+      ∙ names_push poll_of_pinned v.pinned _
 
   order_more : (r : Record) → MayFollow js r
       → map poll_of_pinned (turned_by rules blocks (part_of r) v).pinned
@@ -377,7 +367,7 @@ module _ (rules : Rules) (blocks : ℕ → List (List ℕ)) (js : List Record) (
       is.order
       ∙ sym
       (order_same r refl
-      (works_same r (record { poll = n; turn = Turn.Joins j }) refl
+      (works_same r _ refl
       (works_mine r n _ (phase_mine n js r (Turn.Joins j) refl ∙ ap (turned_in (Turn.Joins j)) before)
       ∙ sym (works_by n js ∙ ap work_in before))))
   order_more (Committed n nonce version kind) may =
@@ -386,22 +376,22 @@ module _ (rules : Rules) (blocks : ℕ → List (List ℕ)) (js : List Record) (
       let shape = joined_phase js n (is.at n).proper may.0 may.1 in
       let works : may_work n (js ++ r ∷ [])
       ≡ true = works_mine r n _
-      (phase_mine n js r (Turn.Commits c) refl ∙ ap (turned_in (Turn.Commits c)) shape.1) in
+      (phase_mine n js r _ refl ∙ ap (turned_in (Turn.Commits c)) shape.1) in
       names_pinned n c shape.0 ((is.at n).sessions ∙ ap (session_in rules n) shape.1)
       ∙ ap (λ names. names ++ n ∷ [])
-      (is.order ∙ sym (filter_same (λ q. may_work q js) (λ q. may_work q (js ++ r ∷ [])) n (committed_polls js)
+      (is.order ∙ sym (filter_same _ _ n _
       (λ q other. works_other r (record { poll = n; turn = Turn.Commits c }) refl q other)
-      (none_stands n (committed_polls js) (committed_stands n js ∙ ap is_some may.1))))
+      (none_stands n _ (committed_stands n js ∙ ap is_some may.1))))
       ∙ sym
       (ap (filter (λ q. may_work q (js ++ r ∷ []))) (committed_more js r)
-      ∙ filter-append (λ q. may_work q (js ++ r ∷ [])) (committed_polls js) (n ∷ [])
+      ∙ filter-append _ (committed_polls js) (n ∷ [])
       ∙ ap (λ b. filter (λ q. may_work q (js ++ r ∷ [])) (committed_polls js) ++ cond b (n ∷ []) []) works)
   order_more (Voted n hashes) may =
       let r : Record = Voted n hashes in
       let shape = committed_phase js n (is.at n).proper may in
       names_left poll_of_pinned n v.pinned is.apart.pinned
       ∙ order_left r n refl
-      (works_left r (record { poll = n; turn = Turn.Votes hashes }) refl
+      (works_left r _ refl
       (works_mine r n _
       (phase_mine n js r (Turn.Votes hashes) refl ∙ ap (turned_in (Turn.Votes hashes)) shape.2)))
   order_more (Served n block) may =
@@ -420,84 +410,65 @@ module _ (rules : Rules) (blocks : ℕ → List (List ℕ)) (js : List Record) (
       ∙ order_left r n refl
       (works_left r (record { poll = n; turn = Turn.Ends }) refl
       (works_mine r n _ (phase_mine n js r Turn.Ends refl)
-      ∙ over_works (is_some (join_of n js)) (is_some (commitment_of n js)) (is_some (hashes_of_vote n js))))
+      ∙ over_works (is_some _) (is_some (commitment_of n js)) (is_some (hashes_of_vote n js))))
     where
       over_works : (a b c : Bool) → (a && false && b && not c) ≡ false
       over_works true b c = refl
       over_works false b c = refl
   order_more (Deposit au bs) may =
       is.order
-      ∙ sym
-      (order_same (Deposit au bs) refl
-      (λ q. works_by q (js ++ Deposit au bs ∷ []) ∙ ap work_in (phase_quiet q js (Deposit au bs) refl)
+      ∙ sym (order_same (Deposit au bs) refl (λ q. works_by q _ ∙ ap work_in (phase_quiet q js (Deposit au bs) refl)
       ∙ sym (works_by q js)))
   order_more (PollOpened number au nonce inner tick limits kind) may =
       is.order
-      ∙ sym
-      (order_same (PollOpened number au nonce inner tick limits kind) refl
-      (λ q. works_by q (js ++ PollOpened number au nonce inner tick limits kind ∷ [])
+      ∙ sym (order_same _ refl (λ q. works_by q (js ++ PollOpened number au nonce inner tick limits kind ∷ [])
       ∙ ap work_in (phase_quiet q js (PollOpened number au nonce inner tick limits kind) refl)
       ∙ sym (works_by q js)))
   order_more (Nominated number voter nominees) may =
       is.order
-      ∙ sym
-      (order_same (Nominated number voter nominees) refl
+      ∙ sym (order_same (Nominated number voter nominees) refl
       (λ q. works_by q (js ++ Nominated number voter nominees ∷ [])
-      ∙ ap work_in (phase_quiet q js (Nominated number voter nominees) refl) ∙ sym (works_by q js)))
+      ∙ ap work_in (phase_quiet q js _ refl) ∙ sym (works_by q js)))
   order_more (OuterOpened number outer) may =
       is.order
-      ∙ sym
-      (order_same (OuterOpened number outer) refl
-      (λ q. works_by q (js ++ OuterOpened number outer ∷ [])
+      ∙ sym (order_same (OuterOpened number outer) refl (λ q. works_by q _
       ∙ ap work_in (phase_quiet q js (OuterOpened number outer) refl) ∙ sym (works_by q js)))
   order_more (VoteIn number voter hashes) may =
       is.order
-      ∙ sym
-      (order_same (VoteIn number voter hashes) refl
-      (λ q. works_by q (js ++ VoteIn number voter hashes ∷ [])
+      ∙ sym (order_same _ refl (λ q. works_by q (js ++ VoteIn number voter hashes ∷ [])
       ∙ ap work_in (phase_quiet q js (VoteIn number voter hashes) refl) ∙ sym (works_by q js)))
   order_more (Shut number) may =
       is.order
-      ∙ sym
-      (order_same (Shut number) refl
-      (λ q. works_by q (js ++ Shut number ∷ []) ∙ ap work_in (phase_quiet q js (Shut number) refl)
+      ∙ sym (order_same (Shut number) refl
+      (λ q. works_by q (js ++ Shut number ∷ []) ∙ ap work_in (phase_quiet q js _ refl)
       ∙ sym (works_by q js)))
   order_more (Asked number block voter) may =
       is.order
-      ∙ sym
-      (order_same (Asked number block voter) refl
-      (λ q. works_by q (js ++ Asked number block voter ∷ [])
+      ∙ sym (order_same (Asked number block voter) refl (λ q. works_by q _
       ∙ ap work_in (phase_quiet q js (Asked number block voter) refl) ∙ sym (works_by q js)))
   order_more (RepairBad number block voter) may =
       is.order
-      ∙ sym
-      (order_same (RepairBad number block voter) refl
-      (λ q. works_by q (js ++ RepairBad number block voter ∷ [])
+      ∙ sym (order_same _ refl (λ q. works_by q (js ++ RepairBad number block voter ∷ [])
       ∙ ap work_in (phase_quiet q js (RepairBad number block voter) refl) ∙ sym (works_by q js)))
   order_more (Replaced number au block bytes) may =
       is.order
-      ∙ sym
-      (order_same (Replaced number au block bytes) refl
+      ∙ sym (order_same (Replaced number au block bytes) refl
       (λ q. works_by q (js ++ Replaced number au block bytes ∷ [])
-      ∙ ap work_in (phase_quiet q js (Replaced number au block bytes) refl) ∙ sym (works_by q js)))
+      ∙ ap work_in (phase_quiet q js _ refl) ∙ sym (works_by q js)))
   order_more (Closed number outcome tick) may =
       is.order
-      ∙ sym
-      (order_same (Closed number outcome tick) refl
-      (λ q. works_by q (js ++ Closed number outcome tick ∷ [])
+      ∙ sym (order_same (Closed number outcome tick) refl (λ q. works_by q _
       ∙ ap work_in (phase_quiet q js (Closed number outcome tick) refl) ∙ sym (works_by q js)))
   order_more (Overdue au tick) may =
       is.order
-      ∙ sym
-      (order_same (Overdue au tick) refl
+      ∙ sym (order_same _ refl
       (λ q. works_by q (js ++ Overdue au tick ∷ []) ∙ ap work_in (phase_quiet q js (Overdue au tick) refl)
       ∙ sym (works_by q js)))
   order_more (Tuned quorum minority repairs) may =
       is.order
-      ∙ sym
-      (order_same (Tuned quorum minority repairs) refl
+      ∙ sym (order_same (Tuned quorum minority repairs) refl
       (λ q. works_by q (js ++ Tuned quorum minority repairs ∷ [])
-      ∙ ap work_in (phase_quiet q js (Tuned quorum minority repairs) refl) ∙ sym (works_by q js)))
+      ∙ ap work_in (phase_quiet q js _ refl) ∙ sym (works_by q js)))
 
   pub takes_more : (r : Record) → MayFollow js r → Takes rules (js ++ r ∷ []) (voter_after rules blocks r v)
   takes_more r may = record {

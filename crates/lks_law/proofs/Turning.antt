@@ -63,9 +63,9 @@ module _ {X : Type 0} (rules : Rules) (js : List Record) (g : ℕ → Option X) 
   walk_in [] are = refl
   walk_in (PollOpened n au nonce inner tick limits kind ∷ xs) are =
       let o : Opening = record { au = au; nonce = nonce; inner = inner; limits = limits; kind = kind } in
-      of_one (is_closed n js) (poll_as n (settled_opening rules o) js) (filter_map (running_in rules js) xs)
+      of_one _ _ _
       ∙ (λ i. cons_option (walks n (settled_opening rules o) (are n (opened_here n tick o xs)) i)
-      (walk_in xs (λ m e. are m (opened_later m (PollOpened n au nonce inner tick limits kind) xs e)) i))
+      (walk_in xs (λ m e. are m (opened_later m _ xs e)) i))
   walk_in (x ∷ xs) are = walk_in xs (λ m e. are m (opened_later m x xs e))
 
   pub walk : opened_numbers js ≡ range_with_len 1 (openings js)
@@ -90,8 +90,7 @@ tally_walks : (id : ℕ) (js : List Record) → Walks js (λ n. cond (may_tally 
 unfolding may_tally is_running
 tally_walks id js n o is =
     by_closed (is_closed n js)
-    ∙ ap
-    (λ b. cond (b && not (is_closed n js) && is_shut n js && not (is_some (unanswered_request n js)))
+    ∙ ap (λ b. cond (b && not (is_closed n js) && is_shut n js && not (is_some (unanswered_request n js)))
     (Some (Tally id n)) None) (sym is)
   where
     by_closed : (c : Bool)
@@ -104,8 +103,7 @@ turn_walks : (id : ℕ) (js : List Record) → Walks js (turn_of id js) (turn_in
 unfolding turn_of is_voting is_running
 turn_walks id js n o is =
     by_closed (is_closed n js)
-    ∙ ap
-    (λ b. cond (b && not (is_closed n js))
+    ∙ ap (λ b. cond (b && not (is_closed n js))
     (turn_at id n (is_some (unanswered_request n js)) (b && not (is_closed n js) && not (is_shut n js))
     (is_widened n js)) None) (sym is)
   where
@@ -115,13 +113,13 @@ turn_walks id js n o is =
         (turn_at id n (is_some (unanswered_request n js)) (true && not c && not (is_shut n js))
         (is_widened n js)) None
     by_closed true = refl
-    by_closed false = ap (turn_at id n (is_some (unanswered_request n js)) (not (is_shut n js))) (widened_is n js)
+    by_closed false = ap (turn_at id n _ _) (widened_is n js)
 
 works_are : (own : Station) (js : List Record) → AreWritten [] js
     → works_on own (state_of own js).voter ≡ works_at (record { own = own; journal = js })
 unfolding works_on works_at
 works_are own js written =
-    named_so (state_of own js).voter.pinned ∙ ap (map (Work own.id)) (state_stands own js written).voter.order
+    named_so (state_of own js).voter.pinned ∙ ap (map _) (state_stands own js written).voter.order
   where
     named_so : (ps : List Pinned)
         → map (λ (p : Pinned). Work own.id p.committed.joined.poll) ps ≡ map (Work own.id) (map poll_of_pinned ps)
@@ -133,10 +131,9 @@ tallies_are : (own : Station) (js : List Record) → AreWritten [] js
     → tallies_on own (state_of own js) ≡ tallies_at (record { own = own; journal = js })
 unfolding tallies_on tallies_at
 tallies_are own js written numbered =
-    ap (filter_map (ready_in own.id)) (state_stands own js written).polls
-    ∙ walk own.rules js (λ n. cond (may_tally n js) (Some (Tally own.id n)) None) (ready_in own.id)
-    (tally_walks own.id js) numbered
-    ∙ chosen (λ n. may_tally n js) (Tally own.id) (range_with_len 1 (openings js))
+    ap (filter_map _) (state_stands own js written).polls
+    ∙ walk own.rules js _ _ (tally_walks own.id js) numbered
+    ∙ chosen _ _ (range_with_len 1 (openings js))
 
 pub ready_is : (own : Station) (js : List Record) → AreWritten [] js
     → opened_numbers js ≡ range_with_len 1 (openings js)
@@ -148,14 +145,14 @@ pub turns_are : (own : Station) (js : List Record) → AreWritten [] js
     → turns_on own (state_of own js) ≡ turns_at (record { own = own; journal = js })
 unfolding turns_on turns_at
 turns_are own js written numbered =
-    ap (filter_map (turn_in own.id)) (state_stands own js written).polls
-    ∙ walk own.rules js (turn_of own.id js) (turn_in own.id) (turn_walks own.id js) numbered
+    ap (filter_map _) (state_stands own js written).polls
+    ∙ walk own.rules js _ _ (turn_walks own.id js) numbered
 
 pub inner_is : (own : Station) (js : List Record) → AreWritten [] js → (n voter : ℕ) → is_running n js ≡ true
     → has_inner_in (state_of own js) n voter ≡ is_inner js n voter
 unfolding has_inner_in is_inner is_running
 inner_is own js written n voter runs =
-    ap (λ p. has_inner_of p voter) (poll_is own js (state_of own js) (state_stands own js written) n)
+    ap (λ p. has_inner_of p voter) (poll_is own js _ (state_stands own js written) n)
     ∙ by_opening (opening_of n js) (is_closed n js) runs
   where
     by_opening : (o : Option Opening) (c : Bool) → (is_some o && not c) ≡ true
@@ -177,7 +174,7 @@ pub runs_there : (own : Station) (js : List Record) → AreWritten [] js → (n 
 unfolding is_running
 runs_there own js written n found =
     by_opening (opening_of n js) (is_closed n js)
-    (ap is_some (sym (poll_is own js (state_of own js) (state_stands own js written) n)) ∙ found)
+    (ap is_some (sym (poll_is own js _ (state_stands own js written) n)) ∙ found)
   where
     by_opening : (o : Option Opening) (c : Bool) → is_some (running_by own.rules n js o c) ≡ true
         → (is_some o && not c) ≡ true
@@ -193,6 +190,6 @@ pub inner_noted : (own : Station) (js : List Record) (n voter : ℕ) (hashes : L
 unfolding is_running
 inner_noted own js n voter hashes written found =
     let vote = VoteIn n voter hashes in
-    inner_is own (js ++ vote ∷ []) (written_more [] js vote written tt) n voter
+    inner_is own _ (written_more [] js vote written tt) n voter
     ((λ i. is_some (same_opening n js vote refl i) && not (closed_more n js vote i))
     ∙ runs_there own js written n found)

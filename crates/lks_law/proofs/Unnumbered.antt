@@ -1,6 +1,6 @@
 -- Journals that were begun before numbers could be tuned: which of their records lack numbers, and what these keep.
 use Rattle.std.proofs.Common.{◌≡◌, ◌+◌, ◌∙◌, ◌⊎◌, inl, inr, ap, sym, subst, ℕ, Bool, true, false, cond, List, [], ◌∷◌}
-use Rattle.std.proofs.Common.{◌++◌, length, refl}
+use Rattle.std.proofs.Common.{◌++◌, refl}
 use Rattle.std.specs.Prelude.{Option, Some, None, unwrap_or, map, not, ◌&&◌}
 use Rattle.std.specs.List.{filter_map, cons_option}
 use Rattle.lks_base.specs.declared.messages.Message.{Message}
@@ -14,17 +14,15 @@ use Rattle.lks_base.specs.declared.reactions.Input.TheVariants as input
 use Rattle.lks_base.specs.declared.reactions.Reaction.{Reaction}
 use Rattle.lks_base.specs.declared.records.Record.{Record}
 use Rattle.lks_base.specs.declared.records.Record.TheVariants as records
-use Rattle.lks_hash.specs.Hashes.{nonce_from}
 use Rattle.lks_law.specs.Facts.{AddsFor, limits_left, unnumbered}
-use Rattle.lks_law.specs.Journal.{Opening, Request, opening_of, openings, is_voting, is_widened, unanswered_request}
+use Rattle.lks_law.specs.Journal.{Opening, Request, opening_of, openings, is_voting, is_widened}
 use Rattle.lks_law.specs.Polls.{Station, ObeyQuorumRule, limits_in, limits_in_force, verdict_in, candidate, restores}
 use Rattle.lks_law.specs.Reaction.{no_effect, for_opening, may_open, opens_poll, on_open, invites_outer, on_widen}
-use Rattle.lks_law.specs.Reaction.{is_inquorate, shut_inquorate, ends_voting, on_shut, may_tally, closes_poll}
-use Rattle.lks_law.specs.Reaction.{asks_supplier, follows_verdict, on_tally, reminds_silent, asked_again, on_nudge}
-use Rattle.lks_law.specs.Reaction.{given_up, on_give_up, must_note, overdue_in, on_check, may_prove, sends_proof}
-use Rattle.lks_law.specs.Reaction.{on_challenge, may_nominate, notes_nominees, on_nominate, is_accepted, may_vote}
-use Rattle.lks_law.specs.Reaction.{counts_vote, on_vote, may_repair, takes_repair, on_repair}
-use Rattle.lks_law.specs.References.{inner_circle}
+use Rattle.lks_law.specs.Reaction.{is_inquorate, on_shut, closes_poll}
+use Rattle.lks_law.specs.Reaction.{asks_supplier, follows_verdict, on_tally, asked_again, on_nudge}
+use Rattle.lks_law.specs.Reaction.{given_up, on_give_up, must_note, overdue_in, on_check, may_prove}
+use Rattle.lks_law.specs.Reaction.{on_challenge, may_nominate, on_nominate, may_vote}
+use Rattle.lks_law.specs.Reaction.{on_vote, on_repair}
 use Rattle.lks_law.specs.Table.{on_message, reaction}
 use Rattle.lks_law.proofs.Kept.{Kept}
 use Rattle.lks_law.proofs.Openings.{kept_opened, kept_on_open, free_of}
@@ -33,7 +31,6 @@ use Rattle.lks_law.proofs.Samples.{Adds, inner_sample, open_adds, voter_adds}
 use Rattle.lks_choice.specs.Lists.{IsReferenceList}
 use Rattle.lks_tally.specs.declared.ballots.Verdict.{Verdict}
 use Rattle.lks_tally.specs.declared.ballots.Verdict.TheVariants as verdict
-use Rattle.lks_law.specs.Voting.{poll_named}
 use Rattle.lks_law.proofs.KeptVoters.{kept_voters}
 use Rattle.lks_law.proofs.VoterAdds.{VoterAdds, unnumbered_adds, invitation_adds, proof_adds, work_adds, request_adds}
 use Rattle.lks_law.proofs.VoterAdds.{end_adds, tune_adds}
@@ -68,9 +65,7 @@ module _ (own : Station) (js : List Record) where
   shut_same : (tick n : ℕ) → Same (on_shut own js tick n)
   unfolding on_shut
   shut_same tick n =
-      if_same (is_voting n js) _ no_effect
-      (opening_same (opening_of n js) (ends_voting own js tick n)
-      (λ o. if_same (is_inquorate own n o js) (shut_inquorate js tick n) _ refl refl)) refl
+      if_same _ _ no_effect (opening_same _ _ (λ o. if_same (is_inquorate own n o js) _ _ refl refl)) refl
 
   tallied_same : (tick n : ℕ) (o : Opening) (v : Verdict) → Same (follows_verdict own js tick n o v)
   unfolding closes_poll
@@ -86,9 +81,7 @@ module _ (own : Station) (js : List Record) where
   tally_same : (tick n : ℕ) → Same (on_tally own js tick n)
   unfolding on_tally
   tally_same tick n =
-      if_same (may_tally n js) _ no_effect
-      (opening_same (opening_of n js) (λ o. follows_verdict own js tick n o (verdict_in own n o js))
-      (λ o. tallied_same tick n o (verdict_in own n o js))) refl
+      if_same _ _ no_effect (opening_same _ _ (λ o. tallied_same tick n o (verdict_in own n o js))) refl
 
   request_same : (n : ℕ) (r : Option Request) → Same (asked_again n r) × Same (given_up n r)
   request_same n None = (refl, refl)
@@ -96,14 +89,11 @@ module _ (own : Station) (js : List Record) where
 
   nudge_same : (n : ℕ) → Same (on_nudge js n)
   unfolding on_nudge
-  nudge_same n =
-      if_same (is_voting n js) _ (asked_again n (unanswered_request n js))
-      (opening_same (opening_of n js) (reminds_silent js n) (λ o. refl))
-      (request_same n (unanswered_request n js)).0
+  nudge_same n = if_same _ _ _ (opening_same (opening_of n js) _ (λ o. refl)) (request_same n _).0
 
   give_up_same : (n : ℕ) → Same (on_give_up js n)
   unfolding on_give_up
-  give_up_same n = (request_same n (unanswered_request n js)).1
+  give_up_same n = (request_same n _).1
 
   noted_same : (tick : ℕ) (aus : List AuPlan)
       → map unnumbered (filter_map (overdue_in own js tick) aus) ≡ filter_map (overdue_in own js tick) aus
@@ -124,21 +114,13 @@ module _ (own : Station) (js : List Record) where
       → Same (on_message own js tick from m judged)
   unfolding on_challenge on_nominate on_vote on_repair
   message_same tick from (message.PollChallenge n agrees) judged is =
-      if_same (agrees && is_voting n js) _ no_effect
-      (opening_same (opening_of n js) (sends_proof own js from n)
-      (λ o. if_same (may_prove js from n o) _ no_effect refl refl)) refl
+      if_same _ _ no_effect (opening_same _ _ (λ o. if_same (may_prove js from n o) _ no_effect refl refl)) refl
   message_same tick from (message.Nominate n nominees) judged is =
-      if_same (is_voting n js && not (is_widened n js)) _ no_effect
-      (opening_same (opening_of n js) (notes_nominees js from n nominees)
-      (λ o. if_same (may_nominate js from n o) _ no_effect refl refl)) refl
+      if_same _ _ no_effect (opening_same _ _ (λ o. if_same (may_nominate js from n o) _ no_effect refl refl)) refl
   message_same tick from (message.Vote n hashes proof) judged is =
-      if_same (is_accepted judged && is_voting n js) _ no_effect
-      (opening_same (opening_of n js) (counts_vote js from n hashes)
-      (λ o. if_same (may_vote js from n (length hashes) o) _ no_effect refl refl)) refl
+      if_same _ _ no_effect (opening_same _ _ (λ o. if_same (may_vote js from n _ o) _ no_effect refl refl)) refl
   message_same tick from (message.Repair n b bytes) judged is =
-      if_same (may_repair js from n b) _ no_effect
-      (opening_same (opening_of n js) (takes_repair own js from n b bytes)
-      (λ o. if_same (restores own n o b bytes js) _ _ refl refl)) refl
+      if_same _ _ no_effect (opening_same _ _ (λ o. if_same (restores own n o b bytes js) _ _ refl refl)) refl
   message_same tick from m judged is = absurd is
 
   -- what is added for anything but an opening is what the rules say
@@ -165,16 +147,7 @@ module _ (own : Station) (js : List Record) where
 
       by_test : (b : Bool) → may_open own js tick au ≡ b
           → Kept own (js ++ map unnumbered (cond b (opens_poll own js tick au (openings js + 1)) no_effect).records)
-      by_test true may =
-          kept_opened own js (openings js + 1) tick
-          (record {
-            au = au;
-            nonce = nonce_from own.seed (openings js + 1);
-            inner = inner_circle own (openings js + 1) js;
-            limits = limits_left own.hash (Some (limits_in_force own.rules js));
-            kind = own.hash;
-          })
-          kept refl (free_of own js tick au may) (by_kind own.hash)
+      by_test true may = kept_opened own js _ tick _ kept refl (free_of own js tick au may) (by_kind own.hash)
       by_test false may = kept_nothing own js kept
 
   opens_add : (tick au : ℕ) (added : List Record) → IsReferenceList own.id own.refs
@@ -185,7 +158,7 @@ module _ (own : Station) (js : List Record) where
     where
       by_test : (b : Bool)
           → Adds own js (map unnumbered (cond b (opens_poll own js tick au (openings js + 1)) no_effect).records)
-      by_test true = (inner_sample own (openings js + 1) js listed, tt)
+      by_test true = (inner_sample own _ js listed, tt)
       by_test false = tt
 
 -- what a poller does or is told, but for an opening
@@ -227,17 +200,15 @@ half own js tick input.Check = inr (inl tt)
 half own js tick (input.Work q) = inr (inr (work_adds own js q))
 half own js tick (input.Expire q) = inr (inr (end_adds own js q))
 half own js tick (input.Tune quorum minority repairs) = inr (inr (tune_adds own js quorum minority repairs))
-half own js tick (input.Got from (message.Poll n au) judged) =
-    inr (inr (invitation_adds own js tick (poll_named from n) au))
+half own js tick (input.Got from (message.Poll n au) judged) = inr (inr (invitation_adds own js tick _ au))
 half own js tick (input.Got from (message.PollChallenge n agrees) judged) = inr (inl tt)
 half own js tick (input.Got from (message.PollProof n nonce kind proof) judged) =
-    inr (inr (proof_adds own js (poll_named from n) nonce kind judged))
+    inr (inr (proof_adds own js _ nonce kind judged))
 half own js tick (input.Got from (message.Nominate n nominees) judged) = inr (inl tt)
 half own js tick (input.Got from (message.Vote n hashes proof) judged) = inr (inl tt)
-half own js tick (input.Got from (message.RepairRequest n b) judged) =
-    inr (inr (request_adds own js (poll_named from n) b))
+half own js tick (input.Got from (message.RepairRequest n b) judged) = inr (inr (request_adds own js _ b))
 half own js tick (input.Got from (message.Repair n b bytes) judged) = inr (inl tt)
-half own js tick (input.Got from (message.Receipt n) judged) = inr (inr (end_adds own js (poll_named from n)))
+half own js tick (input.Got from (message.Receipt n) judged) = inr (inr (end_adds own js _))
 
 -- whatever is added, with its numbers or without, keeps what the rules keep, and its circles are samples
 module _ (own : Station) (js : List Record) (tick : ℕ) (i : Input) (added : List Record)

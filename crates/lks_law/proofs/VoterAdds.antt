@@ -1,6 +1,6 @@
 -- What a voter adds: nothing, or one record of its part in a poll, or of its numbers, which may follow the journal.
 use Rattle.std.proofs.Common.{◌≡◌, ap, ℕ, Bool, true, false, cond, not, List, [], ◌∷◌, refl}
-use Rattle.std.specs.Prelude.{Option, Some, None, is_some, option_map, map, ◌&&◌, nat_lt, nat_le, slice_get}
+use Rattle.std.specs.Prelude.{Option, Some, None, is_some, option_map, map, ◌&&◌, nat_le, slice_get}
 use Rattle.std.proofs.lemmas.Bool.{and_parts, and_from}
 use Rattle.lks_base.specs.Quorums.{obeys_quorum_rule}
 use Rattle.lks_base.specs.declared.limits.TheConstants.{MOST_REPAIRS}
@@ -12,13 +12,12 @@ use Rattle.lks_base.specs.declared.reactions.Reaction.{Reaction}
 use Rattle.lks_base.specs.declared.records.Record.{Record}
 use Rattle.lks_base.specs.declared.records.Record.TheVariants as records
 use Rattle.lks_law.specs.Facts.{unnumbered}
-use Rattle.lks_law.specs.Journal.{deposit_of, contents_at}
 use Rattle.lks_law.specs.Polls.{Station}
 use Rattle.lks_law.specs.Reaction.{no_effect}
 use Rattle.lks_law.specs.References.{reference_list}
 use Rattle.lks_law.specs.Sessions.{Join, Commitment, join_of, commitment_of, hashes_of_vote, served_blocks}
-use Rattle.lks_law.specs.Sessions.{is_session, may_work, sessions, version_now}
-use Rattle.lks_law.specs.Voting.{answers, challenge, may_join, joins_poll, on_invitation, repeats, commits, proved_to}
+use Rattle.lks_law.specs.Sessions.{is_session, may_work, version_now}
+use Rattle.lks_law.specs.Voting.{may_join, on_invitation, repeats, commits, proved_to}
 use Rattle.lks_law.specs.Voting.{on_proof, casts_vote, on_work, most_served, gives, serves, answers_request}
 use Rattle.lks_law.specs.Voting.{on_request, on_end, may_tune, on_tune}
 use Rattle.lks_law.specs.Written.{MayFollow}
@@ -77,26 +76,23 @@ module _ (own : Station) (js : List Record) where
   pub invitation_adds : (tick : ℕ) (q : PollName) (au : ℕ) → VoterAdds js (on_invitation own js tick q au).records
   unfolding on_invitation may_join
   invitation_adds tick q au =
-      either_adds (is_session q js) (answers (challenge q true)) _ (λ runs. tt)
-      (λ closed. either_adds (may_join own js tick q au) (joins_poll own js tick q au) _ (λ may.
-      let parts = and_parts (not (is_some (join_of q js)) && is_some (deposit_of au js) && nat_lt (sessions js) 16)
+      either_adds (is_session q js) _ _ _ (λ closed. either_adds (may_join own js tick q au) _ _ (λ may.
+      let parts = and_parts _
       _ may in
-      let first = and_parts (not (is_some (join_of q js)) && is_some (deposit_of au js)) (nat_lt (sessions js) 16)
+      let first = and_parts _ _
       parts.0 in
-      let both = and_parts (not (is_some (join_of q js))) (is_some (deposit_of au js)) first.0 in
-      record { voters = tt; follows = (none_of (join_of q js) both.0, both.1) }) (λ no_place. tt))
+      let both = and_parts _ _ first.0 in
+      record { voters = tt; follows = (none_of _ both.0, both.1) }) _)
 
   pub proof_adds : (q : PollName) (nonce : List ℕ) (kind : HashKind) (judged : Judged)
       → VoterAdds js (on_proof own js q nonce kind judged).records
   unfolding on_proof
-  proof_adds q nonce kind judged =
-      if_adds (is_session q js) _ (λ runs. by_session runs (join_of q js) refl (commitment_of q js) refl)
+  proof_adds q nonce kind judged = if_adds _ _ (λ runs. by_session runs (join_of q js) refl (commitment_of q js) refl)
     where
       by_judged : is_session q js ≡ true → (j : Join) → join_of q js ≡ Some j → commitment_of q js ≡ None
           → (judged : Judged)
           → VoterAdds js (commits own (reference_list own js) q (version_now j.au js) nonce kind judged).records
-      by_judged runs j joins new Accepted =
-          record { voters = tt; follows = (runs, new, ap (option_map (λ j. version_now j.au js)) joins) }
+      by_judged runs j joins new Accepted = record { voters = tt; follows = (runs, new, ap (option_map _) joins) }
       by_judged runs j joins new Refused = record { voters = tt; follows = runs }
       by_judged runs j joins new NotAsked = tt
 
@@ -109,15 +105,12 @@ module _ (own : Station) (js : List Record) where
   may_vote_now : (q : PollName) → is_session q js ≡ true → (c : Commitment) → commitment_of q js ≡ Some c
       → hashes_of_vote q js ≡ None → may_work q js ≡ true
   unfolding may_work
-  may_vote_now q runs c ec eh =
-      and_from (is_session q js && is_some (commitment_of q js)) (not (is_some (hashes_of_vote q js)))
-      (and_from (is_session q js) (is_some (commitment_of q js)) runs (ap is_some ec)) (ap (λ o. not (is_some o)) eh)
+  may_vote_now q runs c ec eh = and_from _ _ (and_from _ _ runs (ap is_some ec)) (ap (λ o. not (is_some o)) eh)
 
   pub work_adds : (q : PollName) → VoterAdds js (on_work own js q).records
   unfolding on_work
   work_adds q =
-      if_adds (is_session q js) _
-      (λ runs. by_session runs (join_of q js) refl (commitment_of q js) refl (hashes_of_vote q js) refl)
+      if_adds _ _ (λ runs. by_session runs (join_of q js) refl (commitment_of q js) refl (hashes_of_vote q js) refl)
     where
       by_session : is_session q js ≡ true → (j : Option Join) → join_of q js ≡ j → (c : Option Commitment)
           → commitment_of q js ≡ c → (h : Option (List (List ℕ))) → hashes_of_vote q js ≡ h
@@ -130,14 +123,12 @@ module _ (own : Station) (js : List Record) where
   pub request_adds : (q : PollName) (b : ℕ) → VoterAdds js (on_request own js q b).records
   unfolding on_request
   request_adds q b =
-      if_adds (is_session q js) _
-      (λ runs. by_session runs (join_of q js) (commitment_of q js) (hashes_of_vote q js) refl)
+      if_adds _ _ (λ runs. by_session runs (join_of q js) (commitment_of q js) (hashes_of_vote q js) refl)
     where
       by_block : is_session q js ≡ true → is_some (hashes_of_vote q js) ≡ true → (j : Join) (o : Option (List ℕ))
           → VoterAdds js (serves q b (most_served own.rules j.repairs) (served_blocks q js) o).records
       by_block runs voted j None = tt
-      by_block runs voted j (Some bytes) =
-          by_answer (answer_of (served_blocks q js) b (most_served own.rules j.repairs))
+      by_block runs voted j (Some bytes) = by_answer (answer_of _ b _)
         where
           by_answer : (a : Serve) → VoterAdds js (gives q b bytes a).records
           by_answer First = record { voters = tt; follows = (runs, voted) }
@@ -149,8 +140,7 @@ module _ (own : Station) (js : List Record) where
       by_session runs None c h eh = tt
       by_session runs (Some j) None h eh = tt
       by_session runs (Some j) (Some c) None eh = tt
-      by_session runs (Some j) (Some c) (Some h) eh =
-          by_block runs (ap is_some eh) j (slice_get (contents_at j.au c.version js) b)
+      by_session runs (Some j) (Some c) (Some h) eh = by_block runs (ap is_some eh) j (slice_get _ b)
 
   pub end_adds : (q : PollName) → VoterAdds js (on_end js q).records
   unfolding on_end
@@ -158,11 +148,11 @@ module _ (own : Station) (js : List Record) where
 
   pub tune_adds : (quorum minority repairs : ℕ) → VoterAdds js (on_tune own quorum minority repairs).records
   unfolding on_tune may_tune
-  tune_adds quorum minority repairs = if_adds (may_tune own.rules quorum minority repairs) _ (λ may.
+  tune_adds quorum minority repairs = if_adds _ _ (λ may.
       let some = and_parts (nat_le 1 quorum && nat_le quorum own.rules.inner && obeys_quorum_rule quorum minority)
       (nat_le repairs MOST_REPAIRS) may in
       record {
-        voters = (and_parts (nat_le 1 quorum && nat_le quorum own.rules.inner)
-            (obeys_quorum_rule quorum minority) some.0).1;
+        voters = (and_parts _
+            _ some.0).1;
         follows = tt;
       })

@@ -26,7 +26,7 @@ use Rattle.lks_law.specs.Sessions.{is_session, version_now}
 use Rattle.lks_law.specs.State.{State, copy_at, state_of}
 use Rattle.lks_law.specs.Table.{on_message, reaction, receive_in, react_on}
 use Rattle.lks_law.specs.Taking.{session_at, pinned_at, cast_at}
-use Rattle.lks_law.specs.Voting.{poll_named, answers, adds, adds_only, draw_number, challenge, grade_of_poller}
+use Rattle.lks_law.specs.Voting.{answers, adds, adds_only, draw_number, challenge, grade_of_poller}
 use Rattle.lks_law.specs.Voting.{may_join, joins_poll, on_invitation, commits, commits_again, proved_to, on_proof}
 use Rattle.lks_law.specs.Voting.{casts_vote, on_work, answers_request, on_request, on_end}
 use Rattle.lks_law.specs.Written.{AreWritten}
@@ -138,8 +138,7 @@ module _ (own : Station) (js : List Record) (s : State) (is : Stands own js s) w
       by_test false e = λ i.
           cond (may_join_is tick q au e i)
           (adds (records.Joined q au tick (is_low (grade_is q.poller i)) (Some (is.numbers i).repairs))
-          (challenge q true))
-          (answers (challenge q false))
+          (challenge q true)) (answers (challenge q false))
 
   -- A proof of the poller's effort.
 
@@ -158,7 +157,7 @@ module _ (own : Station) (js : List Record) (s : State) (is : Stands own js s) w
       (λ i. proof_at own s.copies (is.refs i) q nonce kind judged (session_is q i) (pinned_is q i) (cast_is q i))
       ∙ by_phase (join_of q js) refl (commitment_of q js) (hashes_of_vote q js) (is_ended q js)
       ∙ ap (λ r. cond (is_some (join_of q js) && not (is_ended q js)) r no_effect)
-      (proved_is own js q nonce kind judged (join_of q js) (commitment_of q js))
+      (proved_is own js q nonce kind judged _ _)
     where
       refs : List ℕ
       refs = reference_list own js
@@ -223,14 +222,14 @@ module _ (own : Station) (js : List Record) (s : State) (is : Stands own js s) w
 
   message_is : (tick from : ℕ) (m : Message) (judged : Judged)
       → receive_in own s tick from m judged ≡ on_message own js tick from m judged
-  message_is tick from (message.Poll n au) judged = invitation_is tick (poll_named from n) au
+  message_is tick from (message.Poll n au) judged = invitation_is tick _ au
   message_is tick from (message.PollChallenge n agrees) judged = challenge_is own js s is from n agrees
-  message_is tick from (message.PollProof n nonce kind proof) judged = proof_is (poll_named from n) nonce kind judged
+  message_is tick from (message.PollProof n nonce kind proof) judged = proof_is _ nonce kind judged
   message_is tick from (message.Nominate n nominees) judged = nominate_is own js s is from n nominees
   message_is tick from (message.Vote n hashes proof) judged = vote_row own js s is from n hashes judged
-  message_is tick from (message.RepairRequest n b) judged = request_is (poll_named from n) b
+  message_is tick from (message.RepairRequest n b) judged = request_is _ b
   message_is tick from (message.Repair n b bytes) judged = repair_is own js s is from n b bytes
-  message_is tick from (message.Receipt n) judged = end_is (poll_named from n)
+  message_is tick from (message.Receipt n) judged = end_is _
 
   reacts : (tick : ℕ) (i : Input) → react_on own s tick i ≡ reaction own js tick i
   unfolding react_on reaction
@@ -248,4 +247,4 @@ module _ (own : Station) (js : List Record) (s : State) (is : Stands own js s) w
 
 pub law : (own : Station) (journal : List Record) → AreWritten [] journal → (tick : ℕ) (i : Input)
     → react_on own (state_of own journal) tick i ≡ reaction own journal tick i
-law own journal written tick i = reacts own journal (state_of own journal) (state_stands own journal written) tick i
+law own journal written tick i = reacts own journal _ (state_stands own journal written) tick i

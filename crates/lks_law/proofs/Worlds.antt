@@ -31,7 +31,7 @@ use Rattle.lks_law.specs.Polls.{Station}
 use Rattle.lks_law.specs.World.{Standing, World, Deed, got, delivers, own_deed_of, deed_of, peer_at, with_records}
 use Rattle.lks_law.specs.World.{sent_by, reaction_at, peers_after, letters_sent, after_step, happens, happen_all}
 use Rattle.lks_law.specs.Table.{reaction}
-use Rattle.lks_law.proofs.Linked.{Each, Any, Heard, IsSpelling, IsFrom, Fact}
+use Rattle.lks_law.proofs.Linked.{Each, Any, Heard, IsFrom, Fact}
 use Rattle.lks_law.proofs.Growing.{opening_first, each_append, each_map, IsLater, openings_grow, IsBegun, begun_more}
 use Rattle.lks_law.proofs.Linking.{GrowsTo, Grows, any_grows, heard_grows, fact_grows, at_own, extended, at_after}
 use Rattle.lks_law.proofs.Linking.{peers_grow, AreApart, apart_after}
@@ -73,7 +73,7 @@ single_more : {X : Type 0} (has : Record → Option X) (js added : List Record)
     → length (filter_map has js) ≤ 1 → length (filter_map has (js ++ added)) ≤ 1
 single_more {X = X} has js added fresh few was =
     let all = ap length (filter_map-append has js added)
-    ∙ length-append (filter_map has js) (filter_map has added) in by_few added fresh few all
+    ∙ length-append _ _ in by_few added fresh few all
   where
     none : (rs : List Record) → Each (λ r. has r ≡ None) rs → length (filter_map has rs) ≡ 0
     none [] e = refl
@@ -116,23 +116,20 @@ module _ (peers : List Standing) (own : Station) (js after : List Record) where
       → first_in (join_in q) js ≡ None
   unfolding join_of
   new_join q (records.Joined p au tick low repairs) may j e =
-      by_name (is_poll p q) (record { au = au; tick = tick; low = low; repairs = repairs }) j p q
-      (λ x. join_of x js ≡ None) refl e may.0
+      by_name _ _ j p q (λ x. join_of x js ≡ None) refl e may.0
   new_join q r may j e = absurd cc
 
   new_commitment : (q : PollName) (r : Record) → MayAdd peers own js after r → (c : Commitment)
       → commitment_in q r ≡ Some c → first_in (commitment_in q) js ≡ None
   unfolding commitment_of
   new_commitment q (records.Committed p nonce version kind) may c e =
-      by_name (is_poll p q) (record { nonce = nonce; version = version; kind = kind }) c p q
-      (λ x. commitment_of x js ≡ None) refl e may.0
+      by_name _ _ c p q (λ x. commitment_of x js ≡ None) refl e may.0
   new_commitment q r may c e = absurd cc
 
   new_vote : (q : PollName) (r : Record) → MayAdd peers own js after r → (h : List (List ℕ))
       → hashes_in q r ≡ Some h → first_in (hashes_in q) js ≡ None
   unfolding hashes_of_vote
-  new_vote q (records.Voted p hashes) may h e =
-      by_name (is_poll p q) hashes h p q (λ x. hashes_of_vote x js ≡ None) refl e may.0
+  new_vote q (records.Voted p hashes) may h e = by_name _ hashes h p q (λ x. hashes_of_vote x js ≡ None) refl e may.0
   new_vote q r may h e = absurd cc
 
 none_of_opening : (n : ℕ) (r : Record) → IsCommon r → opening_in n r ≡ None
@@ -161,16 +158,16 @@ single_after : (peers : List Standing) (own : Station) (js : List Record) (r : R
     → IsSingle js → IsSingle (js ++ r.records)
 single_after peers own js r does is = record {
   openings_are =
-      λ n. more (opening_in n) (λ x may. new_opening peers own js (js ++ r.records) n x may) (none_of_opening n)
+      λ n. more (opening_in n) (λ x may. new_opening peers own js _ n x may) (none_of_opening n)
       (is.openings_are n);
   joins =
-      λ q. more (join_in q) (λ x may. new_join peers own js (js ++ r.records) q x may) (none_of_join q)
+      λ q. more (join_in q) (λ x may. new_join peers own js _ q x may) (none_of_join q)
       (is.joins q);
   commitments =
-      λ q. more (commitment_in q) (λ x may. new_commitment peers own js (js ++ r.records) q x may)
+      λ q. more (commitment_in q) (λ x may. new_commitment peers own js _ q x may)
       (none_of_commitment q) (is.commitments q);
   votes =
-      λ q. more (hashes_in q) (λ x may. new_vote peers own js (js ++ r.records) q x may) (none_of_vote q)
+      λ q. more (hashes_in q) (λ x may. new_vote peers own js _ q x may) (none_of_vote q)
       (is.votes q);
 }
   where
@@ -178,7 +175,7 @@ single_after peers own js r does is = record {
         → (length r.records ≤ 1) ⊎ Each IsCommon r.records
         → (length r.records ≤ 1) ⊎ Each (λ x. has x ≡ None) r.records
     common has none (inl short) = inl short
-    common has none (inr all) = inr (each_map IsCommon (λ x. has x ≡ None) r.records none all)
+    common has none (inr all) = inr (each_map IsCommon _ r.records none all)
 
     more : {X : Type 0} (has : Record → Option X)
         → ((x : Record) → MayAdd peers own js (js ++ r.records) x → (y : X) → has x ≡ Some y
@@ -186,10 +183,7 @@ single_after peers own js r does is = record {
         → ((x : Record) → IsCommon x → has x ≡ None)
         → length (filter_map has js) ≤ 1 → length (filter_map has (js ++ r.records)) ≤ 1
     more {X = X} has fresh none was =
-        single_more has js r.records
-        (each_map (MayAdd peers own js (js ++ r.records))
-        (λ x. (y : X) → has x ≡ Some y → first_in has js ≡ None) r.records fresh does.adds_all)
-        (common has none does.few) was
+        single_more has js r.records (each_map _ _ r.records fresh does.adds_all) (common has none does.few) was
 
 -- of a peer, after so many events
 pub record IsSound (peers : List Standing) (k : ℕ) (s : Standing) : Type 0 where
@@ -234,8 +228,7 @@ sound_later peers later k s g is =
     let few = is.few in
     record {
       records = subst (λ js. Each (Fact later s.own js) js) (append-nil s.journal)
-          (each_append (Fact later s.own (s.journal ++ [])) s.journal []
-          (each_map (Fact peers s.own s.journal) (Fact later s.own (s.journal ++ [])) s.journal
+          (each_append _ s.journal [] (each_map _ _ s.journal
           (λ r fact. fact_grows peers later s.own s.journal [] g tt r fact) is.records) tt);
       few = omega (arith, few);
       proof = is.proof;
@@ -249,16 +242,16 @@ sound_grown : (peers later : List Standing) (k : ℕ) (s : Standing) (r : Reacti
     → IsSound later (k + 1) (record { own = s.own; journal = s.journal ++ r.records })
 sound_grown peers later k s r g is does kept =
     let after = s.journal ++ r.records in
-    let is_later = each_map (MayAdd peers s.own s.journal after) IsLater r.records
+    let is_later = each_map _ IsLater r.records
     (λ x may. may_later peers s.own s.journal after x may) does.adds_all in
     let few = is.few in
     let one = does.one in
     let all = openings_grow s.journal r.records in
     record {
-      records = each_append (Fact later s.own after) s.journal r.records
-          (each_map (Fact peers s.own s.journal) (Fact later s.own after) s.journal
+      records = each_append _ s.journal r.records
+          (each_map _ _ s.journal
           (λ x fact. fact_grows peers later s.own s.journal r.records g is_later x fact) is.records)
-          (each_map (MayAdd peers s.own s.journal after) (Fact later s.own after) r.records
+          (each_map _ _ r.records
           (λ x may. may_fact peers later s.own s.journal r.records g is_later x may) does.adds_all);
       few = omega (arith, few, one, all);
       proof = is.proof;
@@ -269,11 +262,10 @@ sound_grown peers later k s r g is does kept =
 
 from_later : (peers later : List Standing) (bag : List Envelope) → Grows peers later → Each (IsFrom peers) bag
     → Each (IsFrom later) bag
-from_later peers later bag g all = each_map (IsFrom peers) (IsFrom later) bag (λ e from. record {
-  heard = λ m reads. heard_grows (peer_at e.from peers) (peer_at e.from later) e.to m (g e.from) (from.heard m reads);
+from_later peers later bag g all = each_map _ _ bag (λ e from. record {
+  heard = λ m reads. heard_grows _ _ e.to m (g e.from) (from.heard m reads);
   spelled =
-      any_grows (λ s. IsSpelling e.bytes) (λ s. IsSpelling e.bytes) (peer_at e.from peers) (peer_at e.from later)
-      (g e.from) (λ s t more is. is) from.spelled;
+      any_grows _ _ _ _ (g e.from) (λ s t more is. is) from.spelled;
 }) all
 
 record Stepped (peers later : List Standing) (sent : List Envelope) (k : ℕ) : Type 0 where
@@ -314,7 +306,7 @@ module _ (peers : List Standing) (k tick : ℕ)
       sent_from later t at (o ∷ os) all = (
         record {
           heard = λ m reads. subst (λ x. Heard x o.to m) (sym at) (reads_so t.journal o all.0 m reads);
-          spelled = subst (Any (λ (s : Standing). IsSpelling o.bytes)) (sym at) (is_spelling t.journal o all.0);
+          spelled = subst (Any _) (sym at) (is_spelling t.journal o all.0);
         },
         sent_from later t at os all.1,
       )
@@ -323,11 +315,11 @@ module _ (peers : List Standing) (k tick : ℕ)
           → Stepped peers (with_records d.peer (reaction_at tick a d.input).records peers)
           (map (sent_by d.peer) (reaction_at tick a d.input).sends) k
       by_actor None none =
-          let g : Grows peers (with_records d.peer [] peers) = peers_grow d.peer [] peers tt in
+          let g : Grows peers _ = peers_grow d.peer [] peers tt in
           record {
             grows = g;
             each =
-                λ id s at. sound_later peers (with_records d.peer [] peers) k s g
+                λ id s at. sound_later peers _ k s g
                 (each id s
                 (sym (nobody (eqb d.peer id) (peer_at id peers)) ∙ sym (at_after id d.peer [] peers) ∙ at));
             bagged = tt;
@@ -336,8 +328,8 @@ module _ (peers : List Standing) (k tick : ℕ)
           let r = reaction a.own a.journal tick d.input in
           let later = with_records d.peer r.records peers in
           let does = does_at d.input d.peer a at known in
-          let is_later = each_map (MayAdd peers a.own a.journal (a.journal ++ r.records)) IsLater r.records
-          (λ x may. may_later peers a.own a.journal (a.journal ++ r.records) x may) does.adds_all in
+          let is_later = each_map _ IsLater r.records
+          (λ x may. may_later peers a.own a.journal _ x may) does.adds_all in
           let g : Grows peers later = peers_grow d.peer r.records peers is_later in
           let grown : Standing = record { own = a.own; journal = a.journal ++ r.records } in
           let actor : peer_at d.peer later
@@ -361,21 +353,21 @@ module _ (peers : List Standing) (k tick : ℕ)
           by_id later g does id s b same None was is = absurd cc
           by_id later g does id s true same (Some p) was is =
               let actor : a ≡ p = only a p (sym at ∙ ap (λ n. peer_at n peers) (eqb-true d.peer id same) ∙ was) in
-              let sound : IsSound later (k + 1)
-              (record { own = a.own; journal = a.journal ++ the.records }) = sound_grown peers later k a the g
+              let sound : IsSound later _
+              _ = sound_grown peers later k a the g
               (each d.peer a at) does (kept_reaction a.own a.journal tick d.input (each d.peer a at).kept) in
               let grown : (λ (x : Standing). IsSound later (k + 1)
               (record { own = x.own; journal = x.journal ++ the.records })) p = subst
               (λ (x : Standing). IsSound later (k + 1)
               (record { own = x.own; journal = x.journal ++ the.records })) actor sound in
-              subst (IsSound later (k + 1)) (only (record { own = p.own; journal = p.journal ++ the.records }) s is)
+              subst (IsSound later _) (only (record { own = p.own; journal = p.journal ++ the.records }) s is)
               grown
             where
               only : (x y : Standing) → Some x ≡ Some y → x ≡ y
               only x y e = cc
           by_id later g does id s false same (Some p) was is =
               let same : p ≡ s = cc in
-              subst (IsSound later (k + 1)) same (sound_later peers later k p g (each id p was))
+              subst (IsSound later _) same (sound_later peers later k p g (each id p was))
 
 -- What a delivery gives was sent so.
 
@@ -400,8 +392,7 @@ given_known peers judged (Some e) from = by_message (decode_of e.bytes) refl
 deed_known : (peers : List Standing) (bag : List Envelope) (s : PeerStep) → Each (IsFrom peers) bag
     → Any (KnownDeed peers) (deed_of bag s)
 unfolding deed_of own_deed_of
-deed_known peers bag (step.Deliver i judged) all =
-    given_known peers judged (slice_get bag i) (place_of (IsFrom peers) bag i all)
+deed_known peers bag (step.Deliver i judged) all = given_known peers judged _ (place_of _ bag i all)
 deed_known peers bag (step.OpenPoll peer au) all = tt
 deed_known peers bag (step.Widen peer n) all = tt
 deed_known peers bag (step.Shut peer n) all = tt
@@ -446,8 +437,8 @@ module _ (corrupt : ℕ → Bool) where
       → Holds corrupt (after_step w s out) (k + 1)
   unfolding after_step
   step_holds w k s out room holds =
-      let all = sends_hold w k (deed_of w.bag s) (deed_known w.peers w.bag s holds.linked.bagged) room holds in
-      let later = peers_after w.tick w.peers (deed_of w.bag s) in
+      let all = sends_hold w k _ (deed_known w.peers w.bag s holds.linked.bagged) room holds in
+      let later = peers_after w.tick w.peers _ in
       record {
         linked =
             record {
@@ -485,7 +476,7 @@ module _ (corrupt : ℕ → Bool) where
       → peer_at from peers ≡ None → IsFrom peers (record { from = from; to = to; bytes = bytes })
   forged from to bytes asks nobody = record {
     heard = λ m reads. subst (λ o. Heard o to m) (sym nobody) ((read_spells bytes m asks.1 reads).0, tt);
-    spelled = subst (Any (λ (s : Standing). IsSpelling bytes)) (sym nobody) tt;
+    spelled = subst (Any _) (sym nobody) tt;
   }
 
   happens_holds : (w : World) (k : ℕ) (e : Event) → ForgesSo corrupt e → HasRoom k → Holds corrupt w k
@@ -505,8 +496,7 @@ module _ (corrupt : ℕ → Bool) where
         linked = record {
           each = still.linked.each;
           bagged =
-              each_append (IsFrom w.peers) w.bag _ still.linked.bagged
-              (forged from to bytes asks (holds.outside from asks.0), tt);
+              each_append _ w.bag _ still.linked.bagged (forged from to bytes asks (holds.outside from asks.0), tt);
         };
         outside = still.outside;
         apart = still.apart;
@@ -517,6 +507,6 @@ module _ (corrupt : ℕ → Bool) where
   all_hold w k [] asks few holds = subst (Holds corrupt w) (omega arith) holds
   all_hold w k (e ∷ es) asks few holds =
       let longer : k + 1 + length es ≡ k + length (e ∷ es) = omega arith in
-      subst (Holds corrupt (happen_all (happens w e) es)) longer
-      (all_hold (happens w e) (k + 1) es asks.1 (omega (arith, longer, few))
+      subst (Holds corrupt _) longer
+      (all_hold (happens w e) _ es asks.1 (omega (arith, longer, few))
       (happens_holds w k e asks.0 (omega (arith, few)) holds))

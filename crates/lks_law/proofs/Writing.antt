@@ -28,8 +28,8 @@ use Rattle.lks_law.specs.Journal.{Opening, Request, opening_of, openings, is_ope
 use Rattle.lks_law.specs.Journal.{is_voting, is_shut, is_widened, asks_any, shuts, unanswered_after}
 use Rattle.lks_law.specs.Journal.{unanswered_request}
 use Rattle.lks_law.specs.Polls.{Station, verdict_in, candidate, restores}
-use Rattle.lks_law.specs.Reaction.{no_effect, for_opening, may_open, opens_poll, on_open, invites_outer, on_widen}
-use Rattle.lks_law.specs.Reaction.{is_inquorate, shut_inquorate, ends_voting, on_shut, may_tally, closes_poll}
+use Rattle.lks_law.specs.Reaction.{no_effect, for_opening, may_open, on_open, invites_outer, on_widen}
+use Rattle.lks_law.specs.Reaction.{is_inquorate, shut_inquorate, on_shut, may_tally, closes_poll}
 use Rattle.lks_law.specs.Reaction.{asks_supplier, follows_verdict, on_tally, must_note, overdue_in, on_check}
 use Rattle.lks_law.specs.Reaction.{reminds_silent, asked_again, on_nudge, given_up, on_give_up, may_prove}
 use Rattle.lks_law.specs.Reaction.{sends_proof, on_challenge, may_nominate, notes_nominees, on_nominate, is_accepted}
@@ -77,13 +77,12 @@ pub written_more : (before js : List Record) (r : Record) → AreWritten before 
 written_more before [] r written follows = (subst (λ front. MayFollow front r) (append-nil before) follows, tt)
 written_more before (j ∷ js) r written follows = (
   written.0,
-  written_more (before ++ j ∷ []) js r written.1
-      (subst (λ front. MayFollow front r) (sym (append_assoc before (j ∷ []) js)) follows),
+  written_more _ js r written.1
+      (subst (λ front. MayFollow front r) (sym (append_assoc before _ js)) follows),
 )
 
 named_more : (js : List Record) (r : Record) → IsNamed js → MayAdd js r → IsNamed (js ++ r ∷ [])
-named_more js r named may n e =
-    by_test (list_any (is_of n) js) refl (sym (list_any-append (is_of n) js (r ∷ [])) ∙ e)
+named_more js r named may n e = by_test (list_any _ js) refl (sym (list_any-append _ js _) ∙ e)
   where
     last : (b : Bool) → (b || false) ≡ true → b ≡ true
     last true e = refl
@@ -92,7 +91,7 @@ named_more js r named may n e =
     by_test : (b : Bool) → list_any (is_of n) js ≡ b → (b || (is_of n r || false)) ≡ true → n ≤ openings (js ++ r ∷ [])
     by_test true was e =
         let low = named n was in
-        let count : openings (js ++ r ∷ []) ≡ openings js + cond (is_opening r) 1 0 = openings_more js r in
+        let count : openings _ ≡ openings js + cond (is_opening r) 1 0 = openings_more js r in
         omega (arith, low, count)
     by_test false was e = may.named n (last (is_of n r) e)
 
@@ -136,7 +135,7 @@ proper_more js r proper may = record {
 proper_all : (js added : List Record) → Proper js → MayAll js added → Proper (js ++ added)
 proper_all js [] proper may = subst Proper (sym (append-nil js)) proper
 proper_all js (r ∷ rs) proper may =
-    subst Proper (append_assoc js (r ∷ []) rs) (proper_all (js ++ r ∷ []) rs (proper_more js r proper may.0) may.1)
+    subst Proper (append_assoc js _ rs) (proper_all _ rs (proper_more js r proper may.0) may.1)
 
 -- Records of a poll that was opened, with their numbers or without.
 
@@ -160,7 +159,7 @@ module _ (own : Station) (js : List Record) (proper : Proper js) where
   low_in n o r opened names m e =
       let same : n ≡ m = eqb-true n m (sym (names m) ∙ e) in
       let low = low_of n o opened in
-      let count : openings (js ++ r ∷ []) ≡ openings js + cond (is_opening r) 1 0 = openings_more js r in
+      let count : openings _ ≡ openings js + cond (is_opening r) 1 0 = openings_more js r in
       omega (arith, same, low, count)
 
   -- a record that only names a poll that was opened
@@ -171,8 +170,7 @@ module _ (own : Station) (js : List Record) (proper : Proper js) where
 
   opened_when : (n : ℕ) → is_running n js ≡ true → (o : Opening) × (opening_of n js ≡ Some o)
   unfolding is_running
-  opened_when n runs =
-      by_opening (opening_of n js) refl (and_parts (is_some (opening_of n js)) (not (is_closed n js)) runs).0
+  opened_when n runs = by_opening (opening_of n js) refl (and_parts _ _ runs).0
     where
       by_opening : (o : Option Opening) → opening_of n js ≡ o → is_some o ≡ true
           → (o : Opening) × (opening_of n js ≡ Some o)
@@ -187,7 +185,7 @@ module _ (own : Station) (js : List Record) (proper : Proper js) where
     where
       by_request : (r : Option Request) → unanswered_request n js ≡ r → r ≡ None
       by_request None e = refl
-      by_request (Some r) e = absurd (both_ways (is_shut n js) voting (proper.waits n (ap is_some e)))
+      by_request (Some r) e = absurd (both_ways _ voting (proper.waits n (ap is_some e)))
 
   if_may : (b : Bool) (r : Reaction) → (b ≡ true → MayBoth js r.records) → MayBoth js (cond b r no_effect).records
   if_may true r may = may refl
@@ -201,10 +199,10 @@ module _ (own : Station) (js : List Record) (proper : Proper js) where
   opening_may : (au : ℕ) (nonce inner : List ℕ) (tick : ℕ) (limits : Option Limits) (kind : HashKind)
       → MayAdd js (records.PollOpened (openings js + 1) au nonce inner tick limits kind)
   opening_may au nonce inner tick limits kind = record {
-    follows = by_test (list_any (is_of (openings js + 1)) js) refl;
+    follows = by_test (list_any _ js) refl;
     named = λ n e.
-        let same : openings js + 1 ≡ n = eqb-true (openings js + 1) n e in
-        let count : openings (js ++ records.PollOpened (openings js + 1) au nonce inner tick limits kind ∷ [])
+        let same : openings js + 1 ≡ n = eqb-true _ n e in
+        let count : openings _
         ≡ openings js
         + 1 = openings_more js (records.PollOpened (openings js + 1) au nonce inner tick limits kind) in
         omega (arith, same, count);
@@ -212,12 +210,12 @@ module _ (own : Station) (js : List Record) (proper : Proper js) where
   }
     where
       by_test : (b : Bool) → list_any (is_of (openings js + 1)) js ≡ b → b ≡ false
-      by_test true e = absurd (let low = proper.named (openings js + 1) e in omega (arith, low))
+      by_test true e = absurd (let low = proper.named _ e in omega (arith, low))
       by_test false e = refl
 
   open_may : (tick au : ℕ) → MayBoth js (on_open own js tick au).records
   unfolding on_open
-  open_may tick au = if_may (may_open own js tick au) (opens_poll own js tick au (openings js + 1)) (λ may. (
+  open_may tick au = if_may (may_open own js tick au) _ (λ may. (
     (opening_may au _ _ tick _ own.hash, tt),
     (opening_may au _ _ tick _ own.hash, tt),
   ))
@@ -225,26 +223,23 @@ module _ (own : Station) (js : List Record) (proper : Proper js) where
   widen_may : (n : ℕ) → MayBoth js (on_widen own js n).records
   unfolding on_widen
   widen_may n =
-      if_may (is_voting n js && not (is_widened n js)) (for_opening (opening_of n js) (invites_outer own js n))
-      (λ may.
-      at_opening (opening_of n js) (invites_outer own js n)
+      if_may _ (for_opening (opening_of n js) (invites_outer own js n)) (λ may. at_opening _ _
       (λ o opened. alike js (invites_outer own js n o).records refl
       (one_may n o _ opened tt (λ m. refl) (λ m e. absurd cc), tt)))
 
   shut_may : (tick n : ℕ) → MayBoth js (on_shut own js tick n).records
   unfolding on_shut
-  shut_may tick n = if_may (is_voting n js) (for_opening (opening_of n js) (ends_voting own js tick n)) (λ voting.
-      at_opening (opening_of n js) (ends_voting own js tick n)
-      (λ o opened. by_quorum (is_inquorate own n o js) o opened (voting_parts n js voting)))
+  shut_may tick n = if_may _ _ (λ voting.
+      at_opening _ _ (λ o opened. by_quorum (is_inquorate own n o js) o opened (voting_parts n js voting)))
     where
       first : (o : Opening) → opening_of n js ≡ Some o → MayAdd js (records.Shut n)
-      first o opened = one_may n o (records.Shut n) opened tt (λ m. refl) (λ m e. absurd cc)
+      first o opened = one_may n o _ opened tt (λ m. refl) (λ m e. absurd cc)
 
       second : (o : Opening) → opening_of n js ≡ Some o → (is_closed n js ≡ false) × (is_shut n js ≡ false)
           → MayAdd (js ++ records.Shut n ∷ []) (records.Closed n outcome.Inquorate tick)
       second o opened voting = record {
         follows =
-            (closed_more n js (records.Shut n) ∙ voting.0, unanswered_more n js (records.Shut n) ∙ free n voting.1);
+            (closed_more n js _ ∙ voting.0, unanswered_more n js _ ∙ free n voting.1);
         named = λ m e.
             let same : n ≡ m = eqb-true n m e in
             let low = low_of n o opened in
@@ -265,33 +260,27 @@ module _ (own : Station) (js : List Record) (proper : Proper js) where
 
   tally_may : (tick n : ℕ) → MayBoth js (on_tally own js tick n).records
   unfolding on_tally closes_poll is_running
-  tally_may tick n =
-      if_may (may_tally n js)
-      (for_opening (opening_of n js) (λ o. follows_verdict own js tick n o (verdict_in own n o js))) (λ may.
-      at_opening (opening_of n js) (λ o. follows_verdict own js tick n o (verdict_in own n o js)) (λ o opened.
-      by_verdict may o opened (verdict_in own n o js)))
+  tally_may tick n = if_may _ _ (λ may. at_opening _ _ (λ o opened. by_verdict may o opened (verdict_in own n o js)))
     where
       closes : may_tally n js ≡ true → (o : Opening) → opening_of n js ≡ Some o → (how : Outcome)
           → MayBoth js (closes_poll js tick n how).records
       closes may o opened how =
           let parts = tally_parts n js may in
           alike js (closes_poll js tick n how).records refl (
-            one_may n o (records.Closed n how tick) opened (parts.runs, parts.free) (λ m. refl)
+            one_may n o _ opened (parts.runs, parts.free) (λ m. refl)
                 (λ m e. absurd cc),
             tt,
           )
 
       runs : may_tally n js ≡ true → (o : Opening) → opening_of n js ≡ Some o → is_running n js ≡ true
-      runs may o opened =
-          and_from (is_some (opening_of n js)) (not (is_closed n js)) (ap is_some opened)
-          (not_from_false (is_closed n js) (tally_parts n js may).runs)
+      runs may o opened = and_from _ _ (ap is_some opened) (not_from_false _ (tally_parts n js may).runs)
 
       by_candidate : may_tally n js ≡ true → (o : Opening) → opening_of n js ≡ Some o → (b : ℕ) (v : Option ℕ)
           → MayBoth js (asks_supplier js tick n b v).records
       by_candidate may o opened b None = closes may o opened (outcome.NoSupplier b)
       by_candidate may o opened b (Some v) =
           alike js (asks_supplier js tick n b (Some v)).records refl (
-            one_may n o (records.Asked n b v) opened (runs may o opened) (λ m. refl)
+            one_may n o _ opened (runs may o opened) (λ m. refl)
                 (λ m e. ap (λ k. is_shut k js) (sym (eqb-true n m e)) ∙ (tally_parts n js may).over),
             tt,
           )
@@ -312,7 +301,7 @@ module _ (own : Station) (js : List Record) (proper : Proper js) where
       by_request (Some r) e =
           let found = idle n r e in
           alike js (given_up n (Some r)).records refl (
-            one_may n found.0 (records.RepairBad n r.block r.voter) found.1 tt (λ m. refl) (λ m e. absurd cc),
+            one_may n found.0 _ found.1 tt (λ m. refl) (λ m e. absurd cc),
             tt,
           )
 
@@ -328,7 +317,7 @@ module _ (own : Station) (js : List Record) (proper : Proper js) where
           → MayBoth js
           (cond b (for_opening (opening_of n js) (reminds_silent js n))
           (asked_again n (unanswered_request n js))).records
-      either true = at_opening (opening_of n js) (reminds_silent js n) (λ o opened. (tt, tt))
+      either true = at_opening (opening_of n js) _ _
       either false = by_request (unanswered_request n js)
 
   voter_may : (r : Record) → VoterMay js r → MayAdd js r
@@ -363,33 +352,28 @@ module _ (own : Station) (js : List Record) (proper : Proper js) where
   one_half (r ∷ s ∷ rs) may = absurd may
 
   voters_may : (rs : List Record) → VoterAdds js rs → MayBoth js rs
-  voters_may rs may = (one_half rs may, one_half (map unnumbered rs) (unnumbered_adds js rs may))
+  voters_may rs may = (one_half rs may, one_half _ (unnumbered_adds js rs may))
 
   message_may : (tick from : ℕ) (m : Message) (judged : Judged)
       → MayBoth js (on_message own js tick from m judged).records
   unfolding on_challenge on_nominate on_vote on_repair
   message_may tick from (message.PollChallenge n agrees) judged =
-      if_may (agrees && is_voting n js) (for_opening (opening_of n js) (sends_proof own js from n)) (λ may.
-      at_opening (opening_of n js) (sends_proof own js from n)
+      if_may _ (for_opening (opening_of n js) (sends_proof own js from n)) (λ may. at_opening (opening_of n js) _
       (λ o opened. if_may (may_prove js from n o) _ (λ e. (tt, tt))))
   message_may tick from (message.Nominate n nominees) judged =
       if_may (is_voting n js && not (is_widened n js))
       (for_opening (opening_of n js) (notes_nominees js from n nominees)) (λ may.
-      at_opening (opening_of n js) (notes_nominees js from n nominees) (λ o opened.
-      if_may (may_nominate js from n o) _ (λ e.
+      at_opening _ (notes_nominees js from n nominees) (λ o opened. if_may (may_nominate js from n o) _ (λ e.
       alike js (records.Nominated n from nominees ∷ []) refl
-      (one_may n o (records.Nominated n from nominees) opened tt (λ m. refl) (λ m e. absurd cc), tt))))
+      (one_may n o _ opened tt (λ m. refl) (λ m e. absurd cc), tt))))
   message_may tick from (message.Vote n hashes proof) judged =
       if_may (is_accepted judged && is_voting n js) (for_opening (opening_of n js) (counts_vote js from n hashes))
-      (λ may.
-      at_opening (opening_of n js) (counts_vote js from n hashes) (λ o opened.
-      if_may (may_vote js from n (length hashes) o) _ (λ e.
+      (λ may. at_opening (opening_of n js) _ (λ o opened. if_may (may_vote js from n (length hashes) o) _ (λ e.
       alike js (records.VoteIn n from hashes ∷ []) refl
-      (one_may n o (records.VoteIn n from hashes) opened tt (λ m. refl) (λ m e. absurd cc), tt))))
+      (one_may n o _ opened tt (λ m. refl) (λ m e. absurd cc), tt))))
   message_may tick from (message.Repair n b bytes) judged =
       if_may (may_repair js from n b) (for_opening (opening_of n js) (takes_repair own js from n b bytes)) (λ may.
-      at_opening (opening_of n js) (takes_repair own js from n b bytes)
-      (λ o opened. either (restores own n o b bytes js) o opened))
+      at_opening (opening_of n js) _ (λ o opened. either (restores own n o b bytes js) o opened))
     where
       either : (t : Bool) (o : Opening) → opening_of n js ≡ Some o
           → MayBoth js
@@ -397,14 +381,14 @@ module _ (own : Station) (js : List Record) (proper : Proper js) where
           (record { records = records.RepairBad n b from ∷ []; sends = [] })).records
       either true o opened =
           alike js (records.Replaced n o.au b bytes ∷ []) refl
-          (one_may n o (records.Replaced n o.au b bytes) opened tt (λ m. refl) (λ m e. absurd cc), tt)
+          (one_may n o _ opened tt (λ m. refl) (λ m e. absurd cc), tt)
       either false o opened =
           alike js (records.RepairBad n b from ∷ []) refl
           (one_may n o (records.RepairBad n b from) opened tt (λ m. refl) (λ m e. absurd cc), tt)
   message_may tick from (message.Poll n au) judged = voters_may _ (invitation_adds own js tick (poll_named from n) au)
   message_may tick from (message.PollProof n nonce kind proof) judged =
       voters_may _ (proof_adds own js (poll_named from n) nonce kind judged)
-  message_may tick from (message.RepairRequest n b) judged = voters_may _ (request_adds own js (poll_named from n) b)
+  message_may tick from (message.RepairRequest n b) judged = voters_may _ (request_adds own js _ b)
   message_may tick from (message.Receipt n) judged = voters_may _ (end_adds own js (poll_named from n))
 
 noted_may : (own : Station) (all js : List Record) (tick : ℕ) (aus : List AuPlan)
@@ -419,7 +403,7 @@ noted_may own all js tick (au ∷ aus) = first (must_note own all tick au.id) (�
         → MayBoth js
         (cons_option (cond b (Some (records.Overdue au.id tick)) None)
         (filter_map (overdue_in own all tick) aus))
-    first true rest = let later = rest (js ++ records.Overdue au.id tick ∷ []) in ((one, later.0), (one, later.1))
+    first true rest = let later = rest _ in ((one, later.0), (one, later.1))
     first false rest = rest js
 
 reaction_may : (own : Station) (js : List Record) (tick : ℕ) (i : Input) → Proper js
@@ -456,7 +440,7 @@ pub deposits_are : (aus : List AuPlan) (copies : List Holding) → list_all is_d
 unfolding deposits
 deposits_are [] copies = refl
 deposits_are (au ∷ aus) copies =
-    list_all-append is_deposit (filter_map (deposit_for au) copies) (deposits aus copies)
+    list_all-append is_deposit (filter_map _ copies) _
     ∙ ap (λ b. b && list_all is_deposit (deposits aus copies)) (held_are au copies) ∙ deposits_are aus copies
 
 deposits_written : (before js : List Record) → list_all is_deposit before ≡ true → list_all is_deposit js ≡ true
@@ -464,8 +448,8 @@ deposits_written : (before js : List Record) → list_all is_deposit before ≡ 
 deposits_written before [] all more = tt
 deposits_written before (records.Deposit au blocks ∷ js) all more = (
   all,
-  deposits_written (before ++ records.Deposit au blocks ∷ []) js
-      (list_all-append is_deposit before (records.Deposit au blocks ∷ []) ∙ ap (λ b. b && true) all) more,
+  deposits_written _ js
+      (list_all-append is_deposit before _ ∙ ap (λ b. b && true) all) more,
 )
 deposits_written before (j ∷ js) all more = absurd cc
 
@@ -483,8 +467,8 @@ none_waits n (j ∷ js) all = absurd cc
 proper_deposits : (js : List Record) → list_all is_deposit js ≡ true → Proper js
 proper_deposits js all = record {
   written = deposits_written [] js refl all;
-  named = λ n e. absurd (both_ways (list_any (is_of n) js) (none_named n js all) e);
-  waits = λ n e. absurd (both_ways (is_some (unanswered_request n js)) (ap is_some (none_waits n js all)) e);
+  named = λ n e. absurd (both_ways _ (none_named n js all) e);
+  waits = λ n e. absurd (both_ways _ (ap is_some (none_waits n js all)) e);
 }
 
 -- Every journal.
@@ -496,8 +480,7 @@ added_may own js h added may (inr lacks) = subst (MayAll js) (sym lacks.1) may.1
 
 proper_journal : (own : Station) (aus : List AuPlan) (copies : List Holding) (heard : List Heard) (js : List Record)
     → GoesBy own (deposits aus copies) heard js → Proper js
-proper_journal own aus copies [] js is =
-    subst Proper (sym is) (proper_deposits (deposits aus copies) (deposits_are aus copies))
+proper_journal own aus copies [] js is = subst Proper (sym is) (proper_deposits _ (deposits_are aus copies))
 proper_journal own aus copies (h ∷ hs) js (before, added, goes, heard, adds, is) =
     let proper = proper_journal own aus copies hs before goes in
     subst Proper (sym is)

@@ -1,16 +1,13 @@
 -- What is done at the place of the first element that passes.
-use Rattle.std.proofs.Common.{◌≡◌, ℕ, ◌==◌, Bool, cond, List, length, get_or, set, Option, Some, None, refl, sym, ap}
+use Rattle.std.proofs.Common.{◌≡◌, ℕ, ◌==◌, Bool, List, length, get_or, set, Option, Some, refl, sym, ap}
 use Rattle.std.specs.List.{find, position}
 use Rattle.std.specs.Prelude.{slice_get}
 use Rattle.std.proofs.lemmas.List.Quantifiers.{position-Some}
 use Rattle.std.proofs.lemmas.Option.{slice_get_read}
-use Rattle.lks_base.specs.declared.names.HashKind.{HashKind}
 use Rattle.lks_base.specs.declared.plans.AuPlan.{AuPlan}
 use Rattle.lks_base.specs.declared.plans.Holding.{Holding}
 use Rattle.lks_base.specs.declared.plans.PeerPlan.{PeerPlan}
-use Rattle.lks_lines.specs.declared.list_lines.ListKind.{ListKind}
 use Rattle.lks_words.specs.Numbers.{◌>>=◌}
-use Rattle.lks_lines.specs.ListLines.{lacks_list, with_list, is_list, peers_with_list, with_hash, hashing}
 use Rattle.lks_lines.specs.CopyLines.{may_hold, with_copies, copy_at, copies_with, holding, block_put, copy_damaged}
 use Rattle.lks_lines.specs.CopyLines.{peers_with_damage}
 
@@ -20,21 +17,6 @@ module _ {X Y : Type 0} (test : X → Bool) (xs : List X) (body : ℕ → X → 
   at_place at x found is =
       let within = (position-Some test xs at x found).0 in
       rw (found, slice_get_read xs (length xs) at x refl within is) refl
-
-pub listed_at : (kind : ListKind) (id : ℕ) (ids : List ℕ) (peers : List PeerPlan) (at : ℕ) (peer : PeerPlan)
-    → position (lacks_list kind id) peers ≡ Some at → peer ≡ get_or peers at peer
-    → peers_with_list kind id ids peers
-    ≡ cond (is_list peers id ids) (Some (set peers at (with_list kind peer ids))) None
-unfolding peers_with_list
-listed_at kind id ids peers =
-    at_place (lacks_list kind id) peers
-    (λ at peer. cond (is_list peers id ids) (Some (set peers at (with_list kind peer ids))) None)
-
-pub hashing_at : (id : ℕ) (hash : HashKind) (peers : List PeerPlan) (at : ℕ) (peer : PeerPlan)
-    → position (λ p. p.id == id) peers ≡ Some at → peer ≡ get_or peers at peer
-    → hashing id hash peers ≡ Some (set peers at (with_hash peer hash))
-unfolding hashing
-hashing_at id hash peers = at_place (λ p. p.id == id) peers (λ at peer. Some (set peers at (with_hash peer hash)))
 
 pub holding_at : (aus : List AuPlan) (bytes id : ℕ) (copy : Holding) (peers : List PeerPlan) (at : ℕ)
     (peer : PeerPlan)

@@ -278,7 +278,7 @@ module _ (d : PlanDraft) (ready : Ready d) (at : ℕ) (p q : PeerPlan) (there : 
       }
 
 -- the parts of a peer's rule
-pub record Parts (aus : List AuPlan) (peers before : List PeerPlan) (p : PeerPlan) : Type 0 where
+pub record PeerFacts (aus : List AuPlan) (peers before : List PeerPlan) (p : PeerPlan) : Type 0 where
   pub fit : is_fit p ≡ true
   pub new : has_peer before p.id ≡ false
   pub refs : each (member_fault peers p.id) [] p.refs ≡ None
@@ -286,7 +286,7 @@ pub record Parts (aus : List AuPlan) (peers before : List PeerPlan) (p : PeerPla
   pub copies : each (copy_fault aus) [] p.copies ≡ None
 
 pub parted : (aus : List AuPlan) (peers before : List PeerPlan) (p : PeerPlan)
-    → peer_fault aus peers before p ≡ None → Parts aus peers before p
+    → peer_fault aus peers before p ≡ None → PeerFacts aus peers before p
 unfolding peer_fault
 parted aus peers before p e =
     let after_fit = no_second (unless (is_fit p) Bounds) _ e in
@@ -303,7 +303,7 @@ parted aus peers before p e =
       copies = no_second (each (member_fault peers p.id) [] p.friends) _ after_refs;
     }
 
-joined : (aus : List AuPlan) (peers before : List PeerPlan) (p : PeerPlan) → Parts aus peers before p
+joined : (aus : List AuPlan) (peers before : List PeerPlan) (p : PeerPlan) → PeerFacts aus peers before p
     → peer_fault aus peers before p ≡ None
 unfolding peer_fault
 joined aus peers before p parts = rw (parts.fit, parts.new, parts.refs, parts.friends) parts.copies

@@ -10,8 +10,10 @@ use lks_disk::{Disk, MemDisk};
 use lks_outside::{FirstByteJudge, MemSink, MemSource};
 use lks_store::{FileOpener, MemOpener, Opener};
 use std::alloc::Global;
+use std::fmt::Debug;
 use std::fs;
 use std::fs::{File, Files};
+use std::process::Abort;
 use std::sync::Wait;
 use std::test::*;
 
@@ -55,6 +57,12 @@ struct Left {
     status: NodeStatus,
     output: Vec<u8>,
     store: Vec<u8>,
+}
+
+/// Ends the test where a run didn't answer and write this, and says at which row.
+fn expect(rt: &impl Abort, left: &Left, wanted: NodeStatus, output: &[u8], row: &impl Debug) {
+    assert_eq!(rt; left.status, wanted, "{row:?}");
+    assert_eq!(rt; left.output.as_slice(), output, "{row:?}");
 }
 
 /// The frame of the script, and these bytes behind it.
@@ -132,14 +140,11 @@ fn bytes_of(alloc: Global, store: Option<MemDisk>) -> Result<Vec<u8>, Fail> {
 fn opens_a_poll_once(rt: HostRuntime) -> Result<(), Fail> {
     let alloc = rt.alloc();
     let first = run(alloc, &rt, ["1", "j"], b"", OPEN, usize::MAX)?;
-    assert_eq!(rt; first.status, NodeStatus::Done);
-    assert_eq!(rt; first.output.as_slice(), OPENED);
+    expect(&rt, &first, NodeStatus::Done, OPENED, &"first");
     let again = run(alloc, &rt, ["1", "j"], &first.store, OPEN, usize::MAX)?;
-    assert_eq!(rt; again.status, NodeStatus::Done);
-    assert_eq!(rt; again.output.as_slice(), NOTHING);
+    expect(&rt, &again, NodeStatus::Done, NOTHING, &"again");
     let narrow = run(alloc, &rt, ["1", "j"], b"", OPEN, 1)?;
-    assert_eq!(rt; narrow.status, NodeStatus::Done);
-    assert_eq!(rt; narrow.output.as_slice(), OPENED);
+    expect(&rt, &narrow, NodeStatus::Done, OPENED, &"narrow");
     Ok(())
 }
 
@@ -190,8 +195,7 @@ const REFUSED: [([&str; 2], &[u8], &[u8], NodeStatus); 9] = [
 fn refuses(rt: HostRuntime) -> Result<(), Fail> {
     for (words, store, frames, wanted) in REFUSED.iter() {
         let left = run(rt.alloc(), &rt, *words, store, frames, usize::MAX)?;
-        assert_eq!(rt; left.status, *wanted);
-        assert!(rt; left.output.is_empty());
+        expect(&rt, &left, *wanted, b"", words);
     }
     Ok(())
 }
@@ -222,8 +226,7 @@ fn begins_with_a_script(rt: HostRuntime) -> Result<(), Fail> {
             input.to_vec(alloc)?,
             usize::MAX,
         )?;
-        assert_eq!(rt; left.status, *wanted);
-        assert!(rt; left.output.is_empty());
+        expect(&rt, &left, *wanted, b"", input);
         assert!(rt; left.store.is_empty());
     }
     Ok(())
@@ -254,12 +257,12 @@ const FOLDER: &str = "lks_node_test";
 
 const PATH: &str = "lks_node_test/journal";
 
-/// A run of peer 1 with its journal in the file: what it answers, and what it writes.
+/// A run of peer 1 with its journal in the file: what it answers and writes, without its store.
 fn run_on_file<R: Wait + Files<File = File>>(
     alloc: Global,
     rt: &R,
     frames: &[u8],
-) -> Result<(NodeStatus, Vec<u8>), Fail> {
+) -> Result<Left, Fail> {
     let mut source = MemSource::new(alloc, input_of(alloc, frames)?, Vec::new(alloc));
     let mut sink = MemSink::new(alloc, Vec::new(alloc));
     let mut opener = FileOpener::new(rt);
@@ -275,24 +278,24 @@ fn run_on_file<R: Wait + Files<File = File>>(
         &mut opener,
         &mut judge,
     );
-    let output = sink.bytes().to_vec(alloc)?;
-    Ok((status, output))
+    Ok(Left {
+        status,
+        output: sink.bytes().to_vec(alloc)?,
+        store: Vec::new(alloc),
+    })
 }
 
 #[test]
 fn goes_on_from_a_file(rt: HostRuntime) -> Result<(), Fail> {
     let _ = fs::remove_dir_all(&rt, FOLDER);
     fs::create_dir(&rt, FOLDER)?;
-    let (status, output) = run_on_file(rt.alloc(), &rt, OPEN)?;
-    assert_eq!(rt; status, NodeStatus::Done);
-    assert_eq!(rt; output.as_slice(), OPENED);
-    let (status, output) = run_on_file(rt.alloc(), &rt, OPEN)?;
-    assert_eq!(rt; status, NodeStatus::Done);
-    assert_eq!(rt; output.as_slice(), NOTHING);
+    let first = run_on_file(rt.alloc(), &rt, OPEN)?;
+    expect(&rt, &first, NodeStatus::Done, OPENED, &"first");
+    let again = run_on_file(rt.alloc(), &rt, OPEN)?;
+    expect(&rt, &again, NodeStatus::Done, NOTHING, &"again");
     let held = FileOpener::new(&rt).open_store(PATH)?;
-    let (status, output) = run_on_file(rt.alloc(), &rt, OPEN)?;
-    assert_eq!(rt; status, NodeStatus::OpenFault);
-    assert!(rt; output.is_empty());
+    let refused = run_on_file(rt.alloc(), &rt, OPEN)?;
+    expect(&rt, &refused, NodeStatus::OpenFault, b"", &"held");
     drop(held);
     fs::remove_dir_all(&rt, FOLDER)?;
     Ok(())
@@ -325,8 +328,7 @@ fn run_failing<R: Wait>(
 fn stops_at_a_fault(rt: HostRuntime) -> Result<(), Fail> {
     for (reads, writes, calls, wanted) in FAULTS.iter() {
         let left = run_failing(rt.alloc(), &rt, reads, writes, calls)?;
-        assert_eq!(rt; left.status, *wanted);
-        assert!(rt; left.output.is_empty());
+        expect(&rt, &left, *wanted, b"", &(reads, writes, calls));
     }
     Ok(())
 }
@@ -338,18 +340,16 @@ fn goes_on_where_a_call_failed(rt: HostRuntime) -> Result<(), Fail> {
     let alloc = rt.alloc();
     for call in 1..11u32 {
         let left = run_failing(alloc, &rt, &[], &[], &[call])?;
-        assert_eq!(rt; left.status, NodeStatus::DiskFault, "call {call}");
-        assert!(rt; left.output.is_empty(), "call {call}");
+        expect(&rt, &left, NodeStatus::DiskFault, b"", &call);
         let next = run(alloc, &rt, ["1", "j"], &left.store, OPEN, usize::MAX)?;
-        assert_eq!(rt; next.status, NodeStatus::Done, "call {call}");
-        let written = next.output.as_slice();
-        assert!(rt;
-            written == OPENED || call > 8 && written == NOTHING,
-            "call {call}"
-        );
+        let output = if call > 8 && next.output.as_slice() == NOTHING {
+            NOTHING
+        } else {
+            OPENED
+        };
+        expect(&rt, &next, NodeStatus::Done, output, &call);
     }
     let left = run_failing(alloc, &rt, &[], &[], &[11])?;
-    assert_eq!(rt; left.status, NodeStatus::Done);
-    assert_eq!(rt; left.output.as_slice(), OPENED);
+    expect(&rt, &left, NodeStatus::Done, OPENED, &11);
     Ok(())
 }

@@ -7,15 +7,15 @@ use Rattle.std.proofs.lemmas.List.Quantifiers.{all_pairs_push}
 use Rattle.lks_base.specs.Checking.{has_member}
 use Rattle.lks_tally.specs.declared.ballots.Vote.{Vote}
 use Rattle.lks_tally.specs.Distinct.{AreDistinct}
-use Rattle.lks_tally.specs.Keeping.{has_voted}
+use Rattle.lks_tally.specs.Keeping.{has_vote_of}
 
 -- who hasn't voted is the voter of no vote
-unvoted_apart : (votes : List Vote) (v : ℕ) → has_voted votes v ≡ false → All (λ w. w.voter ≢ v) votes
+unvoted_apart : (votes : List Vote) (v : ℕ) → has_vote_of votes v ≡ false → All (λ w. w.voter ≢ v) votes
 unvoted_apart votes v new = λ k d within same.
     false≢true (sym new ∙ list_any_at (λ w. w.voter == v) votes k d within (eq-eqb _ v same))
 
 -- the vote of a peer that hasn't voted
-pub distinct_more : (votes : List Vote) (v : Vote) → AreDistinct votes → has_voted votes v.voter ≡ false
+pub distinct_more : (votes : List Vote) (v : Vote) → AreDistinct votes → has_vote_of votes v.voter ≡ false
     → AreDistinct (votes ++ v ∷ [])
 distinct_more votes v distinct new =
     all_pairs_push (λ x y. x.voter ≢ y.voter) votes v distinct (unvoted_apart votes v.voter new)
@@ -26,18 +26,18 @@ unfolding has_member
 member_more ids x v = list_any-append (λ i. i == v) ids (x ∷ [])
 
 pub votes_more : (votes : List Vote) (x : Vote) (v : ℕ)
-    → has_voted (votes ++ x ∷ []) v ≡ has_voted votes v || (x.voter == v || false)
+    → has_vote_of (votes ++ x ∷ []) v ≡ has_vote_of votes v || (x.voter == v || false)
 votes_more votes x v = list_any-append (λ w. w.voter == v) votes (x ∷ [])
 
 -- one vote more makes one voter more
-pub voted_more : (votes : List Vote) (v : Vote) (w : ℕ) → has_voted (votes ++ v ∷ []) w ≡ true
-    → (has_voted votes w ≡ true) ⊎ (v.voter ≡ w)
+pub voted_more : (votes : List Vote) (v : Vote) (w : ℕ) → has_vote_of (votes ++ v ∷ []) w ≡ true
+    → (has_vote_of votes w ≡ true) ⊎ (v.voter ≡ w)
 voted_more votes v w found =
-    by_part (or_cases (has_voted votes w) ((v.voter == w) || false) (sym (votes_more votes v w) ∙ found)) where
+    by_part (or_cases (has_vote_of votes w) ((v.voter == w) || false) (sym (votes_more votes v w) ∙ found)) where
       last : (v.voter == w || false) ≡ true → v.voter ≡ w
       last h = elim (or_cases (v.voter == w) false h) [ inl same ↦ eqb-true v.voter w same | inr never ↦ absurd cc ]
 
-      by_part : (has_voted votes w ≡ true) ⊎ ((v.voter == w || false) ≡ true)
-          → (has_voted votes w ≡ true) ⊎ (v.voter ≡ w)
+      by_part : (has_vote_of votes w ≡ true) ⊎ ((v.voter == w || false) ≡ true)
+          → (has_vote_of votes w ≡ true) ⊎ (v.voter ≡ w)
       by_part (inl before) = inl before
       by_part (inr here) = inr (last here)

@@ -20,9 +20,9 @@ use Rattle.lks_poller.proofs.Members.{distinct_more, voted_more, member_more, vo
 
 -- a peer that hasn't voted has a vote in neither list
 pub unvoted_parts : (s : Polled) → IsSound s → (v : ℕ) → has_member s.voters v ≡ false
-    → (keeping.has_voted s.tally.votes v ≡ false) × (keeping.has_voted s.outer_votes v ≡ false)
+    → (keeping.has_vote_of s.tally.votes v ≡ false) × (keeping.has_vote_of s.outer_votes v ≡ false)
 unvoted_parts s sound v new =
-    or_parts (keeping.has_voted s.tally.votes v) (keeping.has_voted s.outer_votes v) (sym (sound.noted v) ∙ new)
+    or_parts (keeping.has_vote_of s.tally.votes v) (keeping.has_vote_of s.outer_votes v) (sym (sound.noted v) ∙ new)
 
 -- a vote that may be taken is its peer's first, with a hash for each block
 pub vote_new : (p : Poll) (from hashes count : ℕ) → may_vote p from hashes count ≡ true
@@ -65,14 +65,14 @@ sound_begun s few reserved blocks none no_outer nobody_noted running idle = reco
   of_outer = λ v found. absurd (unvoted s.outer_votes no_outer v found);
   noted =
       λ v. ap (λ ids. list_any (λ i. i == v) ids) nobody_noted
-      ∙ sym (λ i. keeping.has_voted (none i) v || keeping.has_voted (no_outer i) v);
+      ∙ sym (λ i. keeping.has_vote_of (none i) v || keeping.has_vote_of (no_outer i) v);
   over = λ closed. never s.closed running closed;
   asking = λ waits. never s.suppliers.waiting idle waits;
   within = λ b v is. absurd (unasked s.suppliers.waiting idle _ b v is);
 } where
-  unvoted : (votes : List Vote) → votes ≡ [] → (v : ℕ) → keeping.has_voted votes v ≡ true → ⊥
+  unvoted : (votes : List Vote) → votes ≡ [] → (v : ℕ) → keeping.has_vote_of votes v ≡ true → ⊥
   unvoted votes e v found =
-      let none : keeping.has_voted [] v ≡ true = subst (λ vs. keeping.has_voted vs v ≡ true) e found in cc
+      let none : keeping.has_vote_of [] v ≡ true = subst (λ vs. keeping.has_vote_of vs v ≡ true) e found in cc
 
   unasked : (waits : Bool) → waits ≡ false → (last : Option (ℕ × ℕ)) (b v : ℕ) → cond waits last None ≡ Some (b, v) → ⊥
   unasked true e last b v is = cc
@@ -87,9 +87,9 @@ sound_tally s t sound reserved same = record {
   reserved = reserved;
   blocks = subst (λ (q : Ballot). 1 ≤ q.count) (sym same.0) sound.blocks;
   distinct = subst AreDistinct (sym same.2) sound.distinct;
-  of_inner = λ v found. sound.of_inner v (subst (λ vs. keeping.has_voted vs v ≡ true) same.2 found);
+  of_inner = λ v found. sound.of_inner v (subst (λ vs. keeping.has_vote_of vs v ≡ true) same.2 found);
   of_outer = sound.of_outer;
-  noted = λ v. sound.noted v ∙ sym (λ i. keeping.has_voted (same.2 i) v || keeping.has_voted s.outer_votes v);
+  noted = λ v. sound.noted v ∙ sym (λ i. keeping.has_vote_of (same.2 i) v || keeping.has_vote_of s.outer_votes v);
   over = sound.over;
   asking = sound.asking;
   within = λ b v is. subst (λ (q : Ballot). b < q.count) (sym same.0) (sound.within b v is);
@@ -118,13 +118,13 @@ sound_inner s v sound unvoted member = record {
   of_inner = λ w found. of_either w (voted_more s.tally.votes v w found);
   of_outer = sound.of_outer;
   noted = λ w. member_more s.voters v.voter w ∙ ap (λ b. b || (v.voter == w || false)) (sound.noted w)
-      ∙ swapped (keeping.has_voted s.tally.votes w) (keeping.has_voted s.outer_votes w) (v.voter == w || false)
-      ∙ sym (ap (λ b. b || keeping.has_voted s.outer_votes w) (votes_more s.tally.votes v w));
+      ∙ swapped (keeping.has_vote_of s.tally.votes w) (keeping.has_vote_of s.outer_votes w) (v.voter == w || false)
+      ∙ sym (ap (λ b. b || keeping.has_vote_of s.outer_votes w) (votes_more s.tally.votes v w));
   over = sound.over;
   asking = sound.asking;
   within = sound.within;
 } where
-  of_either : (w : ℕ) → (keeping.has_voted s.tally.votes w ≡ true) ⊎ (v.voter ≡ w) → has_member s.inner w ≡ true
+  of_either : (w : ℕ) → (keeping.has_vote_of s.tally.votes w ≡ true) ⊎ (v.voter ≡ w) → has_member s.inner w ≡ true
   of_either w (inl before) = sound.of_inner w before
   of_either w (inr here) = subst (λ x. has_member s.inner x ≡ true) here member
 
@@ -138,13 +138,13 @@ sound_outer s v sound unvoted member = record {
   of_inner = sound.of_inner;
   of_outer = λ w found. of_either w (voted_more s.outer_votes v w found);
   noted = λ w. member_more s.voters v.voter w ∙ ap (λ b. b || (v.voter == w || false)) (sound.noted w)
-      ∙ grouped (keeping.has_voted s.tally.votes w) (keeping.has_voted s.outer_votes w) (v.voter == w || false)
-      ∙ sym (ap (λ b. keeping.has_voted s.tally.votes w || b) (votes_more s.outer_votes v w));
+      ∙ grouped (keeping.has_vote_of s.tally.votes w) (keeping.has_vote_of s.outer_votes w) (v.voter == w || false)
+      ∙ sym (ap (λ b. keeping.has_vote_of s.tally.votes w || b) (votes_more s.outer_votes v w));
   over = sound.over;
   asking = sound.asking;
   within = sound.within;
 } where
-  of_either : (w : ℕ) → (keeping.has_voted s.outer_votes w ≡ true) ⊎ (v.voter ≡ w) → has_member s.inner w ≡ false
+  of_either : (w : ℕ) → (keeping.has_vote_of s.outer_votes w ≡ true) ⊎ (v.voter ≡ w) → has_member s.inner w ≡ false
   of_either w (inl before) = sound.of_outer w before
   of_either w (inr here) = subst (λ x. has_member s.inner x ≡ false) here member
 

@@ -10,7 +10,7 @@ use Rattle.lks_poller.specs.Polling.{Polled}
 
 -- whether one of the votes is of this peer
 abbrev pub is_voter : Polled → ℕ → Bool
-is_voter s v = keeping.has_voted s.tally.votes v || keeping.has_voted s.outer_votes v
+is_voter s v = keeping.has_vote_of s.tally.votes v || keeping.has_vote_of s.outer_votes v
 
 -- An inner circle that is no larger than a circle may be, with room for its votes; votes of distinct voters, each
 -- counted exactly where its voter is an inner one; voters that are those of the votes. Blocks are asked for once voting
@@ -20,8 +20,8 @@ pub record IsSound (s : Polled) : Type 0 where
   pub reserved : IsReserved s.tally
   pub blocks : 1 ≤ s.tally.ballot.count
   pub distinct : AreDistinct s.tally.votes
-  pub of_inner : (v : ℕ) → keeping.has_voted s.tally.votes v ≡ true → has_member s.inner v ≡ true
-  pub of_outer : (v : ℕ) → keeping.has_voted s.outer_votes v ≡ true → has_member s.inner v ≡ false
+  pub of_inner : (v : ℕ) → keeping.has_vote_of s.tally.votes v ≡ true → has_member s.inner v ≡ true
+  pub of_outer : (v : ℕ) → keeping.has_vote_of s.outer_votes v ≡ true → has_member s.inner v ≡ false
   pub noted : (v : ℕ) → has_member s.voters v ≡ is_voter s v
   pub over : s.closed ≡ true → s.shut ≡ true
   pub asking : s.suppliers.waiting ≡ true → s.shut ≡ true

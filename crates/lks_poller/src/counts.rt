@@ -4,7 +4,8 @@ ghost use Rattle.std.specs.Prelude.{◌≡◌, ◌<◌, ◌≤◌, ◌++◌, ◌
 ghost use Rattle.lks_base.specs.declared.limits.TheConstants.{MOST_CIRCLE};
 ghost use Rattle.lks_hash.specs.Counting.{Opens};
 ghost use Rattle.lks_tally.specs.Counting.{verdict_at, verdict_on, voters_for};
-ghost use Rattle.lks_tally.specs.Keeping.{IsCacheOf, IsReserved, IsSame, KeepsRooms, has_voted, vote_added, kept_after};
+ghost use Rattle.lks_tally.specs.Keeping.{IsCacheOf, IsReserved, IsSame, KeepsRooms, has_vote_of, kept_after};
+ghost use Rattle.lks_tally.specs.Keeping.{vote_added};
 
 use lks_base::{Contents, Hashes, Ids, OutOfMemory, PeerId};
 use lks_hash::Steps;
@@ -19,7 +20,7 @@ pub fn add_inner(
     voter: PeerId,
     hashes: Hashes,
 ) -> Result<(), OutOfMemory>
-    requires new { has_voted tally.old.votes voter ≡ false }
+    requires new { has_vote_of tally.old.votes voter ≡ false }
     requires whole { length hashes ≡ tally.old.ballot.count }
     requires room { length tally.old.votes < tally.old.vote_room }
     ensures tally { OnOk result (tally.new ≡ vote_added tally.old (record { voter = voter; hashes = hashes })) }

@@ -28,7 +28,7 @@ use Rattle.lks_base.specs.Checking.{unless, ◌▹◌, each, is_within, are_boun
 use Rattle.lks_base.specs.Checking.{has_member, member_fault, has_counted, copy_fault, is_bare, is_fit, peer_fault}
 use Rattle.lks_base.specs.Checking.{bytes_of_blocks, bytes_of_copies, bytes_of_peers, plan_fault}
 use Rattle.lks_base.proofs.PlanLaws.{no_first, no_second, stands, lists_stand, all_of, fifth}
-use Rattle.lks_lines.proofs.Passing.{members_same, Parts, parted}
+use Rattle.lks_lines.proofs.Passing.{members_same, PeerFacts, parted}
 use Rattle.lks_lines.specs.declared.list_lines.ListKind.{ListKind}
 use Rattle.lks_lines.specs.declared.list_lines.ListKind.TheVariants.{Refs, Friends}
 use Rattle.lks_lines.specs.declared.plan_lines.PlanDraft.{PlanDraft}
@@ -512,7 +512,7 @@ module _ (rules : Rules) (turns : ℕ) (aus : List AuPlan) (done : List PeerPlan
   -- all lines of the peer
   peer_reads : (at : PlanPart) (hashed : List ℕ) (bytes : ℕ) (text : List ℕ) (s : Script)
       → list_all is_numbered aus ≡ true → ((id : ℕ) → has_peer (done ++ p ∷ more) id ≡ true → id ≤ 65535)
-      → Parts aus (done ++ p ∷ more) done p → has_member hashed p.id ≡ false → All AreBlocks p.copies
+      → PeerFacts aus (done ++ p ∷ more) done p → has_member hashed p.id ≡ false → All AreBlocks p.copies
       → bytes + bytes_of_copies p.copies ≤ MOST_COPY_BYTES
       → ((at : PlanPart)
       → Reads
@@ -616,7 +616,7 @@ module _ (rules : Rules) (turns : ℕ) (aus : List AuPlan) (numbered : list_all 
         (peer_reads rules turns aus done p more own.id parts.new at (said_hashes done) (bytes_of_peers done)
         (flat_map belongings more ++ text) s numbered
         (subst (λ (ps : List PeerPlan). (id : ℕ) → has_peer ps id ≡ true → id ≤ 65535) same all_small)
-        (subst (λ (ps : List PeerPlan). Parts aus ps done p) same parts) (hashes_lack done p.id parts.new)
+        (subst (λ (ps : List PeerPlan). PeerFacts aus ps done p) same parts) (hashes_lack done p.id parts.new)
         own.copies (omega (arith, sum, room))
         (λ at. subst (λ (d : PlanDraft). Reads (Planned at d) (flat_map belongings more ++ text) s)
         (draft_next done p more)

@@ -1,6 +1,7 @@
 //! Words and picks that another program made, and the key stream of RFC 8439.
 
 use crate::SEED;
+use crate::same::same;
 use lks_draw::{Draws, OutOfMemory};
 use rand_chacha::ChaCha20Rng;
 use rand_chacha::rand_core::{Rng, SeedableRng};
@@ -46,7 +47,7 @@ const ZERO_KEY_STREAM: [u32; 32] = [
 fn words_of_the_zero_key(rt: HostRuntime) {
     let mut generator = ChaCha20Rng::from_seed([0; 32]);
     for (at, word) in ZERO_KEY_STREAM.iter().enumerate() {
-        assert_eq!(rt; generator.next_u32(), *word, "{at}");
+        same(&rt, &generator.next_u32(), word, &at);
     }
 }
 
@@ -78,10 +79,15 @@ fn words_of_draws(rt: HostRuntime) {
     for (label, number, words) in WORDS {
         let mut draws = Draws::new(SEED, label, number);
         for word in words {
-            assert_eq!(rt; next_whole(&mut draws), word, "under label {label}");
+            same(&rt, &next_whole(&mut draws), &word, &label);
         }
     }
-    assert_eq!(rt; Draws::new(SEED, 3, 131_073).next(100), 2);
+    same(
+        &rt,
+        &Draws::new(SEED, 3, 131_073).next(100),
+        &2,
+        &"Draws::new",
+    );
 }
 
 #[test]
@@ -89,11 +95,16 @@ fn picks(rt: HostRuntime) -> Result<(), OutOfMemory> {
     let mut draws = Draws::new(SEED, 1, 1);
     // A list that is short enough is taken whole, and no word with it.
     for (list, n) in [([7, 8].as_slice(), 3_usize), (&[7, 8], 2), (&[], 0)] {
-        assert_eq!(rt; draws.pick(rt.alloc(), list, n)?.as_slice(), list);
+        same(
+            &rt,
+            &draws.pick(rt.alloc(), list, n)?.as_slice(),
+            &list,
+            &"draws",
+        );
     }
     let members = draws.pick(rt.alloc(), [2, 3, 4, 5, 6, 7].as_slice(), 3)?;
-    assert_eq!(rt; members.as_slice(), [5, 3, 4].as_slice());
-    assert_eq!(rt; next_whole(&mut draws), 0x1edb_b0ef);
+    same(&rt, &members.as_slice(), &[5, 3, 4].as_slice(), &"members");
+    same(&rt, &next_whole(&mut draws), &0x1edb_b0ef, &"next_whole");
     let members = Draws::new(SEED, 1, 1).pick(rt.alloc(), [7, 8].as_slice(), 0)?;
     assert!(rt; members.is_empty());
     Ok(())

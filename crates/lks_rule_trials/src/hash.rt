@@ -2,6 +2,7 @@
 ghost use Rattle.lks_hash.specs.Counting.{Opens};
 
 use crate::SEED;
+use crate::same::same;
 use lks_hash::{Chain, Steps, key, nonce_of};
 use std::marker::Brand;
 use std::sync::ledger::{Blank, Ledger};
@@ -42,27 +43,31 @@ fn vote(second: bool, key: &[u8; 32], blocks: [&[u8]; 2]) -> [[u8; 32]; 2] {
 
 #[test]
 fn nonces(rt: HostRuntime) {
-    assert_eq!(rt; &nonce_of(SEED, 1), NONCE);
+    same(&rt, &&nonce_of(SEED, 1), &NONCE, &"nonce_of");
     let other =
         b"\xb5\x9d\x42\x16\xdd\xc1\x9f\x55\x32\x96\xaf\xe9\x55\x1c\x48\xf9\xf1\x1b\x43\xee\x6c\xa3\x2c\x02\xd5\x42\xb5\x36\x56\x2e\x8f\xf4";
-    assert_eq!(rt; &nonce_of(ORDER, 0x89ab_cdef), other);
+    same(&rt, &&nonce_of(ORDER, 0x89ab_cdef), &other, &"nonce_of");
 }
 
 #[test]
 fn keys(rt: HostRuntime) {
-    assert_eq!(rt; &key(false, 1, 1, NONCE, 2, 1, 2), KEY);
-    assert_eq!(rt; &key(true, 1, 1, NONCE, 2, 1, 2), SECOND_KEY);
+    same(&rt, &&key(false, 1, 1, NONCE, 2, 1, 2), &KEY, &"key");
+    same(&rt, &&key(true, 1, 1, NONCE, 2, 1, 2), &SECOND_KEY, &"key");
     let other =
         b"\xbf\xdd\x23\xdc\x6c\xd8\x76\xcc\x22\x48\xcb\x9a\xa8\xec\x4c\xf1\x64\xee\x3d\x89\x9c\x91\xff\xc8\x8d\x8d\x95\x1c\xe9\x00\xb1\x34";
-    assert_eq!(rt;
-        &key(false, 0x1234, 0x89ab_cdef, ORDER, 0xfedc, 0x5678, 512),
-        other
+    same(
+        &rt,
+        &&key(false, 0x1234, 0x89ab_cdef, ORDER, 0xfedc, 0x5678, 512),
+        &other,
+        &"key",
     );
     let second_other =
         b"\xf6\x23\x7b\xd9\x11\x88\x82\xc3\x05\xe5\x74\xed\xff\xc9\xc3\x54\x81\x6c\xf6\x08\xae\xa4\x84\xb3\xfa\x0a\x71\x64\x14\x88\xd3\xa6";
-    assert_eq!(rt;
-        &key(true, 0x1234, 0x89ab_cdef, ORDER, 0xfedc, 0x5678, 512),
-        second_other
+    same(
+        &rt,
+        &&key(true, 0x1234, 0x89ab_cdef, ORDER, 0xfedc, 0x5678, 512),
+        &second_other,
+        &"key",
     );
 }
 
@@ -118,6 +123,6 @@ const VOTES: [Vote; 4] = [
 #[test]
 fn votes(rt: HostRuntime) {
     for (at, (second, key, blocks, [first, then])) in VOTES.iter().enumerate() {
-        assert_eq!(rt; vote(*second, key, *blocks), [**first, **then], "{at}");
+        same(&rt, &vote(*second, key, *blocks), &[**first, **then], &at);
     }
 }

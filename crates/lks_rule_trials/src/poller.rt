@@ -4,6 +4,7 @@ ghost use Rattle.std.specs.Prelude.{◌≡◌, ℕ, List, [], ◌∷◌, length,
 ghost use Rattle.lks_hash.specs.Counting.{Opens};
 ghost use Rattle.lks_tally.specs.Keeping.{IsCacheOf};
 
+use crate::same::same;
 use crate::samples::{POLL, Pair, RULES};
 use lks_base::{Contents, HashKind, Hashes, Ids, OutOfMemory, Outcome};
 use lks_hash::{Chain, Steps, key};
@@ -22,7 +23,7 @@ fn inner_circle(alloc: Global) -> Result<Ids, OutOfMemory>
 }
 
 /// A poll of peer 1 whose inner circle is 2 to 5.
-fn opened(alloc: Global) -> Result<PollSession, OutOfMemory>
+fn opened_session(alloc: Global) -> Result<PollSession, OutOfMemory>
     ensures count { IfOk result (λ s. s.tally.ballot.count ≡ 2) }
     ensures cache { IfOk result (λ s. (blocks : List (List ℕ)) → IsCacheOf s.tally blocks) }
 {
@@ -216,7 +217,7 @@ fn plays(
 
 fn play_all<R: Abort>(rt: &R, alloc: Global, acts: &[Act]) -> Result<(), OutOfMemory> {
     let mut copy = Pair(*b"B");
-    let mut session = opened(alloc)?;
+    let mut session = opened_session(alloc)?;
     for (at, act) in acts.iter().enumerate() {
         assert!(rt; plays(&mut session, alloc, &mut copy, *act)?, "{at}");
     }
@@ -288,7 +289,7 @@ enum Noting {
 
 /// What a caller notes, or asks, by itself.
 #[derive(Clone, Copy)]
-enum Entry {
+enum Move {
     Note(Noting),
     Replaced([u8; 1]),
     Next(Next),
@@ -363,42 +364,42 @@ fn enters(
     session: &mut PollSession,
     alloc: Global,
     copy: &mut Pair,
-    entry: Entry,
+    made: Move,
 ) -> Result<bool, OutOfMemory>
     requires count { session.old.tally.ballot.count ≡ 2 }
     requires cache { IsCacheOf session.old.tally ((65 ∷ []) ∷ copy.old.0 ∷ []) }
     ensures count { session.new.tally.ballot.count ≡ 2 }
     ensures cache { IsCacheOf session.new.tally ((65 ∷ []) ∷ copy.new.0 ∷ []) }
 {
-    Ok(match entry {
-        Entry::Note(noting) => note(session, alloc, noting)?,
-        Entry::Replaced(bytes) => {
+    Ok(match made {
+        Move::Note(noting) => note(session, alloc, noting)?,
+        Move::Replaced(bytes) => {
             note_repair(session, bytes, copy);
             true
         }
-        Entry::Next(want) => foresee(session, copy)? == want,
-        Entry::Answer(from, bytes, want) => session.answer_of(from, 1, &bytes, copy) == want,
+        Move::Next(want) => foresee(session, copy)? == want,
+        Move::Answer(from, bytes, want) => session.answer_of(from, 1, &bytes, copy) == want,
     })
 }
 
-const ENTRIES: [Entry; 17] = [
-    Entry::Note(Noting::Nominated(2)),
-    Entry::Note(Noting::Widened),
-    Entry::Note(Noting::Voted(6)),
-    Entry::Note(Noting::Voted(2)),
-    Entry::Note(Noting::Voted(4)),
-    Entry::Note(Noting::Voted(3)),
-    Entry::Note(Noting::Shut),
-    Entry::Next(Next::Ask { block: 1, voter: 2 }),
-    Entry::Note(Noting::Asked(2)),
-    Entry::Answer(2, *b"D", Answer::Bad),
-    Entry::Note(Noting::Answered),
-    Entry::Answer(2, *b"C", Answer::NotAsked),
-    Entry::Next(Next::Ask { block: 1, voter: 4 }),
-    Entry::Note(Noting::Asked(4)),
-    Entry::Answer(4, *b"C", Answer::Replace),
-    Entry::Replaced(*b"C"),
-    Entry::Next(Next::Close(Outcome::Agreed)),
+const MOVES: [Move; 17] = [
+    Move::Note(Noting::Nominated(2)),
+    Move::Note(Noting::Widened),
+    Move::Note(Noting::Voted(6)),
+    Move::Note(Noting::Voted(2)),
+    Move::Note(Noting::Voted(4)),
+    Move::Note(Noting::Voted(3)),
+    Move::Note(Noting::Shut),
+    Move::Next(Next::Ask { block: 1, voter: 2 }),
+    Move::Note(Noting::Asked(2)),
+    Move::Answer(2, *b"D", Answer::Bad),
+    Move::Note(Noting::Answered),
+    Move::Answer(2, *b"C", Answer::NotAsked),
+    Move::Next(Next::Ask { block: 1, voter: 4 }),
+    Move::Note(Noting::Asked(4)),
+    Move::Answer(4, *b"C", Answer::Replace),
+    Move::Replaced(*b"C"),
+    Move::Next(Next::Close(Outcome::Agreed)),
 ];
 
 /// Enters these into a session without votes, on a copy whose second block is `42`.
@@ -406,23 +407,28 @@ fn enter_all<R: Abort>(
     rt: &R,
     session: &mut PollSession,
     alloc: Global,
-    entries: &[Entry],
+    moves: &[Move],
 ) -> Result<(), OutOfMemory>
     requires count { session.old.tally.ballot.count ≡ 2 }
     requires cache { (blocks : List (List ℕ)) → IsCacheOf session.old.tally blocks }
 {
     let mut copy = Pair(*b"B");
-    for (at, entry) in entries.iter().enumerate() {
-        assert!(rt; enters(session, alloc, &mut copy, *entry)?, "{at}");
+    for (at, made) in moves.iter().enumerate() {
+        assert!(rt; enters(session, alloc, &mut copy, *made)?, "{at}");
     }
     Ok(())
 }
 
 #[test]
 fn noted(rt: HostRuntime) -> Result<(), OutOfMemory> {
-    let mut session = opened(rt.alloc())?;
-    enter_all(&rt, &mut session, rt.alloc(), &ENTRIES)?;
-    assert_eq!(rt; session.voters(), [6, 2, 4, 3].as_slice());
+    let mut session = opened_session(rt.alloc())?;
+    enter_all(&rt, &mut session, rt.alloc(), &MOVES)?;
+    same(
+        &rt,
+        &session.voters(),
+        &[6, 2, 4, 3].as_slice(),
+        &"session.voters",
+    );
     Ok(())
 }
 
@@ -435,8 +441,8 @@ fn put_copy(session: &mut PollSession) -> Result<(), OutOfMemory> {
 
 #[test]
 fn copied_tally(rt: HostRuntime) -> Result<(), OutOfMemory> {
-    let mut session = opened(rt.alloc())?;
+    let mut session = opened_session(rt.alloc())?;
     put_copy(&mut session)?;
-    assert_eq!(rt; session.kept(), 0);
+    same(&rt, &session.kept(), &0, &"session.kept");
     Ok(())
 }

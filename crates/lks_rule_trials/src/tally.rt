@@ -5,6 +5,7 @@ ghost use Rattle.lks_base.specs.declared.limits.TheConstants.{MOST_CIRCLE};
 ghost use Rattle.lks_hash.specs.Counting.{Opens};
 ghost use Rattle.lks_tally.specs.Keeping.{IsCacheOf, IsReserved, IsSame};
 
+use crate::same::same;
 use crate::samples::{NONCE, POLL, PUBLISHED, Pair, RULES, add_vote, tally_without_votes};
 use lks_base::{Contents, HashKind, Hashes, Ids, MOST_CIRCLE, OutOfMemory};
 use lks_hash::{Chain, Steps, key};
@@ -103,7 +104,7 @@ const VERDICTS: [(&[Pair], Verdict); 6] = [
 fn verdicts(rt: HostRuntime) -> Result<(), Fail> {
     for (at, (votes, want)) in VERDICTS.iter().enumerate() {
         assert!(rt; votes.len() <= MOST_CIRCLE as usize);
-        assert_eq!(rt; verdict_on(rt.alloc(), votes)?, *want, "{at}");
+        same(&rt, &verdict_on(rt.alloc(), votes)?, want, &at);
     }
     Ok(())
 }
@@ -125,9 +126,9 @@ fn second_on(alloc: Global, voted: HashKind) -> Result<Verdict, Fail> {
 #[test]
 fn second_kind(rt: HostRuntime) -> Result<(), Fail> {
     let own = second_on(rt.alloc(), HashKind::Sha512_256)?;
-    assert_eq!(rt; own, Verdict::Agreed);
+    same(&rt, &own, &Verdict::Agreed, &"own");
     let other = second_on(rt.alloc(), HashKind::Sha256)?;
-    assert_eq!(rt; other, Verdict::Loss { block: 0 });
+    same(&rt, &other, &Verdict::Loss { block: 0 }, &"other");
     Ok(())
 }
 
@@ -308,8 +309,18 @@ fn holders_of(alloc: Global, copy: &Pair) -> Result<Ids, OutOfMemory> {
 
 #[test]
 fn a_published_vote(rt: HostRuntime) -> Result<(), Fail> {
-    assert_eq!(rt; holders_of(rt.alloc(), &GOOD)?.as_slice(), [2].as_slice());
-    assert_eq!(rt; holders_of(rt.alloc(), &OTHER)?.as_slice(), [].as_slice());
+    same(
+        &rt,
+        &holders_of(rt.alloc(), &GOOD)?.as_slice(),
+        &[2].as_slice(),
+        &"holders_of",
+    );
+    same(
+        &rt,
+        &holders_of(rt.alloc(), &OTHER)?.as_slice(),
+        &[].as_slice(),
+        &"holders_of",
+    );
     Ok(())
 }
 
@@ -337,10 +348,11 @@ const FAULTS: [(bool, Option<VoteFault>); 3] = [
 fn votes_that_are_not_taken(rt: HostRuntime) -> Result<(), Fail> {
     let mut tally = Tally::new(rt.alloc(), &RULES, POLL, 1, HashKind::Sha256, *NONCE, 2);
     for (at, (has_hashes, want)) in FAULTS.iter().enumerate() {
-        assert_eq!(rt;
-            fault_of(rt.alloc(), &mut tally, *has_hashes)?,
-            *want,
-            "{at}"
+        same(
+            &rt,
+            &fault_of(rt.alloc(), &mut tally, *has_hashes)?,
+            want,
+            &at,
         );
     }
     Ok(())

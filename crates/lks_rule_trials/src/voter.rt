@@ -1,5 +1,6 @@
 //! Sessions of peer 2 in a poll of peer 1.
 
+use crate::same::same;
 use lks_base::{HashKind, Hashes, OutOfMemory, PollName};
 use lks_voter::{Committed, Joined, Serve, Session, Voted};
 use std::alloc::Global;
@@ -44,16 +45,16 @@ fn serve_all<R: Abort>(
 fn at_most_two(rt: HostRuntime) -> Result<(), OutOfMemory> {
     let mut voted = voted(rt.alloc())?;
     serve_all(&rt, &mut voted, &AT_MOST_TWO)?;
-    assert_eq!(rt; voted.served(), [1, 3].as_slice());
+    same(&rt, &voted.served(), &[1, 3].as_slice(), &"voted.served");
     // Where more may be served later, the next one is.
-    assert_eq!(rt; voted.serve(4, 3)?, Serve::First);
+    same(&rt, &voted.serve(4, 3)?, &Serve::First, &"voted.serve");
     Ok(())
 }
 
 #[test]
 fn none_at_all(rt: HostRuntime) -> Result<(), OutOfMemory> {
     let mut voted = voted(rt.alloc())?;
-    assert_eq!(rt; voted.serve(0, 0)?, Serve::Spent);
+    same(&rt, &voted.serve(0, 0)?, &Serve::Spent, &"voted.serve");
     assert!(rt; voted.served().is_empty());
     Ok(())
 }
@@ -76,17 +77,27 @@ fn what_was_handed_in(rt: HostRuntime) -> Result<(), OutOfMemory> {
     let voted = voted(rt.alloc())?;
     assert!(rt; is_as_joined(voted.committed()));
     assert!(rt; is_as_committed(voted.committed()));
-    assert_eq!(rt; voted.hashes().as_slice().len(), 1);
+    same(
+        &rt,
+        &voted.hashes().as_slice().len(),
+        &1,
+        &"voted.hashes.len",
+    );
     Ok(())
 }
 
 #[test]
 fn a_session_that_ends(rt: HostRuntime) -> Result<(), OutOfMemory> {
     let session = Session::Voted(voted(rt.alloc())?);
-    assert_eq!(rt; (session.poll(), session.au()), (POLL, 6));
+    same(
+        &rt,
+        &(session.poll(), session.au()),
+        &(POLL, 6),
+        &"poll and AU",
+    );
     let ended = session.end();
-    assert_eq!(rt; (ended.poll(), ended.au()), (POLL, 6));
+    same(&rt, &(ended.poll(), ended.au()), &(POLL, 6), &"poll and AU");
     let over = Session::Ended(ended);
-    assert_eq!(rt; (over.poll(), over.au()), (POLL, 6));
+    same(&rt, &(over.poll(), over.au()), &(POLL, 6), &"poll and AU");
     Ok(())
 }

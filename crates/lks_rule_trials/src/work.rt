@@ -6,6 +6,7 @@ ghost use Rattle.lks_blocks.specs.Block.{AllOf};
 ghost use Rattle.lks_hash.specs.Counting.{Opens};
 ghost use Rattle.lks_tally.specs.Keeping.{IsReserved, IsSame};
 
+use crate::same::same;
 use crate::samples::{NONCE, POLL, PUBLISHED, add_vote, tally_without_votes};
 use lks_base::{Entry, Event, HashKind, Hashes, OutOfMemory, PeerId, Seq};
 use lks_blocks::{BlockPool, BlockRef, Refs};
@@ -246,9 +247,14 @@ fn published_votes(rt: HostRuntime) -> Result<(), Fail> {
 #[test]
 fn verdicts(rt: HostRuntime) -> Result<(), Fail> {
     let loss = tally_on(&rt, rt.alloc(), b"C", b"B")?;
-    assert_eq!(rt; loss, (Verdict::Loss { block: 1 }, [6, 8, 8]));
+    same(
+        &rt,
+        &loss,
+        &(Verdict::Loss { block: 1 }, [6, 8, 8]),
+        &"loss",
+    );
     let agreed = tally_on(&rt, rt.alloc(), b"C", b"C")?;
-    assert_eq!(rt; agreed, (Verdict::Agreed, [6, 8, 8]));
+    same(&rt, &agreed, &(Verdict::Agreed, [6, 8, 8]), &"agreed");
     Ok(())
 }
 
@@ -272,11 +278,13 @@ fn a_free_gate(rt: HostRuntime) {
     pass(rt.alloc(), &FreeGate, &job);
     may_cross_threads::<Job>();
     may_cross_threads::<JobDone>();
-    assert_eq!(rt;
-        job.name(),
-        JobName::Vote {
+    same(
+        &rt,
+        &job.name(),
+        &JobName::Vote {
             peer: 2,
-            poll: POLL
-        }
+            poll: POLL,
+        },
+        &"job.name",
     );
 }

@@ -13,10 +13,10 @@ theirs = record { poller = 5; number = 1 }
 abbrev pub deposit : Record
 deposit = Deposit 1 pair
 
-abbrev pub opened : List ℕ → Option Limits → Record
-opened nonce limits = PollOpened 1 1 nonce (2 ∷ 3 ∷ 4 ∷ []) 0 limits Sha256
+abbrev pub opened_poll : List ℕ → Option Limits → Record
+opened_poll nonce limits = PollOpened 1 1 nonce (2 ∷ 3 ∷ 4 ∷ []) 0 limits Sha256
 
 -- with these numbers, or without
 abbrev pub journal_of : List ℕ → Option Limits → Option ℕ → List Record
 journal_of nonce limits repairs =
-    deposit ∷ opened nonce limits ∷ Joined theirs 1 0 true repairs ∷ Committed theirs nonce 0 Sha256 ∷ []
+    deposit ∷ opened_poll nonce limits ∷ Joined theirs 1 0 true repairs ∷ Committed theirs nonce 0 Sha256 ∷ []

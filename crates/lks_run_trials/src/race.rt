@@ -17,7 +17,7 @@ use std::test::Fail;
 use std::thread::Threads;
 
 /// The world of the script of ordinary use after its step, with this line behind its copies.
-fn opened<'a, R: Threads + Wait + Sync>(
+fn opened_world<'a, R: Threads + Wait + Sync>(
     alloc: Global,
     rt: &R,
     pool: &'a BlockPool,
@@ -52,7 +52,7 @@ fn on_a_farm<R: Threads + Wait + Sync>(
     rt: &R,
     pool: &BlockPool,
 ) -> Result<(u64, usize, usize, usize), Fail> {
-    let world = opened(alloc, rt, pool, DAMAGE)?;
+    let world = opened_world(alloc, rt, pool, DAMAGE)?;
     let set = Farm::new(alloc, pool, 64, 4)?;
     let (_world, end, set) = race_on(alloc, rt, world, pool, set, &FreeGate);
     end?;
@@ -74,7 +74,7 @@ fn a_race_through_the_farm(rt: HostRuntime) -> Result<(), Fail> {
 #[test]
 fn each_job_reads_once(rt: HostRuntime) -> Result<(), Fail> {
     let pool = BlockPool::new(rt.alloc())?;
-    let world = opened(rt.alloc(), &rt, &pool, "")?;
+    let world = opened_world(rt.alloc(), &rt, &pool, "")?;
     let (_world, end) = race(rt.alloc(), &rt, world, &pool, 2, &FreeGate);
     end?;
     let reads = pool.reads();

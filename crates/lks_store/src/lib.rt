@@ -2,6 +2,7 @@
 //!
 //! An opener that tells what its next store holds has exact contracts. One over the file system tells nothing, and is
 //! trusted: so are its files.
+//! Its trials: `lks_format_trials`, `store`.
 //!
 //! ```rust
 //! use lks_disk::MemDisk;
@@ -18,8 +19,6 @@
 mod files;
 mod memory;
 mod openers;
-#[cfg(test)]
-mod tests;
 
 pub use files::{FileDisk, FileOpener};
 pub use memory::MemOpener;

@@ -11,7 +11,7 @@ use Rattle.std.proofs.lemmas.Map.Made.{IsDistinct-from_AllPairs, length-le_from_
 use Rattle.lks_base.specs.Checking.{has_member}
 use Rattle.lks_tally.specs.declared.ballots.Vote.{Vote}
 use Rattle.lks_tally.specs.Distinct.{AreDistinct}
-use Rattle.lks_tally.specs.Keeping.{has_voted}
+use Rattle.lks_tally.specs.Keeping.{has_vote_of}
 
 -- the voters of the votes, in order
 abbrev voters : List Vote → List ℕ
@@ -21,7 +21,7 @@ length_voters : (votes : List Vote) → length (voters votes) ≡ length votes
 length_voters [] = refl
 length_voters (w ∷ ws) = ap suc (length_voters ws)
 
-is_member_votes : (votes : List Vote) (v : ℕ) → is_member nat_eq (voters votes) v ≡ has_voted votes v
+is_member_votes : (votes : List Vote) (v : ℕ) → is_member nat_eq (voters votes) v ≡ has_vote_of votes v
 is_member_votes [] v = refl
 is_member_votes (w ∷ ws) v = λ i. nat_eq_equiv.symm v w.voter i || is_member_votes ws v i
 
@@ -41,7 +41,7 @@ distinct_voters votes distinct = λ i j d before within same.
 
 -- distinct voters out of a circle are no more than it has members
 pub few_voters : (ids : List ℕ) (votes : List Vote) → AreDistinct votes
-    → ((v : ℕ) → has_voted votes v ≡ true → has_member ids v ≡ true)
+    → ((v : ℕ) → has_vote_of votes v ≡ true → has_member ids v ≡ true)
     → length votes ≤ length ids
 few_voters ids votes distinct within =
     let fewer : length (voters votes) ≤ length ids =

@@ -41,8 +41,8 @@ abbrev pub IsSame : Tallied → Tallied → Type 0
 IsSame t u = (t.ballot ≡ u.ballot) × (t.limits ≡ u.limits) × (t.votes ≡ u.votes)
 
 -- whether one of the votes is of this voter
-abbrev pub has_voted : List Vote → ℕ → Bool
-has_voted votes voter = list_any (λ v. v.voter == voter) votes
+abbrev pub has_vote_of : List Vote → ℕ → Bool
+has_vote_of votes voter = list_any (λ v. v.voter == voter) votes
 
 -- one vote more, and nothing kept
 abbrev pub vote_added : Tallied → Vote → Tallied

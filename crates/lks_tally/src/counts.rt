@@ -137,8 +137,8 @@ pub fn at_heads(minority: u16, votes: &[Vote], heads: &[[u8; 32]], b: u16) -> At
 }
 
 /// Whether one of the votes is this voter's.
-pub fn has_voted(votes: &[Vote], voter: u16) -> bool
-    ensures { result ≡ keeping.has_voted votes.now voter }
+pub fn has_vote_of(votes: &[Vote], voter: u16) -> bool
+    ensures { result ≡ keeping.has_vote_of votes.now voter }
 {
     votes.iter().any(|v| v.voter == voter)
 }

@@ -34,6 +34,6 @@ mod tallies;
 mod trials;
 
 pub use ballots::{At, Ballot, Verdict, Vote};
-pub use counts::{has_voted, voter_key};
+pub use counts::{has_vote_of, voter_key};
 pub use plain::for_of;
 pub use tallies::{Tally, VoteFault};

@@ -3,7 +3,7 @@
 ghost use Rattle.std.specs.Prelude.{◌≡◌, ℕ, ◌+◌, ◌*◌, ◌-◌, ◌<◌, ◌≤◌, ◌≢◌, ◌↔◌, List, [], ◌∷◌, length, min, slice_set};
 ghost use Rattle.std.specs.Prelude.{vec_len, vec_capacity, IsOk, IsTrue, IfOk, OnOk, OnErr, true, false};
 ghost use Rattle.lks_tally.specs.Counting.{voters_against, verdict_at, verdict_on};
-ghost use Rattle.lks_tally.specs.Keeping.{IsCacheOf, IsReserved, IsSame, KeepsRooms, has_voted, vote_added};
+ghost use Rattle.lks_tally.specs.Keeping.{IsCacheOf, IsReserved, IsSame, KeepsRooms, has_vote_of, vote_added};
 ghost use Rattle.lks_tally.specs.Keeping.{hashes_forgotten, kept_after, roomed_as};
 
 use crate::ballots::{At, Ballot, Verdict, Vote};
@@ -120,14 +120,14 @@ impl Tally {
             ≡ record (vote_added self.old
             (record { voter = voter; hashes = hashes })) { vote_room = self.new.vote_room }) }
         ensures err { OnErr result (self.new ≡ self.old) }
-        ensures twice { (result ≡ Err VoteFault.Twice) ↔ IsTrue (has_voted self.old.votes voter) }
+        ensures twice { (result ≡ Err VoteFault.Twice) ↔ IsTrue (has_vote_of self.old.votes voter) }
         ensures wrong_length { (result ≡ Err VoteFault.Length)
-            ↔ ((has_voted self.old.votes voter ≡ false) × (length hashes ≢ self.old.ballot.count)) }
+            ↔ ((has_vote_of self.old.votes voter ≡ false) × (length hashes ≢ self.old.ballot.count)) }
         ensures rooms { KeepsRooms self.old self.new }
         ensures roomy { length self.old.votes < self.old.vote_room
             → (self.new.vote_room ≡ self.old.vote_room) × (result ≢ Err VoteFault.Memory) }
     {
-        if counts::has_voted(&self.votes, voter) {
+        if counts::has_vote_of(&self.votes, voter) {
             return Err(VoteFault::Twice);
         }
         if hashes.as_slice().len() != self.ballot.count as usize {

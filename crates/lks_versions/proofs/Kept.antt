@@ -3,7 +3,7 @@ use Rattle.std.proofs.Common.{◌≡◌, ℕ, ◌<◌, ◌≤◌, inl, inr, List
 use Rattle.std.specs.Prelude.{slice_index_or, slice_set}
 use Rattle.lks_blocks.specs.Block.{Block}
 use Rattle.lks_versions.specs.declared.versions.Pin.{Pin}
-use Rattle.lks_versions.specs.Shelf.{Shelf, IsKept, current_of, version_of}
+use Rattle.lks_versions.specs.Shelf.{Shelf, IsKept}
 use Rattle.lks_versions.specs.Whole.{IsWhole, IsCounted, deposit_of}
 use Rattle.lks_versions.proofs.PinLaws.{pin_of-within}
 
@@ -30,13 +30,6 @@ pub counted_at : (lists : List (List Block)) (pins : List Pin) (k : ℕ) (list :
 counted_at lists pins k list whole within is =
     let same = count_at lists pins k list whole within is in
     (omega (arith, same, whole.counted.0), omega (arith, same, whole.counted.1))
-
-pub count_each : (deposit : List Block) (later : List (List Block)) (pins : List Pin) (s : Shelf)
-    → record { lists = deposit ∷ later; pins = pins } ≡ s → IsWhole (deposit ∷ later) pins
-    → (k : ℕ) → k ≤ current_of s → length (version_of s k) ≡ length deposit
-count_each deposit later pins s is whole =
-    let P : Shelf → Type 0 = λ s. (k : ℕ) → k ≤ current_of s → length (version_of s k) ≡ length deposit in
-    subst P is (λ k within. whole.same k [] (omega arith))
 
 -- a list with another block in a place
 pub count_set : (lists : List (List Block)) (pins : List Pin) (k : ℕ) (list after : List Block) (b : ℕ)

@@ -112,11 +112,6 @@ pub number_kept : (most m : ℕ) (ds : List ℕ) → most < 2 ^ 64 → number_in
     → number_in most (decimal m) ≡ Some m
 number_kept most m ds lt e = number_again most m (decimal m) lt (number_most most ds m e) refl
 
--- a number has one spelling
-pub number_once : (most m : ℕ) (a b : List ℕ) → most < 2 ^ 64 → number_in most a ≡ Some m
-    → number_in most b ≡ Some m → a ≡ b
-number_once most m a b lt p q = number_is most m a lt p ∙ sym (number_is most m b lt q)
-
 -- a decimal has digits alone
 pub decimal_digits : (n : ℕ) → n < 2 ^ 64 → all_ascii_digits (decimal n) ≡ true
 decimal_digits n lt = digits_decimal own n lt

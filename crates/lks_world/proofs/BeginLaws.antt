@@ -26,11 +26,10 @@ use Rattle.lks_world.proofs.ServingLaws.{serves_none, serves_then}
 use Rattle.lks_world.specs.Begun.{HasBegun, HaveBegun, HasBegunAs, IsSiteed, IsServed, IsTaken}
 use Rattle.lks_world.specs.Counts.{ServesHonest}
 use Rattle.lks_world.specs.Held.{IsFresh, AreFresh}
-use Rattle.lks_world.specs.Hosts.{peer_in, peers_of, fault_at}
+use Rattle.lks_world.specs.Hosts.{peer_in, peers_of}
 use Rattle.lks_world.specs.Powers.{power_of}
 use Rattle.lks_world.specs.Sites.{host_at, hosts_of, disk_at, disks_at, id_at, ids_at, id_for, AreSites}
 use Rattle.lks_world.specs.declared.faults.WorldFault.{WorldFault}
-use Rattle.lks_world.specs.declared.faults.WorldFault.TheVariants.{Disk}
 use Rattle.lks_world.specs.declared.sites.Site.{Site}
 use Rattle.lks_world.specs.declared.sites.Site.TheVariants as site
 
@@ -47,13 +46,6 @@ module _ {D : Type 0} (f : Face D) (disks left : List D) (d : D) (is : disks ≡
   pub fresh_rest : AreFresh f (reverse left)
   fresh_rest place disk at =
       fresh (suc place) disk (ap (λ (ds : List D). slice_get ds (suc place)) (last_first disks left d is) ∙ at)
-
--- a peer is blamed for its own disk alone
-pub blamed_is : (peer k : ℕ) (fault : HostFault) → fault_at peer fault ≡ Disk k → (peer ≡ k) × (fault ≡ host.Failed)
-blamed_is peer k host.Failed is = (cc, refl)
-blamed_is peer k host.Cut is = absurd cc
-blamed_is peer k host.Memory is = absurd cc
-blamed_is peer k (host.Stale expected found) is = absurd cc
 
 -- What a host begins with is on its disk.
 

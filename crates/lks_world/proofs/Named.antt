@@ -42,12 +42,6 @@ result_of_step pool bag s (Some d) deed is for =
     subst (λ (x : Option Deed). IfSome x (λ y. IsResultOf pool y.input d)) (sym (is ∙ ap (deed_of bag) for.step))
     (named pool bag d for.of)
 
--- a result of what is due is one for its step
-pub result_of_due : (pool : List ℕ) (due : Due) (s : PeerStep) (o : Option JobDone)
-    → ((p : PeerStep) → due ≡ dues.Own p → s ≡ p) → IfSome o (IsForDue pool due) → IfSome o (IsFor pool s)
-result_of_due pool due s None own for = tt
-result_of_due pool due s (Some d) own for = record { of = for.of; step = own (step_named (name_done d)) for.work }
-
 -- and one that is named as it is
 pub result_named : (pool : List ℕ) (due : Due) (name : JobName) (o : Option JobDone)
     → due ≡ dues.Own (step_named name) → IfSome o (λ d. name_done d ≡ name)

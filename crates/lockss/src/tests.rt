@@ -22,6 +22,7 @@ use lks_disk::{Disk, MemDisk};
 use lks_outside::{MemSink, MemSource};
 use lks_work::FreeGate;
 use std::alloc::Global;
+use std::fmt::Debug;
 use std::process::Abort;
 use std::sync::Wait;
 use std::test::Fail;
@@ -588,6 +589,24 @@ fn replayed<R: Threads + Wait + Sync>(
     run_over(alloc, rt, words, &mut source, &mut sink)
 }
 
+/// Ends the test where the two differ, and says at which row: a call of it costs a proof one step, and an `assert_eq`
+/// many.
+fn same<T: PartialEq + Debug>(rt: &impl Abort, found: &T, wanted: &T, row: &impl Debug) {
+    assert_eq!(rt; *found, *wanted, "{row:?}");
+}
+
+/// Ends the test where a run didn't answer and write this, and says at which row.
+fn expect(
+    rt: &impl Abort,
+    found: &(Status, Vec<u8>),
+    status: Status,
+    text: &[u8],
+    row: &impl Debug,
+) {
+    same(rt, &found.0, &status, row);
+    same(rt, &found.1.as_slice(), &text, row);
+}
+
 /// Runs each script, and compares what it answers and writes.
 fn check_rows<R: Abort + Threads + Wait + Sync>(
     rt: &R,
@@ -595,9 +614,9 @@ fn check_rows<R: Abort + Threads + Wait + Sync>(
     rows: &[Row],
 ) -> Result<(), Fail> {
     for (at, (answer, script, report)) in rows.iter().enumerate() {
-        let (status, written) = replayed(alloc, rt, REPLAY, script, &[], &[])?;
-        assert_eq!(rt; status, *answer, "row {at}");
-        assert_eq!(rt; written, joined(alloc, report)?, "row {at}");
+        let found = replayed(alloc, rt, REPLAY, script, &[], &[])?;
+        let report = joined(alloc, report)?;
+        expect(rt, &found, *answer, &report, &at);
     }
     Ok(())
 }
@@ -652,9 +671,8 @@ const MISUSED: [&[&str]; 12] = [
 #[test]
 fn misused_words(rt: HostRuntime) -> Result<(), Fail> {
     for words in MISUSED {
-        let (status, written) = replayed(rt.alloc(), &rt, words, &[HEAD, AGREED], &[1], &[1])?;
-        assert_eq!(rt; status, Status::Usage);
-        assert!(rt; written.is_empty());
+        let found = replayed(rt.alloc(), &rt, words, &[HEAD, AGREED], &[1], &[1])?;
+        expect(&rt, &found, Status::Usage, b"", &words);
     }
     Ok(())
 }
@@ -673,9 +691,8 @@ const BAD_SCRIPTS: [(&[&str], u32); 7] = [
 #[test]
 fn bad_scripts(rt: HostRuntime) -> Result<(), Fail> {
     for (script, line) in BAD_SCRIPTS {
-        let (status, written) = replayed(rt.alloc(), &rt, REPLAY, script, &[], &[1])?;
-        assert_eq!(rt; status, Status::BadScript { line });
-        assert!(rt; written.is_empty());
+        let found = replayed(rt.alloc(), &rt, REPLAY, script, &[], &[1])?;
+        expect(&rt, &found, Status::BadScript { line }, b"", &script);
     }
     Ok(())
 }
@@ -689,9 +706,8 @@ const FAULTS: [(&[u32], &[u32], Status); 2] = [
 #[test]
 fn faults(rt: HostRuntime) -> Result<(), Fail> {
     for (reads, writes, answer) in FAULTS {
-        let (status, written) = replayed(rt.alloc(), &rt, REPLAY, &[HEAD, AGREED], reads, writes)?;
-        assert_eq!(rt; status, answer);
-        assert!(rt; written.is_empty());
+        let found = replayed(rt.alloc(), &rt, REPLAY, &[HEAD, AGREED], reads, writes)?;
+        expect(&rt, &found, answer, b"", &reads);
     }
     Ok(())
 }

@@ -1,5 +1,6 @@
 //! A bell that is dropped, beside one that goes on.
 
+use crate::same::same;
 use lks_base::OutOfMemory;
 use lks_outside::{Alarm, AlarmDesk, AlarmKind, Bell, ListBell};
 use std::alloc::Global;
@@ -61,7 +62,7 @@ fn drops_a_bell_at_its_limit(rt: HostRuntime) -> Result<(), Fail> {
     for (raised, count) in COUNTS.iter().enumerate() {
         let alarms = &alarms[..raised];
         let bells = left(rt.alloc(), alarms)?;
-        assert_eq!(rt; bells.len(), *count, "{raised}");
+        same(&rt, &bells.len(), count, &raised);
         assert!(rt; last_rang_for(&bells, alarms), "{raised}");
     }
     Ok(())
@@ -85,6 +86,6 @@ fn rings_in_boxes(rt: HostRuntime) -> Result<(), Fail> {
     raise(&mut desk, &[OVERDUE, SPLIT]);
     let bells = desk.into_bells();
     assert_eq!(rt; bells.len(), 1);
-    assert_eq!(rt; bells[0].rung(), 2);
+    same(&rt, &bells[0].rung(), &2, &"bells[0].rung");
     Ok(())
 }

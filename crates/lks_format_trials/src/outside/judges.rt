@@ -2,6 +2,7 @@
 
 ghost use Rattle.std.specs.Prelude.{◌≡◌, []};
 
+use crate::same::same;
 use lks_base::Bytes;
 use lks_outside::{EffortJudge, FirstByteJudge, ListJudge, Question};
 use std::alloc::Global;
@@ -31,7 +32,7 @@ fn verdicts<J: EffortJudge>(alloc: Global, judge: &mut J) -> Result<[bool; 4], F
 fn first_bytes(rt: HostRuntime) -> Result<(), Fail> {
     let mut judge = FirstByteJudge::new(rt.alloc())?;
     let verdicts = verdicts(rt.alloc(), &mut judge)?;
-    assert_eq!(rt; verdicts, [true, false, false, true]);
+    same(&rt, &verdicts, &[true, false, false, true], &"verdicts");
     Ok(())
 }
 
@@ -42,6 +43,6 @@ fn a_list(rt: HostRuntime) -> Result<(), Fail> {
     let judge = ListJudge::new(rt.alloc(), listed)?;
     let mut judge: Box<dyn EffortJudge> = Box::new(rt.alloc(), judge)?;
     let verdicts = verdicts(rt.alloc(), &mut judge)?;
-    assert_eq!(rt; verdicts, [true, false, true, false]);
+    same(&rt, &verdicts, &[true, false, true, false], &"verdicts");
     Ok(())
 }

@@ -1,5 +1,6 @@
 //! Calls that fail, narrow pieces, and std underneath.
 
+use crate::same::same;
 use lks_outside::{
     Failed, MemSink, MemSource, ReadStop, Sink, SinkStop, Source, StdSink, StdSource, WriteStop,
     read_all, write_all,
@@ -53,14 +54,19 @@ const READS: [(&[u32], usize, usize, Result<bool, ReadStop>); 11] = [
 fn reads_to_the_end(rt: HostRuntime) {
     for (fail, width, most, wanted) in READS.iter() {
         let answer = reads_text(rt.alloc(), fail, *width, *most);
-        assert_eq!(rt; answer, *wanted, "{width} {most}");
+        same(&rt, &answer, wanted, &(width, most));
     }
 }
 
 #[test]
 fn reads_nothing(rt: HostRuntime) -> Result<(), Fail> {
     let mut empty = source(rt.alloc(), b"", &[], 0)?;
-    assert_eq!(rt; read_all(rt.alloc(), &mut empty, 0)?.len(), 0);
+    same(
+        &rt,
+        &read_all(rt.alloc(), &mut empty, 0)?.len(),
+        &0,
+        &"read_all",
+    );
     Ok(())
 }
 
@@ -70,9 +76,19 @@ fn reads_much(rt: HostRuntime) -> Result<(), Fail> {
     // More than is asked for at once, in pieces of another size.
     let bytes = vec![in alloc; 7u8; 10000]?;
     let mut long = source(alloc, bytes.as_slice(), &[], 4095)?;
-    assert_eq!(rt; read_all(alloc, &mut long, 9995), Err(ReadStop::TooLong));
+    same(
+        &rt,
+        &read_all(alloc, &mut long, 9995),
+        &Err(ReadStop::TooLong),
+        &"read_all",
+    );
     let rest = read_all(alloc, &mut long, 9995)?;
-    assert_eq!(rt; rest.as_slice(), b"\x07\x07\x07\x07".as_slice());
+    same(
+        &rt,
+        &rest.as_slice(),
+        &b"\x07\x07\x07\x07".as_slice(),
+        &"rest",
+    );
     Ok(())
 }
 
@@ -90,8 +106,8 @@ fn reads_once(rt: HostRuntime) -> Result<(), Fail> {
     let mut buf = *b"........";
     for (room, answer, after) in ONE_BY_ONE.iter() {
         let room = (*room).min(buf.len());
-        assert_eq!(rt; source.read(&mut buf[..room]), *answer);
-        assert_eq!(rt; buf.as_slice(), *after);
+        same(&rt, &source.read(&mut buf[..room]), answer, &"source.read");
+        same(&rt, &buf.as_slice(), after, &"buf");
     }
     Ok(())
 }
@@ -110,9 +126,9 @@ const WRITES: [(&[u32], usize, usize, Result<(), WriteStop>); 8] = [
 
 /// Writes the text, of which so many bytes go out, and then nothing.
 fn write_text(rt: &impl Abort, sink: &mut MemSink, out: usize, answer: Result<(), WriteStop>) {
-    assert_eq!(rt; write_all(sink, TEXT), answer);
-    assert_eq!(rt; Some(sink.bytes()), TEXT.get(..out));
-    assert_eq!(rt; write_all(sink, b""), Ok(()));
+    same(rt, &write_all(sink, TEXT), &answer, &"write_all");
+    same(rt, &Some(sink.bytes()), &TEXT.get(..out), &"sink.bytes");
+    same(rt, &write_all(sink, b""), &Ok(()), &"write_all");
 }
 
 #[test]
@@ -129,10 +145,20 @@ fn writes_the_piece(rt: HostRuntime) -> Result<(), Fail> {
 fn writes_twice(rt: HostRuntime) -> Result<(), Fail> {
     let alloc = rt.alloc();
     let mut sink = MemSink::new(alloc, [2].to_vec(alloc)?);
-    assert_eq!(rt; sink.write(b"lots "), Ok(5));
-    assert_eq!(rt; sink.write(b"of "), Err(SinkStop::Failed));
-    assert_eq!(rt; sink.write(b"copies"), Ok(6));
-    assert_eq!(rt; sink.bytes(), b"lots copies".as_slice());
+    same(&rt, &sink.write(b"lots "), &Ok(5), &"sink.write");
+    same(
+        &rt,
+        &sink.write(b"of "),
+        &Err(SinkStop::Failed),
+        &"sink.write",
+    );
+    same(&rt, &sink.write(b"copies"), &Ok(6), &"sink.write");
+    same(
+        &rt,
+        &sink.bytes(),
+        &b"lots copies".as_slice(),
+        &"sink.bytes",
+    );
     Ok(())
 }
 
@@ -168,24 +194,36 @@ impl Write for Late {
 #[test]
 fn reads_of_std(rt: HostRuntime) -> Result<(), Fail> {
     let mut source = StdSource::new(TEXT);
-    assert_eq!(rt; read_all(rt.alloc(), &mut source, 14)?.as_slice(), TEXT);
+    same(
+        &rt,
+        &read_all(rt.alloc(), &mut source, 14)?.as_slice(),
+        &TEXT,
+        &"read_all",
+    );
     Ok(())
 }
 
 #[test]
 fn reads_of_a_broken_reader(rt: HostRuntime) {
     let mut broken = StdSource::new(Broken);
-    assert_eq!(rt;
-        read_all(rt.alloc(), &mut broken, 14),
-        Err(ReadStop::Failed)
+    same(
+        &rt,
+        &read_all(rt.alloc(), &mut broken, 14),
+        &Err(ReadStop::Failed),
+        &"read_all",
     );
 }
 
 #[test]
 fn writes_to_std(rt: HostRuntime) {
     let mut out = Vec::new(rt.alloc());
-    assert_eq!(rt; write_all(&mut StdSink::new(&mut out), TEXT), Ok(()));
-    assert_eq!(rt; out.as_slice(), TEXT);
+    same(
+        &rt,
+        &write_all(&mut StdSink::new(&mut out), TEXT),
+        &Ok(()),
+        &"write_all",
+    );
+    same(&rt, &out.as_slice(), &TEXT, &"out");
 }
 
 #[test]
@@ -193,8 +231,8 @@ fn writes_into_room(rt: HostRuntime) {
     // A writer with no room left answers 0.
     let mut room = [0; 4];
     let answer = write_all(&mut StdSink::new(room.as_mut_slice()), TEXT);
-    assert_eq!(rt; answer, Err(WriteStop::Failed));
-    assert_eq!(rt; room.as_slice(), b"lots".as_slice());
+    same(&rt, &answer, &Err(WriteStop::Failed), &"answer");
+    same(&rt, &room.as_slice(), &b"lots".as_slice(), &"room");
 }
 
 #[test]
@@ -203,6 +241,11 @@ fn holds_nothing_back(rt: HostRuntime) {
         held: Vec::new(rt.alloc()),
         shown: Vec::new(rt.alloc()),
     };
-    assert_eq!(rt; write_all(&mut StdSink::new(&mut late), TEXT), Ok(()));
-    assert_eq!(rt; late.shown.as_slice(), TEXT);
+    same(
+        &rt,
+        &write_all(&mut StdSink::new(&mut late), TEXT),
+        &Ok(()),
+        &"write_all",
+    );
+    same(&rt, &late.shown.as_slice(), &TEXT, &"late.shown");
 }

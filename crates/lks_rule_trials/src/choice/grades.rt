@@ -1,6 +1,7 @@
 //! Grades, and admissions by words that another program made.
 
 use crate::SEED;
+use crate::same::same;
 use lks_base::Rules;
 use lks_choice::{Grade, admits, grade_of};
 use lks_draw::Draws;
@@ -19,7 +20,7 @@ const GRADES: [(u32, u32, bool, Grade); 5] = [
 fn grades(rt: HostRuntime) {
     for (received, given, friend, grade) in GRADES.iter() {
         let answer = grade_of(*received, *given, *friend);
-        assert_eq!(rt; answer, *grade, "at {received}, {given}");
+        same(&rt, &answer, grade, &(received, given));
     }
 }
 
@@ -74,6 +75,6 @@ fn admissions(rt: HostRuntime) {
     for (g, unknown_pct, debt_pct, last_low, tick, wanted) in ADMISSIONS.iter() {
         let rules = rules(*unknown_pct, *debt_pct);
         let answer = admitted(&rt, *g, &rules, *last_low, *tick);
-        assert_eq!(rt; answer, *wanted, "{g:?} {unknown_pct} {debt_pct} {tick}");
+        same(&rt, &answer, wanted, &(g, unknown_pct, debt_pct, tick));
     }
 }

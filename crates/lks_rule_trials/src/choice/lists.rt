@@ -1,6 +1,7 @@
 //! Circles that another program made, and lists worked out by hand.
 
 use crate::SEED;
+use crate::same::same;
 use lks_base::{Ids, OutOfMemory};
 use lks_choice::{References, outer_circle};
 use lks_draw::Draws;
@@ -37,9 +38,14 @@ fn circles(rt: HostRuntime) -> Result<(), OutOfMemory> {
     let mut draws = Draws::new(SEED, 2, 1);
     for (nominated, wanted) in CIRCLES.iter() {
         let circle = circle(rt.alloc(), nominated, 4, &mut draws)?;
-        assert_eq!(rt; circle.as_slice(), *wanted);
+        same(&rt, &circle.as_slice(), wanted, &"circle");
     }
-    assert_eq!(rt; draws.next(u32::MAX) + 1, 0x8274_4e46);
+    same(
+        &rt,
+        &(draws.next(u32::MAX) + 1),
+        &0x8274_4e46,
+        &"the next word",
+    );
     Ok(())
 }
 
@@ -50,7 +56,12 @@ fn drawn_circle(rt: HostRuntime) -> Result<(), OutOfMemory> {
     // A share is two of five, and the last nomination fills the circle.
     let mut draws = Draws::new(SEED, 2, 1);
     let circle = circle(rt.alloc(), NOMINATED, 5, &mut draws)?;
-    assert_eq!(rt; circle.as_slice(), [6, 4, 8, 9, 10].as_slice());
+    same(
+        &rt,
+        &circle.as_slice(),
+        &[6, 4, 8, 9, 10].as_slice(),
+        &"circle",
+    );
     Ok(())
 }
 
@@ -79,8 +90,13 @@ fn lists(rt: HostRuntime) -> Result<(), OutOfMemory> {
     let mut references = references(rt.alloc())?;
     for poll in POLLS.iter() {
         after_poll(&mut references, poll)?;
-        assert_eq!(rt; references.list(), poll[3]);
-        assert_eq!(rt; references.friends(), [5, 4].as_slice());
+        same(&rt, &references.list(), &poll[3], &"references.list");
+        same(
+            &rt,
+            &references.friends(),
+            &[5, 4].as_slice(),
+            &"references.friends",
+        );
     }
     Ok(())
 }

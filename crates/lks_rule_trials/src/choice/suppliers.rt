@@ -1,5 +1,6 @@
 //! One poll's requests, and who is next after each.
 
+use crate::same::same;
 use lks_base::OutOfMemory;
 use lks_choice::Suppliers;
 use std::process::Abort;
@@ -20,12 +21,22 @@ fn ask(
     voter: u16,
     after: Option<u16>,
 ) -> Result<(), OutOfMemory> {
-    assert_eq!(rt; suppliers.next(5, AGAINST), Some(voter));
+    same(
+        rt,
+        &suppliers.next(5, AGAINST),
+        &Some(voter),
+        &"suppliers.next",
+    );
     note(suppliers, voter)?;
-    assert_eq!(rt; suppliers.unanswered(), Some((5, voter)));
-    assert_eq!(rt; suppliers.next(5, AGAINST), after);
+    same(
+        rt,
+        &suppliers.unanswered(),
+        &Some((5, voter)),
+        &"suppliers.unanswered",
+    );
+    same(rt, &suppliers.next(5, AGAINST), &after, &"suppliers.next");
     suppliers.answered();
-    assert_eq!(rt; suppliers.unanswered(), None);
+    same(rt, &suppliers.unanswered(), &None, &"suppliers.unanswered");
     Ok(())
 }
 
@@ -35,12 +46,17 @@ const ROUNDS: [(u16, Option<u16>); 3] = [(7, Some(4)), (4, Some(9)), (9, None)];
 #[test]
 fn one_at_a_time(rt: HostRuntime) -> Result<(), OutOfMemory> {
     let mut suppliers = Suppliers::new(rt.alloc());
-    assert_eq!(rt; suppliers.unanswered(), None);
+    same(&rt, &suppliers.unanswered(), &None, &"suppliers.unanswered");
     for (voter, after) in ROUNDS.iter() {
         ask(&rt, &mut suppliers, *voter, *after)?;
     }
     // Another block begins anew.
-    assert_eq!(rt; suppliers.next(6, AGAINST), Some(7));
-    assert_eq!(rt; suppliers.next(6, &[]), None);
+    same(
+        &rt,
+        &suppliers.next(6, AGAINST),
+        &Some(7),
+        &"suppliers.next",
+    );
+    same(&rt, &suppliers.next(6, &[]), &None, &"suppliers.next");
     Ok(())
 }

@@ -5,7 +5,7 @@ ghost use Rattle.std.specs.Prelude.{◌≡◌, None, IfOk, IsSome};
 ghost use Rattle.lks_base.specs.Checking.{plan_fault};
 ghost use Rattle.lks_law.specs.Facts.{IsHeard};
 ghost use Rattle.lks_law.specs.World.{honest_peer};
-ghost use Rattle.lks_run_trials.specs.Opened.{deposit, opened, journal_of};
+ghost use Rattle.lks_run_trials.specs.Opened.{deposit, opened_poll, journal_of};
 
 use lks_base::{
     AuPlan, Bytes, HashKind, Ids, Input, Judged, Limits, OutOfMemory, PeerPlan, Plan, PollName,
@@ -90,8 +90,12 @@ fn deposit(alloc: Global) -> Result<Record, OutOfMemory>
     })
 }
 
-fn opened(alloc: Global, nonce: [u8; 32], limits: Option<Limits>) -> Result<Record, OutOfMemory>
-    ensures { IfOk result (λ r. r ≡ opened nonce limits) }
+fn opened_poll(
+    alloc: Global,
+    nonce: [u8; 32],
+    limits: Option<Limits>,
+) -> Result<Record, OutOfMemory>
+    ensures { IfOk result (λ r. r ≡ opened_poll nonce limits) }
 {
     Ok(Record::PollOpened {
         number: 1,
@@ -128,7 +132,7 @@ fn journal(
     };
     Ok(vec![in alloc;
         deposit(alloc)?,
-        opened(alloc, nonce, limits)?,
+        opened_poll(alloc, nonce, limits)?,
         joined,
         committed,
     ]?)

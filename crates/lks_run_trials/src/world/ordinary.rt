@@ -8,6 +8,7 @@ ghost use Rattle.lks_farm.specs.Batches.{AreDoneOf};
 ghost use Rattle.lks_script.specs.StepRules.{are_steps_of};
 ghost use Rattle.lks_world.specs.Held.{AreFresh, IsFresh};
 
+use crate::same::same;
 use crate::world::driving::{Driven, ReturnOrder, drive};
 use lks_base::{Entry, MOST_PEERS, Plan};
 use lks_blocks::BlockPool;
@@ -18,7 +19,6 @@ use lks_script::{Script, Step, read_script};
 use lks_work::FreeGate;
 use lks_world::{World, WorldFault};
 use std::alloc::{AllocError, Global};
-use std::process::Abort;
 use std::sync::Wait;
 use std::test::Fail;
 use std::thread::Threads;
@@ -350,25 +350,32 @@ fn stands_in(text: &[u8], piece: &[u8]) -> bool {
     false
 }
 
-fn compare<R: Abort>(rt: &R, at: usize, case: &Case, came: &str, seen: &Ending) {
-    assert!(rt; came.trim_end() == case.came, "case {at}: {came}");
-    assert!(rt; seen.quiet == case.quiet, "case {at}");
-    assert!(rt;
-        seen.text.as_slice().starts_with(case.begins.as_bytes()),
-        "case {at}"
-    );
-    assert!(rt;
-        seen.text.as_slice().ends_with(case.ends.as_bytes()),
-        "case {at}"
-    );
-    assert!(rt; seen.last == seen.copied, "case {at}");
-    assert!(rt;
-        seen.stopped == [None, Some(WorldFault::Memory)],
-        "case {at}"
-    );
-    for line in case.has.lines() {
-        assert!(rt; stands_in(&seen.text, line.as_bytes()), "case {at}: {line}");
+/// What isn't as the case says, if anything.
+fn unlike(case: &Case, came: &str, seen: &Ending) -> Option<&'static str> {
+    let text = seen.text.as_slice();
+    if came.trim_end() != case.came {
+        return Some("what came back");
     }
+    if seen.quiet != case.quiet {
+        return Some("whether it is quiet");
+    }
+    if !text.starts_with(case.begins.as_bytes()) || !text.ends_with(case.ends.as_bytes()) {
+        return Some("how its report begins and ends");
+    }
+    if !case
+        .has
+        .lines()
+        .all(|line| stands_in(text, line.as_bytes()))
+    {
+        return Some("a line of its report");
+    }
+    if seen.last != seen.copied {
+        return Some("its last entry");
+    }
+    if seen.stopped != [None, Some(WorldFault::Memory)] {
+        return Some("why it stopped");
+    }
+    None
 }
 
 #[test]
@@ -379,7 +386,7 @@ fn ordinary_use_by_what_is_given_out(rt: HostRuntime) -> Result<(), Fail> {
         let script = script_of(alloc, case.turns, DAMAGE)?;
         let mut driven = Driven::new(alloc, case.order);
         let seen = play(alloc, &rt, &pool, script, &mut driven)?;
-        compare(&rt, at, case, driven.came.as_str(), &seen);
+        same(&rt, &unlike(case, driven.came.as_str(), &seen), &None, &at);
     }
     Ok(())
 }

@@ -234,9 +234,9 @@ fn cuts(rt: HostRuntime) -> Result<(), Fail> {
     let alloc = rt.alloc();
     for (line, report) in CUT_STEPS {
         let script = [HEAD, ASKED, line, AGAIN];
-        let (status, written) = replayed(alloc, &rt, REPLAY, &script, &[], &[])?;
-        assert_eq!(rt; status, Done, "{line}");
-        assert_eq!(rt; written, joined(alloc, report)?, "{line}");
+        let found = replayed(alloc, &rt, REPLAY, &script, &[], &[])?;
+        let report = joined(alloc, report)?;
+        expect(&rt, &found, Done, &report, &line);
     }
     check_rows(&rt, alloc, &CUTS)
 }

@@ -65,11 +65,11 @@ pub fn batches_on(alloc: Global, disk: Option<MemDisk>) -> Result<Vec<Bytes>, Fa
 fn deposits_first(rt: HostRuntime) -> Result<(), Fail> {
     let alloc = rt.alloc();
     let (status, disk, _written) = replay_on(alloc, &rt, REPLAY, &[HEAD], &[], &[])?;
-    assert_eq!(rt; status, Status::Done);
+    same(&rt, &status, &Status::Done, &"status");
     let Some(disk) = disk else {
         return Err("a disk".into());
     };
-    assert_eq!(rt; disk.bytes(), DEPOSIT);
+    same(&rt, &disk.bytes(), &DEPOSIT, &"disk.bytes");
     Ok(())
 }
 
@@ -84,10 +84,10 @@ pub fn is_left(call: u32, count: usize) -> bool {
 fn each_call_fails(rt: HostRuntime) -> Result<(), Fail> {
     let alloc = rt.alloc();
     let (status, _disk, _written) = replay_on(alloc, &rt, REPLAY, &[HEAD, AGREED], &[31], &[])?;
-    assert_eq!(rt; status, Status::Done);
+    same(&rt, &status, &Status::Done, &"status");
     let (_status, disk, _written) = replay_on(alloc, &rt, REPLAY, &[HEAD, AGREED], &[], &[])?;
     let whole = batches_on(alloc, disk)?;
-    assert_eq!(rt; whole.len(), 7);
+    same(&rt, &whole.len(), &7, &"whole.len");
     for call in 1..31u32 {
         let (status, disk, _written) = replay_on(
             alloc,
@@ -97,14 +97,14 @@ fn each_call_fails(rt: HostRuntime) -> Result<(), Fail> {
             &[call],
             &[],
         )?;
-        assert_eq!(rt; status, Status::DiskFault { peer: 1 }, "call {call}");
+        same(&rt, &status, &Status::DiskFault { peer: 1 }, &call);
         if call < 3 {
             continue;
         }
         let batches = batches_on(alloc, disk)?;
         assert!(rt; is_left(call, batches.len()), "call {call}");
         for (batch, wanted) in batches.iter().zip(whole.as_slice()) {
-            assert_eq!(rt; batch.as_slice(), wanted.as_slice(), "call {call}");
+            same(&rt, &batch.as_slice(), &wanted.as_slice(), &call);
         }
     }
     Ok(())
@@ -123,7 +123,7 @@ fn a_read_fails_at_the_reopening(rt: HostRuntime) -> Result<(), Fail> {
             &[],
             &[1],
         )?;
-        assert_eq!(rt; status, Status::DiskFault { peer: 1 }, "{lines}");
+        same(&rt, &status, &Status::DiskFault { peer: 1 }, &lines);
     }
     Ok(())
 }
@@ -146,9 +146,9 @@ fn a_journal_is_not_read_back(rt: HostRuntime) -> Result<(), Fail> {
             fail,
             fail_reads,
         )?;
-        assert_eq!(rt; status, Status::DiskFault { peer: 1 });
+        same(&rt, &status, &Status::DiskFault { peer: 1 }, &"status");
         assert!(rt; written.is_empty());
-        assert_eq!(rt; batches_on(alloc, disk)?.len(), 7);
+        same(&rt, &batches_on(alloc, disk)?.len(), &7, &"batches_on");
     }
     let (status, _disk, written) = replay_on(
         alloc,
@@ -158,7 +158,7 @@ fn a_journal_is_not_read_back(rt: HostRuntime) -> Result<(), Fail> {
         &[32],
         &[3],
     )?;
-    assert_eq!(rt; status, Status::Done);
+    same(&rt, &status, &Status::Done, &"status");
     assert!(rt; !written.is_empty());
     Ok(())
 }

@@ -30,9 +30,8 @@ const DRILLS: [(&str, &str); 5] = [
 #[test]
 fn drills(rt: HostRuntime) -> Result<(), Fail> {
     for (seed, line) in DRILLS {
-        let (status, written) = replayed(rt.alloc(), &rt, &["drill", seed], &[], &[1], &[])?;
-        assert_eq!(rt; status, Done, "{seed}");
-        assert_eq!(rt; written.as_slice(), line.as_bytes());
+        let found = replayed(rt.alloc(), &rt, &["drill", seed], &[], &[1], &[])?;
+        expect(&rt, &found, Done, line.as_bytes(), &seed);
     }
     Ok(())
 }

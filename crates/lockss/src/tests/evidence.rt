@@ -38,7 +38,7 @@ fn told<R: Abort + Threads + Wait + Sync>(
     script: &[&str],
 ) -> Result<Vec<u8>, Fail> {
     let (status, written) = replayed(alloc, rt, JOURNALS, script, &[], &[])?;
-    assert_eq!(rt; status, Done);
+    same(rt, &status, &Done, &"status");
     Ok(written)
 }
 
@@ -60,10 +60,9 @@ fn found<R: Threads + Wait + Sync>(
 fn journals_without_a_poll(rt: HostRuntime) -> Result<(), Fail> {
     let alloc = rt.alloc();
     let text = told(&rt, alloc, &[HEAD])?;
-    assert_eq!(rt; text.as_slice(), HEAD_PRINTED.as_bytes());
-    let (status, line) = found(alloc, &rt, &text)?;
-    assert_eq!(rt; status, Done);
-    assert_eq!(rt; line.as_slice(), b"evidence yes 0\n".as_slice());
+    same(&rt, &text.as_slice(), &HEAD_PRINTED.as_bytes(), &"text");
+    let ended = found(alloc, &rt, &text)?;
+    expect(&rt, &ended, Done, b"evidence yes 0\n", &"no poll");
     Ok(())
 }
 
@@ -175,14 +174,18 @@ fn doctored_journals(rt: HostRuntime) -> Result<(), Fail> {
     let alloc = rt.alloc();
     for (script, old, new, without, line) in DOCTORED {
         let text = edited(alloc, &told(&rt, alloc, script)?, old, new, without)?;
-        let (status, written) = found(alloc, &rt, &text)?;
-        assert_eq!(rt; written.as_slice(), line.as_bytes(), "{line}");
         let answer = if line.starts_with("evidence yes") {
             Done
         } else {
             Doubted
         };
-        assert_eq!(rt; status, answer, "{line}");
+        expect(
+            &rt,
+            &found(alloc, &rt, &text)?,
+            answer,
+            line.as_bytes(),
+            &line,
+        );
     }
     Ok(())
 }
@@ -201,9 +204,8 @@ fn bad_journals(rt: HostRuntime) -> Result<(), Fail> {
     let alloc = rt.alloc();
     let text = told(&rt, alloc, &[HEAD])?;
     for (old, new, line) in BAD {
-        let (status, written) = found(alloc, &rt, &edited(alloc, &text, old, new, 0)?)?;
-        assert_eq!(rt; status, Status::BadScript { line }, "{new}");
-        assert!(rt; written.is_empty());
+        let ended = found(alloc, &rt, &edited(alloc, &text, old, new, 0)?)?;
+        expect(&rt, &ended, Status::BadScript { line }, b"", &new);
     }
     Ok(())
 }
@@ -257,7 +259,7 @@ fn each_bit_turned(rt: HostRuntime) -> Result<(), Fail> {
         for bit in 0..4 {
             let bytes = with_turned(alloc, &text, at, bit)?;
             let (status, _line) = found(alloc, &rt, &bytes)?;
-            assert_eq!(rt; status, examined(alloc, &bytes)?, "{at} {bit}");
+            same(&rt, &status, &examined(alloc, &bytes)?, &(at, bit));
             assert!(rt; status != Done || at < block || at >= behind, "{at} {bit}");
         }
     }
@@ -272,7 +274,7 @@ fn hashes_turned(rt: HostRuntime) -> Result<(), Fail> {
     let start = place_of(&text, b"0105000000010003000c")?.saturating_add(20);
     for at in start..start.saturating_add(12 * 64) {
         let (status, _line) = found(alloc, &rt, &with_turned(alloc, &text, at, at)?)?;
-        assert_eq!(rt; status, Doubted, "{at}");
+        same(&rt, &status, &Doubted, &at);
     }
     Ok(())
 }
@@ -292,7 +294,7 @@ fn a_write_fails(rt: HostRuntime) -> Result<(), Fail> {
         let mut sink = MemSink::narrow(alloc, [3].to_vec(alloc)?, 7);
         let mut disks = fresh_disks(alloc)?;
         let status = run_plainly(alloc, &rt, &words, &mut source, &mut sink, &mut disks)?;
-        assert_eq!(rt; status, Status::WriteFault);
+        same(&rt, &status, &Status::WriteFault, &"status");
         assert!(rt; sink.bytes().len() == 14 && whole.starts_with(sink.bytes()));
     }
     Ok(())
@@ -306,9 +308,8 @@ fn evidence_faults(rt: HostRuntime) -> Result<(), Fail> {
         ([1u32].as_slice(), [].as_slice(), Status::ReadFault),
         ([].as_slice(), [1u32].as_slice(), Status::WriteFault),
     ] {
-        let (status, written) = replayed(alloc, &rt, EVIDENCE, &[HEAD], reads, writes)?;
-        assert_eq!(rt; status, answer);
-        assert!(rt; written.is_empty());
+        let ended = replayed(alloc, &rt, EVIDENCE, &[HEAD], reads, writes)?;
+        expect(&rt, &ended, answer, b"", &reads);
     }
     Ok(())
 }

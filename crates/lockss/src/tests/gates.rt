@@ -144,8 +144,8 @@ fn jobs_of_settle_and_finish(rt: HostRuntime) -> Result<(), Fail> {
     for (steps, begun, events) in STEPS {
         let gate = Counting::new();
         let (status, _report) = run_by(rt.alloc(), &rt, REPLAY, &[PEERS, steps], &gate)?;
-        assert_eq!(rt; status, Done);
-        assert_eq!(rt; gate.seen(), (begun, 0, events));
+        same(&rt, &status, &Done, &"status");
+        same(&rt, &gate.seen(), &(begun, 0, events), &"gate.seen");
     }
     Ok(())
 }
@@ -178,11 +178,11 @@ fn two_hash_at_once(rt: HostRuntime) -> Result<(), Fail> {
         failed: AtomicU64::new(0),
     };
     let (status, _report) = run_by(rt.alloc(), &rt, REPLAY, &[LARGE], &gate)?;
-    assert_eq!(rt; status, Done);
+    same(&rt, &status, &Done, &"status");
     let counts = (
         gate.begun.load(Ordering::SeqCst),
         gate.failed.load(Ordering::SeqCst),
     );
-    assert_eq!(rt; counts, (3, 0));
+    same(&rt, &counts, &(3, 0), &"counts");
     Ok(())
 }

@@ -29,15 +29,15 @@ fn a_script_cut_at_each_byte(rt: HostRuntime) -> Result<(), Fail> {
     let mut is_whole = true;
     for byte in joined(alloc, &[HEAD, AGREED])? {
         let answer = answered(alloc, &rt, &front)?;
-        assert_eq!(rt; answer, answer_to(lines, is_whole), "{} bytes", front.len());
+        same(&rt, &answer, &answer_to(lines, is_whole), &front.len());
         front.push(byte)?;
         is_whole = byte == b'\n';
         if is_whole {
             lines = lines.saturating_add(1);
         }
     }
-    assert_eq!(rt; lines, 16);
-    assert_eq!(rt; answered(alloc, &rt, &front)?, Done);
+    same(&rt, &lines, &16, &"lines");
+    same(&rt, &answered(alloc, &rt, &front)?, &Done, &"answered");
     Ok(())
 }
 
@@ -56,8 +56,8 @@ fn as_long_as_may_be(rt: HostRuntime) -> Result<(), Fail> {
         let mut bytes = joined(alloc, script)?;
         bytes.resize(count.saturating_sub(end.len()), b'#')?;
         bytes.extend_from_slice(end.as_bytes())?;
-        assert_eq!(rt; bytes.len(), count);
-        assert_eq!(rt; answered(alloc, &rt, &bytes)?, answer, "{count} bytes");
+        same(&rt, &bytes.len(), &count, &"bytes.len");
+        same(&rt, &answered(alloc, &rt, &bytes)?, &answer, &count);
     }
     Ok(())
 }
@@ -73,13 +73,13 @@ fn narrow_streams(rt: HostRuntime) -> Result<(), Fail> {
         let script = joined(alloc, &[HEAD, AGREED])?;
         let mut source = MemSource::narrow(alloc, script, Vec::new(alloc), 1);
         let mut sink = MemSink::narrow(alloc, Vec::new(alloc), most);
-        let (status, written) = run_over(alloc, &rt, REPLAY, &mut source, &mut sink)?;
-        assert_eq!(rt; status, answer, "{most}");
-        if answer == Done {
-            assert_eq!(rt; written, report, "{most}");
+        let ended = run_over(alloc, &rt, REPLAY, &mut source, &mut sink)?;
+        let text = if answer == Done {
+            report.as_slice()
         } else {
-            assert!(rt; written.is_empty());
-        }
+            b""
+        };
+        expect(&rt, &ended, answer, text, &most);
     }
     Ok(())
 }
@@ -96,10 +96,10 @@ fn each_write_fails(rt: HostRuntime) -> Result<(), Fail> {
         let (status, written) = run_over(alloc, &rt, REPLAY, &mut source, &mut sink)?;
         if status == Done {
             assert!(rt; call as usize > report.len() / 7);
-            assert_eq!(rt; written, report);
+            same(&rt, &written, &report, &"written");
             return Ok(());
         }
-        assert_eq!(rt; status, Status::WriteFault, "call {call}");
+        same(&rt, &status, &Status::WriteFault, &call);
         assert!(rt; written.len() < report.len(), "call {call}");
         assert!(rt; report.starts_with(&written), "call {call}");
     }

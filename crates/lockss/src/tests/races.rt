@@ -68,7 +68,7 @@ const RACES: [(&[&str], &[&str], &str); 4] = [
 fn races_end_alike(rt: HostRuntime) -> Result<(), Fail> {
     for (at, (words, script, report)) in RACES.iter().enumerate() {
         let (status, written) = run_by(rt.alloc(), &rt, words, script, &FreeGate)?;
-        assert_eq!(rt; status, Done, "row {at}");
+        same(&rt, &status, &Done, &at);
         assert!(rt; written.as_slice().ends_with(report.as_bytes()), "row {at}");
     }
     Ok(())
@@ -90,7 +90,7 @@ fn a_disk_fails_in_a_race(rt: HostRuntime) -> Result<(), Fail> {
             &[call],
             &[],
         )?;
-        assert_eq!(rt; status, Status::DiskFault { peer: 1 }, "call {call}");
+        same(&rt, &status, &Status::DiskFault { peer: 1 }, &call);
         assert!(rt; written.is_empty(), "call {call}");
         assert!(rt;
             is_left(call, batches_on(alloc, disk)?.len()),
@@ -98,9 +98,9 @@ fn a_disk_fails_in_a_race(rt: HostRuntime) -> Result<(), Fail> {
         );
     }
     let (status, _disk, _written) = replay_on(alloc, &rt, &["race", "2"], &[PEERS], &[55], &[])?;
-    assert_eq!(rt; status, Done);
+    same(&rt, &status, &Done, &"status");
     let (_status, disk, _written) = replay_on(alloc, &rt, &["race", "2"], &[PEERS], &[], &[])?;
-    assert_eq!(rt; batches_on(alloc, disk)?.len(), 13);
+    same(&rt, &batches_on(alloc, disk)?.len(), &13, &"batches_on");
     Ok(())
 }
 
@@ -225,7 +225,7 @@ fn two_hash_while_others_go_on(rt: HostRuntime) -> Result<(), Fail> {
     let gate = Crossing::new();
     let script = [RULES, COPIES, CROSSING];
     let (status, _report) = run_by(rt.alloc(), &rt, &["race", "2"], &script, &gate)?;
-    assert_eq!(rt; status, Done);
-    assert_eq!(rt; gate.seen(), [1, 1, 1, 1, 0]);
+    same(&rt, &status, &Done, &"status");
+    same(&rt, &gate.seen(), &[1, 1, 1, 1, 0], &"gate.seen");
     Ok(())
 }

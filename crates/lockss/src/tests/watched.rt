@@ -140,8 +140,13 @@ fn refuses_by_a_list(rt: HostRuntime) -> Result<(), Fail> {
     let judge = ListJudge::new(alloc, [true, false, true].to_vec(alloc)?)?;
     let bells: Vec<ListBell> = Vec::new(alloc);
     let watched = watch(&rt, alloc, REPLAY, &[HEAD, AGREED], judge, bells)?;
-    assert_eq!(rt; watched.status, Status::Done);
-    assert_eq!(rt; watched.report.as_slice(), REFUSED_REPORT.as_bytes());
+    same(&rt, &watched.status, &Status::Done, &"watched.status");
+    same(
+        &rt,
+        &watched.report.as_slice(),
+        &REFUSED_REPORT.as_bytes(),
+        &"watched.report",
+    );
     Ok(())
 }
 
@@ -208,13 +213,18 @@ fn the_judge_after_a_race(rt: HostRuntime) -> Result<(), Fail> {
         judge,
         bells: _bells,
     } = watch(&rt, alloc, &["race", "2"], &[HEAD, AGREED], judge, bells)?;
-    assert_eq!(rt; status, Status::Done);
-    assert_eq!(rt; report.as_slice(), REFUSED_REPORT.as_bytes());
+    same(&rt, &status, &Status::Done, &"status");
+    same(
+        &rt,
+        &report.as_slice(),
+        &REFUSED_REPORT.as_bytes(),
+        &"report",
+    );
     let Some(mut judge) = judge else {
         return Err("no judge is back".into());
     };
-    assert_eq!(rt; judge.count, 3);
-    assert_eq!(rt; judge.ask(alloc)?, Some(false));
+    same(&rt, &judge.count, &3, &"judge.count");
+    same(&rt, &judge.ask(alloc)?, &Some(false), &"judge.ask");
     Ok(())
 }
 
@@ -232,10 +242,20 @@ fn rings_two_bells(rt: HostRuntime) -> Result<(), Fail> {
         judge,
         bells,
     )?;
-    assert_eq!(rt; watched.status, Status::Alarmed);
-    assert_eq!(rt; watched.report.as_slice(), LATE_REPORT.as_bytes());
+    same(&rt, &watched.status, &Status::Alarmed, &"watched.status");
+    same(
+        &rt,
+        &watched.report.as_slice(),
+        &LATE_REPORT.as_bytes(),
+        &"watched.report",
+    );
     assert_eq!(rt; watched.bells.len(), 1);
-    assert_eq!(rt; watched.bells[0].alarms(), [LATE_AU, SPLIT_POLL].as_slice());
+    same(
+        &rt,
+        &watched.bells[0].alarms(),
+        &[LATE_AU, SPLIT_POLL].as_slice(),
+        &"watched.bells[0].alarms",
+    );
     Ok(())
 }
 
@@ -248,9 +268,14 @@ fn watches_in_boxes(rt: HostRuntime) -> Result<(), Fail> {
     let second: Box<dyn Bell> = Box::new(alloc, ListBell::new(alloc, 2)?)?;
     let bells = pair(alloc, first, second)?;
     let watched = watch(&rt, alloc, REPLAY, &[HEAD, OVERDUE], judge, bells)?;
-    assert_eq!(rt; watched.status, Status::Alarmed);
-    assert_eq!(rt; watched.report.as_slice(), OVERDUE_REPORT.as_bytes());
+    same(&rt, &watched.status, &Status::Alarmed, &"watched.status");
+    same(
+        &rt,
+        &watched.report.as_slice(),
+        &OVERDUE_REPORT.as_bytes(),
+        &"watched.report",
+    );
     assert_eq!(rt; watched.bells.len(), 1);
-    assert_eq!(rt; watched.bells[0].rung(), 1);
+    same(&rt, &watched.bells[0].rung(), &1, &"watched.bells[0].rung");
     Ok(())
 }

@@ -1,7 +1,8 @@
 //! Files of the operating system, and a disk in memory that is opened.
 
-use crate::{FileDisk, FileOpener, MemOpener, OpenStop, Opener};
+use crate::same::same;
 use lks_disk::{Disk, DiskFail, MemDisk};
+use lks_store::{FileDisk, FileOpener, MemOpener, OpenStop, Opener};
 use std::fs;
 use std::test::Fail;
 
@@ -24,20 +25,30 @@ fn keeps_bytes_through_reopening(rt: HostRuntime) -> Result<(), Fail> {
     let mut opener = FileOpener::new(&rt);
     {
         let mut made = opener.open_store(PATH)?;
-        assert_eq!(rt; made.len(), Ok(0));
-        assert_eq!(rt; made.write_at(0, b"abc"), Ok(()));
-        assert_eq!(rt; made.sync(), Ok(()));
-        assert_eq!(rt; made.write_at(2, b"de"), Ok(()));
+        same(&rt, &made.len(), &Ok(0), &"made.len");
+        same(&rt, &made.write_at(0, b"abc"), &Ok(()), &"made.write_at");
+        same(&rt, &made.sync(), &Ok(()), &"made.sync");
+        same(&rt, &made.write_at(2, b"de"), &Ok(()), &"made.write_at");
         // Nobody else gets it meanwhile. It is dropped without a word.
-        assert_eq!(rt; opener.open_store(PATH).err(), Some(OpenStop::Failed));
+        same(
+            &rt,
+            &opener.open_store(PATH).err(),
+            &Some(OpenStop::Failed),
+            &"opener.open_store",
+        );
     }
     let mut again = opener.open_store(PATH)?;
-    assert_eq!(rt; again.len(), Ok(4));
-    assert_eq!(rt; read(&mut again), Ok([b'a', b'b', b'd', b'e', 7, 7, 7, 4]));
+    same(&rt, &again.len(), &Ok(4), &"again.len");
+    same(
+        &rt,
+        &read(&mut again),
+        &Ok([b'a', b'b', b'd', b'e', 7, 7, 7, 4]),
+        &"read",
+    );
     let mut tail = [7; 2];
-    assert_eq!(rt; again.read_at(3, &mut tail), Ok(1));
-    assert_eq!(rt; tail, [b'e', 7]);
-    assert_eq!(rt; again.read_at(9, &mut tail), Ok(0));
+    same(&rt, &again.read_at(3, &mut tail), &Ok(1), &"again.read_at");
+    same(&rt, &tail, &[b'e', 7], &"tail");
+    same(&rt, &again.read_at(9, &mut tail), &Ok(0), &"again.read_at");
     fs::remove_dir_all(&rt, FOLDER)?;
     Ok(())
 }
@@ -49,10 +60,11 @@ const REFUSED: [&str; 4] = ["/", "/dev", "/dev/null/journal", "/nowhere/journal"
 fn refuses_what_is_no_file(rt: HostRuntime) {
     let mut opener = FileOpener::new(&rt);
     for path in REFUSED {
-        assert_eq!(rt;
-            opener.open_store(path).err(),
-            Some(OpenStop::Failed),
-            "{path}"
+        same(
+            &rt,
+            &opener.open_store(path).err(),
+            &Some(OpenStop::Failed),
+            &path,
         );
     }
 }
@@ -60,10 +72,15 @@ fn refuses_what_is_no_file(rt: HostRuntime) {
 #[test]
 fn tells_of_a_full_device(rt: HostRuntime) -> Result<(), Fail> {
     let mut full = FileOpener::new(&rt).open_store("/dev/full")?;
-    assert_eq!(rt; full.len(), Ok(0));
-    assert_eq!(rt; full.write_at(0, b"abc"), Err(DiskFail::Failed));
+    same(&rt, &full.len(), &Ok(0), &"full.len");
+    same(
+        &rt,
+        &full.write_at(0, b"abc"),
+        &Err(DiskFail::Failed),
+        &"full.write_at",
+    );
     // No device is synced as a file is.
-    assert_eq!(rt; full.sync(), Err(DiskFail::Failed));
+    same(&rt, &full.sync(), &Err(DiskFail::Failed), &"full.sync");
     Ok(())
 }
 
@@ -72,9 +89,19 @@ fn gives_a_disk_once(rt: HostRuntime) -> Result<(), Fail> {
     let alloc = rt.alloc();
     let mut opener = MemOpener::new(MemDisk::new(alloc, Vec::new(alloc)), false);
     let mut disk = opener.open_store("")?;
-    assert_eq!(rt; disk.len(), Ok(0));
-    assert_eq!(rt; opener.open_store("").err(), Some(OpenStop::Failed));
+    same(&rt, &disk.len(), &Ok(0), &"disk.len");
+    same(
+        &rt,
+        &opener.open_store("").err(),
+        &Some(OpenStop::Failed),
+        &"opener.open_store",
+    );
     let mut failing = MemOpener::new(disk, true);
-    assert_eq!(rt; failing.open_store("").err(), Some(OpenStop::Failed));
+    same(
+        &rt,
+        &failing.open_store("").err(),
+        &Some(OpenStop::Failed),
+        &"failing.open_store",
+    );
     Ok(())
 }
