@@ -14,15 +14,15 @@ from concurrent.futures import FIRST_COMPLETED, Future, ThreadPoolExecutor, wait
 from subprocess import Popen
 from typing import NamedTuple, TextIO
 
-from building.rooms import CRATES, held, room, started, stop
+from building.rooms import CRATES, give_way, held, room, started, stop
 
-# So many jobs a crate has at most, as rt itself gives it. The one on which the longest chain stands waits for no other, and
-# always has so many.
+# So many jobs a crate has at most, as rt itself gives it. The one on which the longest chain stands waits for no other, always
+# has so many, and the others give way to it.
 MOST_JOBS = 4
 # The memory, in kB, that one more crate may need.
 EACH_KB = 3_000_000
 
-Task = NamedTuple("Task", [("crate", str), ("jobs", int)])
+Task = NamedTuple("Task", [("crate", str), ("jobs", int), ("gives_way", bool)])
 
 
 def chains(needs: dict[str, list[str]]) -> dict[str, int]:
@@ -69,6 +69,8 @@ class Lanes:
         word = "check" if (CRATES / task.crate / "src/main.rt").is_file() else "lib"
         with held(task.crate), room(task.crate) as folder:
             with self.begun("rt", word, "--jobs", str(task.jobs), folder=folder) as process:
+                if task.gives_way:
+                    give_way(process)
                 said = process.communicate()[0]
             if process.returncode:
                 return said
@@ -83,11 +85,13 @@ class Lanes:
         for at, crate in enumerate(ready):
             tasks = self.running.values()
             idle = self.most - len(tasks)
-            is_first = self.most >= MOST_JOBS and all(self.long[crate] > self.long[it.crate] for it in tasks)
-            if idle > 0 or is_first:
-                jobs = self.each if is_first else max(1, min(self.each, idle // (len(ready) - at)))
+            is_first = all(self.long[crate] > self.long[it.crate] for it in tasks)
+            has_all = is_first and self.most >= MOST_JOBS
+            if idle > 0 or has_all:
+                jobs = self.each if has_all else max(1, min(self.each, idle // (len(ready) - at)))
                 self.left.remove(crate)
-                self.running[pool.submit(self.prove, Task(crate, jobs))] = Task(crate, jobs)
+                task = Task(crate, jobs, gives_way=not is_first)
+                self.running[pool.submit(self.prove, task)] = task
 
     def run(self) -> bool:
         """Proves all, and prints a line for each crate. It ends at the first one that isn't proved."""

@@ -15,7 +15,7 @@ import unittest
 
 from lks.play import TOP
 
-COMMANDS = "sh dirname readlink find grep cat cp touch mkdir python3".split()
+COMMANDS = "sh dirname readlink find grep cat cp touch mkdir nice python3 sleep".split()
 PROGRAM = '#!/bin/sh\n[ $# -gt 0 ] || exit 2\ncat\necho "words $*"\nexit "${STATUS-0}"\n'
 # It proves a library, or proves and builds the program; or it fails at either.
 KIT = """#!/bin/sh
@@ -37,6 +37,8 @@ mkdir -p out/rlib
 echo "$said" >>out/said
 [ "$1" = lib ] || { echo "checked $own::one, 1 of 2"; echo "fn $own::one: proved"; echo "checked $own::two, 2 of 2"; }
 """
+# It says how nice it is, once it has run for a while.
+NICE = "#!/bin/sh\nsleep 0.3\nmkdir -p out\nnice >out/nice\n"
 FIRST = "lockss: proving and building the program first, 2 crates\n"
 NO_PROGRAM = "lockss: the program isn't built, or a source changed since, and "
 
@@ -159,6 +161,19 @@ class Launcher(unittest.TestCase):
         self.assertEqual((status, out.splitlines()[-2:]), (1, ["middle: low out src", "no proof"]))
         self.assertEqual([it.name for it in self.top.iterdir() if it.name.startswith(".")], [])
         self.assertEqual(self.run_it("none", link="bin/build-below"), (1, "", "build-below: crates.txt has no crate none\n"))
+
+    def test_gives_way(self) -> None:
+        """What is proved beside the crate on which the longest chain stands gives way to it."""
+        self.put("crates.txt", "other:\nlow:\nhigh: low other\n")
+        for name, lines in (("other", 1), ("low", 2), ("high", 1)):
+            self.put(f"crates/{name}/src/lib.rt", "\n" * lines)
+        self.put("path/rt", NICE)
+        code = "from building import lanes, rooms\nlanes.lanes = lambda: 2\nlanes.Lanes(rooms.below('high')).run()"
+        given = {"PATH": str(self.top / "path")}
+        subprocess.run([sys.executable, "-c", code], cwd=self.top / "tools", env=given, stdout=-1, check=True)
+        told = [int((self.top / "crates" / name / "out/nice").read_text()) for name in ("low", "other", "high")]
+        ours = os.nice(0)
+        self.assertEqual(told, [ours, min(19, ours + 10), ours])
 
     def test_waits(self) -> None:
         """What was built below a crate isn't copied while another proof may put something new in its place."""
