@@ -23,15 +23,17 @@ MOST_JOBS = 4
 EACH_KB = 3_000_000
 
 Task = NamedTuple("Task", [("crate", str), ("jobs", int), ("gives_way", bool)])
+# With the crate itself and without.
+Chain = NamedTuple("Chain", [("lines", int), ("above", int)])
 
 
-def chains(needs: dict[str, list[str]]) -> dict[str, int]:
-    """How many lines of source the longest chain has that begins at a crate and goes up."""
-    found = dict[str, int]()
+def chains(needs: dict[str, list[str]]) -> dict[str, Chain]:
+    """The longest chain that begins at each crate and goes up, in lines of source."""
+    found = dict[str, Chain]()
     for crate in reversed(needs):
-        above = [found[it] for it in found if crate in needs[it]]
+        above = max((it.lines for name, it in found.items() if crate in needs[name]), default=0)
         files = (CRATES / crate / "src").rglob("*.rt")
-        found[crate] = max(above, default=0) + sum(it.read_bytes().count(b"\n") for it in files)
+        found[crate] = Chain(above + sum(it.read_bytes().count(b"\n") for it in files), above)
     return found
 
 
@@ -47,7 +49,7 @@ class Lanes:
 
     def __init__(self, needs: dict[str, list[str]], out: TextIO = sys.stdout, each: int = MOST_JOBS) -> None:
         self.needs, self.long, self.most, self.each = needs, chains(needs), lanes(), each
-        self.left, self.done = sorted(needs, key=lambda it: -self.long[it]), set[str]()
+        self.left, self.done = sorted(needs, key=lambda it: -self.long[it].lines), set[str]()
         self.running: dict[Future[str | None], Task] = {}
         self.processes: set[Popen[str]] = set()
         self.over, self.out = threading.Event(), out
@@ -79,15 +81,16 @@ class Lanes:
             return None
 
     def begin(self, pool: ThreadPoolExecutor) -> None:
-        """Begins what may be begun. A crate gets more than one job where no other waits, or where the longest chain stands on it.
-        It counts as one whatever its jobs are, since most of the time but one of them has work."""
+        """Begins what may be begun. A crate gets more than one job where no other waits, or where the longest chain stands on it:
+        one that is longer than what stands on each crate that is being proved. It counts as one whatever its jobs are, since most
+        of the time but one of them has work."""
         ready = [it for it in self.left if self.done.issuperset(self.needs[it])]
         for at, crate in enumerate(ready):
             tasks = self.running.values()
             idle = self.most - len(tasks)
-            is_first = all(self.long[crate] > self.long[it.crate] for it in tasks)
-            has_all = is_first and self.most >= MOST_JOBS
-            if idle > 0 or has_all:
+            is_first = all(self.long[crate].lines > self.long[it.crate].above for it in tasks)
+            has_all = is_first and 1 < self.each <= self.most
+            if idle > 0 or has_all and idle == 0:
                 jobs = self.each if has_all else max(1, min(self.each, idle // (len(ready) - at)))
                 self.left.remove(crate)
                 task = Task(crate, jobs, gives_way=not is_first)

@@ -164,16 +164,16 @@ class Launcher(unittest.TestCase):
 
     def test_gives_way(self) -> None:
         """What is proved beside the crate on which the longest chain stands gives way to it."""
-        self.put("crates.txt", "other:\nlow:\nhigh: low other\n")
-        for name, lines in (("other", 1), ("low", 2), ("high", 1)):
+        self.put("crates.txt", "other:\nlow:\nmiddle: low\nhigh: middle other\n")
+        for name, lines in (("other", 1), ("low", 2), ("middle", 2), ("high", 1)):
             self.put(f"crates/{name}/src/lib.rt", "\n" * lines)
         self.put("path/rt", NICE)
         code = "from building import lanes, rooms\nlanes.lanes = lambda: 2\nlanes.Lanes(rooms.below('high')).run()"
         given = {"PATH": str(self.top / "path")}
         subprocess.run([sys.executable, "-c", code], cwd=self.top / "tools", env=given, stdout=-1, check=True)
-        told = [int((self.top / "crates" / name / "out/nice").read_text()) for name in ("low", "other", "high")]
+        told = [int((self.top / "crates" / name / "out/nice").read_text()) for name in ("low", "other", "middle", "high")]
         ours = os.nice(0)
-        self.assertEqual(told, [ours, min(19, ours + 10), ours])
+        self.assertEqual(told, [ours, min(19, ours + 10), ours, ours])
 
     def test_waits(self) -> None:
         """What was built below a crate isn't copied while another proof may put something new in its place."""
