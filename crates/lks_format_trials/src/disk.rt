@@ -86,7 +86,7 @@ const CUTS: [(u32, u64, [Result<u64, DiskFail>; 2], &[u8]); 9] = [
 
 #[test]
 fn cuts_off(rt: HostRuntime) {
-    for (calls, choice, [write, sync], left) in CUTS {
+    for &(calls, choice, [write, sync], left) in CUTS.iter() {
         let mut disk = MemDisk::new(rt.alloc(), Vec::new(rt.alloc()));
         play(&rt, &mut disk, &THREE);
         let steps = [

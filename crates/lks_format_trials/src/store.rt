@@ -59,7 +59,7 @@ const REFUSED: [&str; 4] = ["/", "/dev", "/dev/null/journal", "/nowhere/journal"
 #[test]
 fn refuses_what_is_no_file(rt: HostRuntime) {
     let mut opener = FileOpener::new(&rt);
-    for path in REFUSED {
+    for &path in REFUSED.iter() {
         same(
             &rt,
             &opener.open_store(path).err(),

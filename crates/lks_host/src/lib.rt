@@ -11,22 +11,17 @@
 //! A host over a disk:
 //!
 //! ```rust
-//! let alloc = rt.alloc();
-//! let plan = plan_of(alloc)?;
-//! let pool = BlockPool::new(alloc)?;
 //! let disk = MemDisk::new(alloc, Vec::new(alloc));
-//! let mut host = Host::create(alloc, &rt, &pool, &plan, 1, disk).map_err(|e| e.1)?;
-//! // The opening is on the disk before the invitations are handed out.
-//! let opened = host.step(&rt, &pool, 5, &Input::OpenPoll { au: 1 })?;
-//! assert_eq!(rt; opened.sends.as_slice().len(), 3);
+//! let mut host = Host::create(alloc, rt, pool, plan, 1, disk).map_err(|e| e.1)?;
+//! // At tick 5 it is told to open the poll: this is on the disk before the three invitations are handed out.
+//! let opened = host.step(rt, pool, 5, &Input::OpenPoll { au: 1 })?;
 //! // The journal on the disk has two batches: the deposit, and the opening.
 //! let (_journal, batches) = Journal::reopen(alloc, host.into_disk()).map_err(|e| e.1)?;
-//! assert_eq!(rt; batches.len(), 2);
-//! Ok(())
+//! Ok((opened.sends.as_slice().len(), batches.len()))
 //! ```
 //!
-//! These are the lines of the test `a_host_over_a_disk` (`lks_run_trials`). Its `plan_of` reads a plan by
-//! `read_script` (`lks_script`).
+//! These are the lines of `invited_and_kept` (`lks_run_trials`), which the test `a_host_over_a_disk` calls, with a pool and
+//! with a plan that `read_script` (`lks_script`) read.
 //!
 //! Its trials: `lks_run_trials`, `host`.
 #![tactic(auto)]

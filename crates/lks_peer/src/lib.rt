@@ -3,18 +3,14 @@
 //! A peer that is told things:
 //!
 //! ```rust
-//! let alloc = rt.alloc();
-//! let plan = plan_of(alloc)?;
-//! let pool = BlockPool::new(alloc)?;
-//! let (mut peer, _deposits) = begin_peer(alloc, &rt, &pool, &plan, 1)?;
-//! // At tick 5 it is told to open a poll on AU 1, and invites three peers.
-//! let opened = peer.step(&rt, &pool, 5, &Input::OpenPoll { au: 1 })?;
-//! assert_eq!(rt; opened.sends.as_slice().len(), 3);
-//! Ok(())
+//! let (mut peer, _deposits) = begin_peer(alloc, rt, pool, plan, 1)?;
+//! // At tick 5 it is told to open the poll, and invites three peers.
+//! let opened = peer.step(rt, pool, 5, &Input::OpenPoll { au: 1 })?;
+//! Ok(opened.sends.as_slice().len())
 //! ```
 //!
-//! These are the lines of the test `a_peer_that_is_told_things` (`lks_run_trials`). Its `plan_of` reads a plan by
-//! `read_script` (`lks_script`).
+//! These are the lines of `invited` (`lks_run_trials`), which the test `a_peer_that_is_told_things` calls, with a pool and
+//! with a plan that `read_script` (`lks_script`) read.
 //!
 //! Its trials: `lks_run_trials`, `peer`.
 #![tactic(auto)]

@@ -76,7 +76,7 @@ const WORDS: [(u8, u32, [u32; 4]); 6] = [
 
 #[test]
 fn words_of_draws(rt: HostRuntime) {
-    for (label, number, words) in WORDS {
+    for &(label, number, words) in WORDS.iter() {
         let mut draws = Draws::new(SEED, label, number);
         for word in words {
             same(&rt, &next_whole(&mut draws), &word, &label);

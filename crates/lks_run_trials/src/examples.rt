@@ -1,11 +1,11 @@
-//! The examples of the crate pages of `lks_peer`, `lks_host` and `lks_evidence`, each the lines of a test: peer 1 holds
-//! the blocks `41` and `42` of AU 1, and knows peers 2, 3 and 4.
+//! The examples of the crate pages of `lks_peer`, `lks_host` and `lks_evidence`, each the lines of a function: peer 1
+//! holds the blocks `41` and `42` of AU 1, and knows peers 2, 3 and 4.
 
 ghost use Rattle.std.specs.Prelude.{◌≡◌, None, IfOk, IsSome};
 ghost use Rattle.lks_base.specs.Checking.{plan_fault};
 ghost use Rattle.lks_law.specs.World.{honest_peer};
 
-use lks_base::{Bytes, Input, Plan, Record, Seq};
+use lks_base::{Bytes, Input, OutOfMemory, Plan, Record, Seq};
 use lks_blocks::BlockPool;
 use lks_disk::MemDisk;
 use lks_evidence::{Doubt, Finding, Shelf, Why, examine};
@@ -14,6 +14,7 @@ use lks_journal::Journal;
 use lks_peer::find_honest;
 use lks_script::{Script, read_script};
 use std::alloc::Global;
+use std::sync::Wait;
 use std::test::*;
 
 const PLAN: &str = "\
@@ -41,16 +42,48 @@ pub fn plan_of(alloc: Global) -> Result<Plan, Fail>
     Ok(plan)
 }
 
+/// How many peers a peer invites to a poll on AU 1.
+fn invited<R: Wait>(
+    alloc: Global,
+    rt: &R,
+    pool: &BlockPool,
+    plan: &Plan,
+) -> Result<usize, OutOfMemory>
+    requires good { plan_fault plan.now ≡ None }
+    requires honest { IsSome (honest_peer 1 plan.now) }
+{
+    let (mut peer, _deposits) = begin_peer(alloc, rt, pool, plan, 1)?;
+    // At tick 5 it is told to open the poll, and invites three peers.
+    let opened = peer.step(rt, pool, 5, &Input::OpenPoll { au: 1 })?;
+    Ok(opened.sends.as_slice().len())
+}
+
 #[test]
 fn a_peer_that_is_told_things(rt: HostRuntime) -> Result<(), Fail> {
     let alloc = rt.alloc();
     let plan = plan_of(alloc)?;
     let pool = BlockPool::new(alloc)?;
-    let (mut peer, _deposits) = begin_peer(alloc, &rt, &pool, &plan, 1)?;
-    // At tick 5 it is told to open a poll on AU 1, and invites three peers.
-    let opened = peer.step(&rt, &pool, 5, &Input::OpenPoll { au: 1 })?;
-    assert_eq!(rt; opened.sends.as_slice().len(), 3);
+    assert_eq!(rt; invited(alloc, &rt, &pool, &plan)?, 3);
     Ok(())
+}
+
+/// How many peers a host's peer invites to a poll on AU 1, and how many batches its journal has then.
+fn invited_and_kept<R: Wait>(
+    alloc: Global,
+    rt: &R,
+    pool: &BlockPool,
+    plan: &Plan,
+) -> Result<(usize, usize), Fail>
+    requires good { plan_fault plan.now ≡ None }
+    requires honest { IsSome (honest_peer 1 plan.now) }
+{
+    let disk = MemDisk::new(alloc, Vec::new(alloc));
+    let mut host = Host::create(alloc, rt, pool, plan, 1, disk).map_err(|e| e.1)?;
+    // At tick 5 it is told to open the poll: this is on the disk before the three invitations are handed out.
+    let opened = host.step(rt, pool, 5, &Input::OpenPoll { au: 1 })?;
+    // The journal on the disk has two batches: the deposit, and the opening.
+    let (_journal, batches) = Journal::reopen(alloc, host.into_disk()).map_err(|e| e.1)?;
+    Ok((opened.sends.as_slice().len(), batches.len()))
 }
 
 #[test]
@@ -58,14 +91,7 @@ fn a_host_over_a_disk(rt: HostRuntime) -> Result<(), Fail> {
     let alloc = rt.alloc();
     let plan = plan_of(alloc)?;
     let pool = BlockPool::new(alloc)?;
-    let disk = MemDisk::new(alloc, Vec::new(alloc));
-    let mut host = Host::create(alloc, &rt, &pool, &plan, 1, disk).map_err(|e| e.1)?;
-    // The opening is on the disk before the invitations are handed out.
-    let opened = host.step(&rt, &pool, 5, &Input::OpenPoll { au: 1 })?;
-    assert_eq!(rt; opened.sends.as_slice().len(), 3);
-    // The journal on the disk has two batches: the deposit, and the opening.
-    let (_journal, batches) = Journal::reopen(alloc, host.into_disk()).map_err(|e| e.1)?;
-    assert_eq!(rt; batches.len(), 2);
+    assert_eq!(rt; invited_and_kept(alloc, &rt, &pool, &plan)?, (3, 2));
     Ok(())
 }
 

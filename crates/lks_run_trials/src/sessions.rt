@@ -643,7 +643,7 @@ const PUBLISHED: [(HashKind, [[u8; 32]; 2]); 2] = [
 #[test]
 fn published_votes(rt: HostRuntime) -> Result<(), Fail> {
     let pool = BlockPool::new(rt.alloc())?;
-    for (kind, want) in PUBLISHED {
+    for &(kind, want) in PUBLISHED.iter() {
         assert!(rt; votes(rt.alloc(), &rt, &pool, FIRST, kind, &want)?);
     }
     Ok(())

@@ -670,7 +670,7 @@ const MISUSED: [&[&str]; 12] = [
 
 #[test]
 fn misused_words(rt: HostRuntime) -> Result<(), Fail> {
-    for words in MISUSED {
+    for &words in MISUSED.iter() {
         let found = replayed(rt.alloc(), &rt, words, &[HEAD, AGREED], &[1], &[1])?;
         expect(&rt, &found, Status::Usage, b"", &words);
     }
@@ -690,7 +690,7 @@ const BAD_SCRIPTS: [(&[&str], u32); 7] = [
 
 #[test]
 fn bad_scripts(rt: HostRuntime) -> Result<(), Fail> {
-    for (script, line) in BAD_SCRIPTS {
+    for &(script, line) in BAD_SCRIPTS.iter() {
         let found = replayed(rt.alloc(), &rt, REPLAY, script, &[], &[1])?;
         expect(&rt, &found, Status::BadScript { line }, b"", &script);
     }
@@ -705,7 +705,7 @@ const FAULTS: [(&[u32], &[u32], Status); 2] = [
 
 #[test]
 fn faults(rt: HostRuntime) -> Result<(), Fail> {
-    for (reads, writes, answer) in FAULTS {
+    for &(reads, writes, answer) in FAULTS.iter() {
         let found = replayed(rt.alloc(), &rt, REPLAY, &[HEAD, AGREED], reads, writes)?;
         expect(&rt, &found, answer, b"", &reads);
     }

@@ -281,7 +281,7 @@ fn wanted_with(count: usize, own: bool) -> (&'static str, usize) {
 #[test]
 fn turned_batches(rt: HostRuntime) -> Result<(), Fail> {
     let plan = plan_of(rt.alloc())?;
-    for (count, place, byte, own) in TURNED {
+    for &(count, place, byte, own) in TURNED.iter() {
         let batch = turned(rt.alloc(), count, place, byte)?;
         let found = sorted_with(rt.alloc(), &rt, &plan, count, Some(batch))?;
         same(&rt, &found, &wanted_with(count, own), &(count, place));
@@ -391,7 +391,7 @@ const OTHERS: [(usize, &str, &str, usize); 26] = [
 #[test]
 fn other_batches(rt: HostRuntime) -> Result<(), Fail> {
     let plan = plan_of(rt.alloc())?;
-    for (count, line, what, number) in OTHERS {
+    for &(count, line, what, number) in OTHERS.iter() {
         let batch = bytes_of(rt.alloc(), line)?;
         let found = sorted_with(rt.alloc(), &rt, &plan, count, Some(batch))?;
         same(&rt, &found, &(what, number), &(count, line));

@@ -232,7 +232,7 @@ const CUTS: [Row; 2] = [
 #[test]
 fn cuts(rt: HostRuntime) -> Result<(), Fail> {
     let alloc = rt.alloc();
-    for (line, report) in CUT_STEPS {
+    for &(line, report) in CUT_STEPS.iter() {
         let script = [HEAD, ASKED, line, AGAIN];
         let found = replayed(alloc, &rt, REPLAY, &script, &[], &[])?;
         let report = joined(alloc, report)?;

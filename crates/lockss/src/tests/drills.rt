@@ -29,7 +29,7 @@ const DRILLS: [(&str, &str); 5] = [
 /// The source of a drill fails at the first read.
 #[test]
 fn drills(rt: HostRuntime) -> Result<(), Fail> {
-    for (seed, line) in DRILLS {
+    for &(seed, line) in DRILLS.iter() {
         let found = replayed(rt.alloc(), &rt, &["drill", seed], &[], &[1], &[])?;
         expect(&rt, &found, Done, line.as_bytes(), &seed);
     }

@@ -172,7 +172,7 @@ const DOCTORED: [(&[&str], &str, &str, usize, &str); 10] = [
 #[test]
 fn doctored_journals(rt: HostRuntime) -> Result<(), Fail> {
     let alloc = rt.alloc();
-    for (script, old, new, without, line) in DOCTORED {
+    for &(script, old, new, without, line) in DOCTORED.iter() {
         let text = edited(alloc, &told(&rt, alloc, script)?, old, new, without)?;
         let answer = if line.starts_with("evidence yes") {
             Done
@@ -203,7 +203,7 @@ const BAD: [(&str, &str, u32); 4] = [
 fn bad_journals(rt: HostRuntime) -> Result<(), Fail> {
     let alloc = rt.alloc();
     let text = told(&rt, alloc, &[HEAD])?;
-    for (old, new, line) in BAD {
+    for &(old, new, line) in BAD.iter() {
         let ended = found(alloc, &rt, &edited(alloc, &text, old, new, 0)?)?;
         expect(&rt, &ended, Status::BadScript { line }, b"", &new);
     }

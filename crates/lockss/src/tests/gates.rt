@@ -141,7 +141,7 @@ const STEPS: [(&str, [u64; 4], u64); 3] = [
 
 #[test]
 fn jobs_of_settle_and_finish(rt: HostRuntime) -> Result<(), Fail> {
-    for (steps, begun, events) in STEPS {
+    for &(steps, begun, events) in STEPS.iter() {
         let gate = Counting::new();
         let (status, _report) = run_by(rt.alloc(), &rt, REPLAY, &[PEERS, steps], &gate)?;
         same(&rt, &status, &Done, &"status");

@@ -52,7 +52,7 @@ const LONG: [(&[&str], usize, &str, Status); 4] = [
 #[test]
 fn as_long_as_may_be(rt: HostRuntime) -> Result<(), Fail> {
     let alloc = rt.alloc();
-    for (script, count, end, answer) in LONG {
+    for &(script, count, end, answer) in LONG.iter() {
         let mut bytes = joined(alloc, script)?;
         bytes.resize(count.saturating_sub(end.len()), b'#')?;
         bytes.extend_from_slice(end.as_bytes())?;
@@ -69,7 +69,7 @@ const NARROW: [(usize, Status); 3] = [(1, Done), (3, Done), (0, Status::WriteFau
 fn narrow_streams(rt: HostRuntime) -> Result<(), Fail> {
     let alloc = rt.alloc();
     let report = joined(alloc, &[VOTED, AGREED_REPORT])?;
-    for (most, answer) in NARROW {
+    for &(most, answer) in NARROW.iter() {
         let script = joined(alloc, &[HEAD, AGREED])?;
         let mut source = MemSource::narrow(alloc, script, Vec::new(alloc), 1);
         let mut sink = MemSink::narrow(alloc, Vec::new(alloc), most);

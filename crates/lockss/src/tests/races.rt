@@ -81,7 +81,7 @@ const FAILING: [u32; 6] = [3, 6, 10, 31, 53, 54];
 #[test]
 fn a_disk_fails_in_a_race(rt: HostRuntime) -> Result<(), Fail> {
     let alloc = rt.alloc();
-    for call in FAILING {
+    for &call in FAILING.iter() {
         let (status, disk, written) = replay_on(
             alloc,
             &rt,
