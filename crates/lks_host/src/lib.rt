@@ -20,8 +20,8 @@
 //! Ok((opened.sends.as_slice().len(), batches.len()))
 //! ```
 //!
-//! These are the lines of `invited_and_kept` (`lks_run_trials`), which the test `a_host_over_a_disk` calls, with a pool and
-//! with a plan that `read_script` (`lks_script`) read.
+//! These are the lines of `invited_and_kept` (`lks_run_trials`), which the test `a_host_over_a_disk` calls, with a pool
+//! and with a plan that `read_script` (`lks_script`) read.
 //!
 //! Its trials: `lks_run_trials`, `host`.
 #![tactic(auto)]

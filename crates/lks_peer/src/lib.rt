@@ -9,8 +9,8 @@
 //! Ok(opened.sends.as_slice().len())
 //! ```
 //!
-//! These are the lines of `invited` (`lks_run_trials`), which the test `a_peer_that_is_told_things` calls, with a pool and
-//! with a plan that `read_script` (`lks_script`) read.
+//! These are the lines of `invited` (`lks_run_trials`), which the test `a_peer_that_is_told_things` calls, with a pool
+//! and with a plan that `read_script` (`lks_script`) read.
 //!
 //! Its trials: `lks_run_trials`, `peer`.
 #![tactic(auto)]
